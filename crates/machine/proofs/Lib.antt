@@ -1,0 +1,9 @@
+pub mod Base
+pub mod Bits
+pub mod Copies
+pub mod Counter
+pub mod Tables
+pub mod Listing
+pub mod Openings
+pub mod WordsLimit
+pub mod Cases

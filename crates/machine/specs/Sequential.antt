@@ -1,0 +1,95 @@
+-- The sequential specification: document 01's plain table. Rests on the enum of answers alone.
+use Prim.Native.Nat.{ℕ, zero, suc, _-_, _/_, _%_, _^_}
+use mathlib.Core.Bool.{Bool}
+use mathlib.Core.List.{List, [], _∷_}
+use mathlib.Core.Option.{Option, none, some}
+use lib.Dec.{ltb, leb, eqb}
+use lib.ListN.{length}
+use lib.IntN.{ℤ}
+use Rattle.interface.specs.declared.Answer.{Answer}
+use Rattle.interface.specs.declared.Answer.the-variants.{Added, Replaced, Removed, Absent, Found, Missing, Crowded}
+use Rattle.machine.specs.Choice.{if_then_else_}
+
+-- ---- operations
+
+-- "Operations are insert, delete and lookup on accounts." An insert has a total. Inserts and deletes are updates.
+pub data Update : Type 0 where
+  insert : ℕ → ℤ → Update
+  delete : ℕ → Update
+
+pub data Operation : Type 0 where
+  update : Update → Operation
+  lookup : ℕ → Operation
+
+-- the account that an update is about
+abbrev pub account : Update → ℕ
+account (insert a v) = a
+account (delete a) = a
+
+-- ---- the bits of an account
+
+-- The number whose bits place an account in the directory: the account itself.
+unfoldable pub place : ℕ → ℕ
+place a = a
+
+-- "the account's first d bits, most significant first", of 32
+unfoldable pub firstBits : ℕ → ℕ → ℕ
+firstBits d a = place a % 2 ^ 32 / 2 ^ (32 - d)
+
+-- ---- tables
+
+-- "It holds accounts, each once, each with a total": pairs of account and total, ascending by account.
+abbrev pub Table : Type 0
+Table = List (ℕ × ℤ)
+
+-- the account's total, if the account is there
+unfoldable pub find : Table → ℕ → Option ℤ
+find [] a = none
+find (e ∷ t) a = if eqb (e .0) a then some (e .1) else find t a
+
+-- the table with the account's total set
+unfoldable pub put : Table → ℕ → ℤ → Table
+put [] a v = (a, v) ∷ []
+put (e ∷ t) a v = if ltb a (e .0) then (a, v) ∷ e ∷ t else if eqb a (e .0) then (a, v) ∷ t else e ∷ put t a v
+
+-- the table without the account
+unfoldable pub remove : Table → ℕ → Table
+remove [] a = []
+remove (e ∷ t) a = if eqb (e .0) a then t else e ∷ remove t a
+
+-- the accounts whose first d bits are q
+unfoldable pub having : ℕ → ℕ → Table → Table
+having d q [] = []
+having d q (e ∷ t) = if eqb (firstBits d (e .0)) q then e ∷ having d q t else having d q t
+
+-- ---- what an update does where there is room for it
+
+unfoldable pub present : Option ℤ → Answer → Answer → Answer
+present (some v) there missing = there
+present none there missing = missing
+
+-- "Insert answers added, or replaced where the account was there; delete answers removed or absent."
+unfoldable pub result : Update → Table → Answer
+result (insert a v) t = present (find t a) Replaced Added
+result (delete a) t = present (find t a) Removed Absent
+
+-- "sets the account's total"; "takes the account out, or .. changes nothing"
+unfoldable pub changed : Update → Table → Table
+changed (insert a v) t = put t a v
+changed (delete a) t = remove t a
+
+-- ---- what the plain table does with one operation
+
+-- "Lookup answers found with the account's total, or none where the account isn't there."
+unfoldable pub looked : Option ℤ → Answer
+looked (some v) = Found v
+looked none = Missing
+
+-- "the table holds b accounts that agree with its account in the first M bits"
+unfoldable pub crowds : ℕ → ℕ → ℕ → Table → Bool
+crowds b M a t = leb b (length (having M (firstBits M a) t))
+
+-- the answer, and the table afterwards
+unfoldable pub serve : ℕ → ℕ → Operation → Table → Answer × Table
+serve b M (lookup a) t = (looked (find t a), t)
+serve b M (update u) t = if crowds b M (account u) t then (Crowded, t) else (result u t, changed u t)

@@ -1,0 +1,141 @@
+//! Runs a machine with every assertion after every step: moments, invariants, step bounds.
+
+use crate::fault::Fault;
+use crate::invariants::Ledger;
+use crate::machine::{Machine, Report, Stepped};
+use crate::moments::{Moment, Moments};
+use crate::records::{Answer, Kind};
+use crate::settings::Settings;
+use crate::task::StepKind;
+use crate::violation::Violation;
+
+/// What occurred in the orders checked.
+#[derive(Clone, Copy, PartialEq, Eq, Debug, Default)]
+pub struct Counts {
+    pub orders: u64,
+    pub steps: u64,
+    pub updates: u64,
+    pub lookups: u64,
+    /// Updates answered by check 1, 2, 3 and 4.
+    pub checks: [u64; 4],
+    pub splits: u64,
+    pub failed_state_swaps: u64,
+    pub failed_directory_swaps: u64,
+    pub crowded: u64,
+    /// Lookups whose bucket was split between their two steps.
+    pub overtaken_lookups: u64,
+}
+
+impl Counts {
+    pub fn add(&mut self, other: &Counts) {
+        self.orders += other.orders;
+        self.steps += other.steps;
+        self.updates += other.updates;
+        self.lookups += other.lookups;
+        for (own, more) in self.checks.iter_mut().zip(other.checks) {
+            *own += more;
+        }
+        self.splits += other.splits;
+        self.failed_state_swaps += other.failed_state_swaps;
+        self.failed_directory_swaps += other.failed_directory_swaps;
+        self.crowded += other.crowded;
+        self.overtaken_lookups += other.overtaken_lookups;
+    }
+}
+
+/// A machine under assertion.
+#[derive(Debug)]
+pub struct Checker {
+    pub machine: Machine,
+    pub moments: Moments,
+    pub counts: Counts,
+    ledger: Ledger,
+}
+
+impl Checker {
+    pub fn new(settings: Settings, fault: Fault) -> Checker {
+        let machine = Machine::fresh(settings, fault);
+        Checker {
+            moments: Moments::new(&settings),
+            ledger: Ledger::new(&machine),
+            counts: Counts {
+                orders: 1,
+                ..Counts::default()
+            },
+            machine,
+        }
+    }
+
+    /// A call; it takes no moment and changes no shared cell.
+    pub fn call(&mut self, w: usize, kind: u64, account: u32, total: i64) -> Result<(), u8> {
+        self.machine.call(w, kind, account, total)
+    }
+
+    /// A step with all assertions; the moments of the step in their order.
+    pub fn step(&mut self, w: usize) -> Result<(Report, Vec<Moment>), Violation> {
+        let task = self.machine.workers.get(w).and_then(|x| x.task.as_ref());
+        let kind = task.map(|task| task.operation.kind);
+        self.moments.before_step(&self.machine);
+        let report = self.machine.step(w);
+        let Some(kind) = kind else {
+            return Ok((report, Vec::new()));
+        };
+        self.bounds(w, kind, &report)?;
+        let moments = self.moments.after_step(&self.machine, w, &report)?;
+        self.ledger.after_step(&self.machine)?;
+        self.count(w, kind, &report, &moments);
+        Ok((report, moments))
+    }
+
+    /// A lookup is answered at step 2; an update at its check's number of steps.
+    fn bounds(&self, w: usize, kind: Kind, report: &Report) -> Result<(), Violation> {
+        let settings = &self.machine.settings;
+        let check = usize::from(report.answering_check());
+        let held = match (report.stepped, kind) {
+            (Stepped::Answered { steps, .. }, Kind::Lookup) => check == 0 && steps == 2,
+            // With one worker only the first two checks answer.
+            (Stepped::Answered { .. }, _) if settings.workers == 1 && check > 2 => false,
+            (Stepped::Answered { steps, .. }, _) => {
+                check > 0 && settings.check_steps()[check - 1] == steps
+            }
+            _ => {
+                let task = self.machine.workers[w].task.as_ref();
+                task.is_some_and(|task| task.steps < bound(settings, kind))
+            }
+        };
+        if held {
+            return Ok(());
+        }
+        let detail = format!("worker {w}: {:?} by {:?}", report.stepped, report.kind);
+        Err(Violation::new("step bound", detail))
+    }
+
+    fn count(&mut self, w: usize, kind: Kind, report: &Report, moments: &[Moment]) {
+        let counts = &mut self.counts;
+        counts.steps += 1;
+        match report.kind {
+            StepKind::ResizeState { splits, .. } => counts.splits += u64::from(splits),
+            StepKind::SwapState { succeeded: false } => counts.failed_state_swaps += 1,
+            StepKind::SwapDirectory { succeeded: false } => counts.failed_directory_swaps += 1,
+            _ => {}
+        }
+        if let Stepped::Answered { answer, .. } = report.stepped {
+            counts.lookups += u64::from(kind == Kind::Lookup);
+            counts.updates += u64::from(kind != Kind::Lookup);
+            counts.crowded += u64::from(answer == Answer::Crowded);
+            if let check @ 1.. = usize::from(report.answering_check()) {
+                counts.checks[check - 1] += 1;
+            }
+        }
+        let overtaken = |m: &&Moment| m.operation.kind == Kind::Lookup && m.worker != w;
+        counts.overtaken_lookups += moments.iter().filter(overtaken).count() as u64;
+    }
+}
+
+/// The step at which an operation must have been answered.
+pub fn bound(settings: &Settings, kind: Kind) -> u64 {
+    match kind {
+        Kind::Lookup => 2,
+        _ => settings.update_bound(),
+    }
+}

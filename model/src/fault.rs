@@ -1,0 +1,93 @@
+//! Switches that make the machine wrong in one way each. They test the checker itself.
+
+/// `Fault::None` is the machine as it should be.
+#[derive(Clone, Copy, PartialEq, Eq, Debug, Default)]
+pub enum Fault {
+    #[default]
+    None,
+    /// The second check of the only pass ends the update: crowded if unsettled.
+    OnePass,
+    /// The second round of every bucket pass touches nothing.
+    OneBucketRound,
+    /// The second round of every directory pass touches nothing.
+    OneDirectoryRound,
+    /// Full is tested on the state that was read, not on the copy being changed.
+    FullAsRead,
+    /// A state step of the directory pass takes only its own worker's update.
+    OwnUpdateOnly,
+    /// A bucket pass carries out a delete on a full bucket below depth M.
+    DeleteIntoFull,
+    /// A check answers crowded from a full bucket of any depth.
+    CrowdedBelowDepth,
+    /// The right half of a split gets settled tickets 0 and no answers.
+    SettledNotCopied,
+    /// Both halves of a split keep the applied bits, with the toggle 0.
+    AppliedNotReset,
+    /// A check reads the settled ticket and answer of the next worker.
+    CheckOtherWorker,
+    /// The bucket swap always succeeds.
+    BucketSwapBlind,
+    /// The directory swap always succeeds.
+    DirectorySwapBlind,
+    /// A doubled directory is the old one twice in a row.
+    DoubledInRow,
+    /// A bucket pass does not compare toggle bit and applied bit.
+    ToggleIgnored,
+    /// Announcing carries out the update on its bucket if that is not full.
+    AnnounceApplies,
+    /// Every update is answered crowded at its first check.
+    AlwaysCrowded,
+    /// Every answered update is answered added.
+    AlwaysAdded,
+}
+
+impl Fault {
+    /// All faults, without `None`.
+    pub const ALL: [Fault; 17] = [
+        Fault::OnePass,
+        Fault::OneBucketRound,
+        Fault::OneDirectoryRound,
+        Fault::FullAsRead,
+        Fault::OwnUpdateOnly,
+        Fault::DeleteIntoFull,
+        Fault::CrowdedBelowDepth,
+        Fault::SettledNotCopied,
+        Fault::AppliedNotReset,
+        Fault::CheckOtherWorker,
+        Fault::BucketSwapBlind,
+        Fault::DirectorySwapBlind,
+        Fault::DoubledInRow,
+        Fault::ToggleIgnored,
+        Fault::AnnounceApplies,
+        Fault::AlwaysCrowded,
+        Fault::AlwaysAdded,
+    ];
+
+    pub fn name(self) -> &'static str {
+        match self {
+            Fault::None => "none",
+            Fault::OnePass => "one-pass",
+            Fault::OneBucketRound => "one-bucket-round",
+            Fault::OneDirectoryRound => "one-directory-round",
+            Fault::FullAsRead => "full-as-read",
+            Fault::OwnUpdateOnly => "own-update-only",
+            Fault::DeleteIntoFull => "delete-into-full",
+            Fault::CrowdedBelowDepth => "crowded-below-depth",
+            Fault::SettledNotCopied => "settled-not-copied",
+            Fault::AppliedNotReset => "applied-not-reset",
+            Fault::CheckOtherWorker => "check-other-worker",
+            Fault::BucketSwapBlind => "bucket-swap-blind",
+            Fault::DirectorySwapBlind => "directory-swap-blind",
+            Fault::DoubledInRow => "doubled-in-row",
+            Fault::ToggleIgnored => "toggle-ignored",
+            Fault::AnnounceApplies => "announce-applies",
+            Fault::AlwaysCrowded => "always-crowded",
+            Fault::AlwaysAdded => "always-added",
+        }
+    }
+
+    pub fn from_name(name: &str) -> Option<Fault> {
+        let named = |fault: &&Fault| fault.name() == name;
+        Self::ALL.iter().find(named).copied()
+    }
+}

@@ -1,0 +1,224 @@
+//! Judges orders given as driver lines: with all assertions, or by the external statement.
+
+use crate::check::{bound, Checker, Counts};
+use crate::explain::Explainer;
+use crate::fault::Fault;
+use crate::lines::Line;
+use crate::machine::{Machine, Report, Stepped};
+use crate::moments::Moment;
+use crate::records::Kind;
+use crate::settings::Settings;
+use crate::totals::{kind_number, LENT, PLACES};
+use crate::violation::Violation;
+
+/// Takes driver lines one at a time.
+pub trait Judge {
+    fn take(&mut self, line: &Line) -> Result<(), Violation>;
+    /// The machine after the lines so far, if one was opened.
+    fn machine(&self) -> Option<&Machine>;
+    fn counts(&self) -> Counts;
+}
+
+/// The settings of an accepted opening.
+fn accepted(n: u64, b: u64, m: u64) -> Option<Settings> {
+    let settings = Settings::new(n, b, m).ok()?;
+    (settings.words() <= LENT).then_some(settings)
+}
+
+/// One accepted step of a judged order, for traces.
+#[derive(Clone, PartialEq, Eq, Debug)]
+pub struct Event {
+    pub worker: usize,
+    pub report: Report,
+    pub moments: Vec<Moment>,
+}
+
+/// All assertions: moments, invariants, step bounds.
+#[derive(Debug, Default)]
+pub struct Internal {
+    pub fault: Fault,
+    /// Kept only if `record` is set.
+    pub events: Vec<Event>,
+    pub record: bool,
+    checker: Option<Checker>,
+    before: Counts,
+}
+
+impl Internal {
+    pub fn new(fault: Fault) -> Internal {
+        Internal {
+            fault,
+            ..Internal::default()
+        }
+    }
+
+    fn open(&mut self, n: u64, b: u64, m: u64) {
+        if let Some(settings) = accepted(n, b, m) {
+            self.before = self.counts();
+            self.checker = Some(Checker::new(settings, self.fault));
+        }
+    }
+
+    fn steps(&mut self, worker: usize, count: u64) -> Result<(), Violation> {
+        let Some(checker) = self.checker.as_mut() else {
+            return Ok(());
+        };
+        for _ in 0..count {
+            let (report, moments) = checker.step(worker)?;
+            let stop = report.stepped != Stepped::Moved;
+            if self.record {
+                self.events.push(Event {
+                    worker,
+                    report,
+                    moments,
+                });
+            }
+            if stop {
+                break;
+            }
+        }
+        Ok(())
+    }
+}
+
+impl Judge for Internal {
+    fn take(&mut self, line: &Line) -> Result<(), Violation> {
+        match *line {
+            Line::Open { n, b, m } => self.open(n, b, m),
+            Line::Call {
+                kind,
+                worker,
+                account,
+                total,
+            } => {
+                // A refused call changes nothing; the refusals are the driver's tests' business.
+                if let Some(checker) = self.checker.as_mut() {
+                    let _ = checker.call(worker, kind_number(kind), account, total);
+                }
+            }
+            Line::Step { worker, count } => self.steps(worker, count)?,
+            // A listing is compared after every step anyway.
+            Line::List => {}
+        }
+        Ok(())
+    }
+
+    fn machine(&self) -> Option<&Machine> {
+        self.checker.as_ref().map(|checker| &checker.machine)
+    }
+
+    fn counts(&self) -> Counts {
+        let mut counts = self.before;
+        if let Some(checker) = &self.checker {
+            counts.add(&checker.counts);
+        }
+        counts
+    }
+}
+
+/// The external statement: answers, listings asked for, and the step bounds of document 01.
+#[derive(Debug, Default)]
+pub struct External {
+    pub fault: Fault,
+    counts: Counts,
+    present: Option<(Machine, Explainer)>,
+}
+
+impl External {
+    pub fn new(fault: Fault) -> External {
+        External {
+            fault,
+            ..External::default()
+        }
+    }
+
+    fn steps(&mut self, worker: usize, count: u64) -> Result<(), Violation> {
+        let Some((machine, explainer)) = self.present.as_mut() else {
+            return Ok(());
+        };
+        for _ in 0..count {
+            let task = machine.workers.get(worker).and_then(|w| w.task.as_ref());
+            let kind = task.map_or(Kind::Lookup, |task| task.operation.kind);
+            let most = bound(&machine.settings, kind);
+            self.counts.steps += 1;
+            match machine.step(worker).stepped {
+                Stepped::Refused(_) => return Ok(()),
+                Stepped::Moved => explainer.moved(),
+                Stepped::Answered { answer, steps } => {
+                    if steps > most || (kind == Kind::Lookup && steps != most) {
+                        return Err(late(worker, steps));
+                    }
+                    return explainer.answered(worker, answer);
+                }
+            }
+            let task = machine.workers[worker].task.as_ref();
+            if let Some(task) = task.filter(|task| task.steps >= most) {
+                return Err(late(worker, task.steps));
+            }
+        }
+        Ok(())
+    }
+}
+
+fn late(worker: usize, steps: u64) -> Violation {
+    let detail = format!("worker {worker} after {steps} steps");
+    Violation::new("step bound", detail)
+}
+
+impl Judge for External {
+    fn take(&mut self, line: &Line) -> Result<(), Violation> {
+        match *line {
+            Line::Open { n, b, m } => {
+                if let Some(settings) = accepted(n, b, m) {
+                    let machine = Machine::fresh(settings, self.fault);
+                    self.present = Some((machine, Explainer::new(&settings)));
+                    self.counts.orders += 1;
+                }
+            }
+            Line::Call {
+                kind,
+                worker,
+                account,
+                total,
+            } => {
+                let Some((machine, explainer)) = self.present.as_mut() else {
+                    return Ok(());
+                };
+                let called = machine.call(worker, kind_number(kind), account, total);
+                if let (Ok(()), Some(task)) = (called, task_of(machine, worker)) {
+                    explainer.called(worker, task);
+                }
+            }
+            Line::Step { worker, count } => self.steps(worker, count)?,
+            Line::List => {
+                if let Some((machine, explainer)) = self.present.as_mut() {
+                    if let Ok(items) = machine.listing(PLACES, PLACES) {
+                        explainer.listed(&items)?;
+                    }
+                }
+            }
+        }
+        Ok(())
+    }
+
+    fn machine(&self) -> Option<&Machine> {
+        self.present.as_ref().map(|(machine, _)| machine)
+    }
+
+    fn counts(&self) -> Counts {
+        self.counts
+    }
+}
+
+fn task_of(machine: &Machine, worker: usize) -> Option<crate::records::Update> {
+    let task = machine.workers.get(worker)?.task.as_ref()?;
+    Some(task.operation)
+}
+
+/// Judges a whole order; the place of the line at which it fails, from 0, and the violation.
+pub fn judge(judge: &mut dyn Judge, lines: &[Line]) -> Result<Counts, (usize, Violation)> {
+    for (place, line) in lines.iter().enumerate() {
+        judge.take(line).map_err(|violation| (place, violation))?;
+    }
+    Ok(judge.counts())
+}

@@ -1,0 +1,27 @@
+//! A second model of the totals table: an executable machine with real references, its
+//! sequential specification, and a checker that asserts the claims after every step.
+#![forbid(unsafe_code)]
+
+pub mod check;
+pub mod explain;
+pub mod fault;
+pub mod invariants;
+pub mod judge;
+pub mod lines;
+pub mod machine;
+pub mod moments;
+pub mod mutate;
+pub mod overtake;
+pub mod plain;
+pub mod prng;
+pub mod random;
+pub mod records;
+pub mod refusal;
+pub mod search;
+pub mod settings;
+pub mod shrink;
+mod steps;
+pub mod task;
+pub mod totals;
+pub mod violation;
+pub mod working;

@@ -1,0 +1,162 @@
+//! The commands: totals, search, replay, faults.
+#![forbid(unsafe_code)]
+
+use model::check::Counts;
+use model::explain::UNDECIDED;
+use model::fault::Fault;
+use model::lines::{read_line, Line};
+use model::search::{search, verdict, By, Failure};
+use model::totals::{self, next_line};
+use std::io::{self, Write};
+use std::process::ExitCode;
+
+const USAGE: &str = "usage:
+  model totals [--fault NAME]
+  model search --seed S --steps N [--fault NAME] [--external]
+  model replay [--fault NAME]
+  model faults
+";
+
+/// The options that may follow a command.
+#[derive(Default)]
+struct Options {
+    seed: Option<u64>,
+    steps: Option<u64>,
+    fault: Fault,
+    external: bool,
+}
+
+fn main() -> ExitCode {
+    let arguments: Vec<String> = std::env::args_os()
+        .skip(1)
+        .map(|argument| argument.to_string_lossy().into_owned())
+        .collect();
+    let command = arguments.first().map(String::as_str);
+    let Some(options) = options(arguments.get(1..).unwrap_or(&[])) else {
+        return usage();
+    };
+    let searching = options.seed.is_some() || options.steps.is_some() || options.external;
+    let outcome = match command {
+        Some("totals") if !searching => {
+            totals::run(io::stdin().lock(), io::stdout().lock(), options.fault).map(|()| 0)
+        }
+        Some("search") => match (options.seed, options.steps) {
+            (Some(seed), Some(steps)) => run_search(seed, steps, &options),
+            _ => return usage(),
+        },
+        Some("replay") if !searching => replay(options.fault),
+        Some("faults") if arguments.len() == 1 => faults(),
+        _ => return usage(),
+    };
+    match outcome {
+        Ok(code) => ExitCode::from(code),
+        Err(error) => {
+            eprintln!("model: {error}");
+            ExitCode::FAILURE
+        }
+    }
+}
+
+fn usage() -> ExitCode {
+    eprint!("{USAGE}");
+    ExitCode::from(2)
+}
+
+fn options(arguments: &[String]) -> Option<Options> {
+    let mut options = Options::default();
+    let mut rest = arguments.iter();
+    while let Some(name) = rest.next() {
+        match name.as_str() {
+            "--seed" => options.seed = Some(rest.next()?.parse().ok()?),
+            "--steps" => options.steps = Some(rest.next()?.parse().ok()?),
+            "--fault" => options.fault = Fault::from_name(rest.next()?)?,
+            "--external" => options.external = true,
+            _ => return None,
+        }
+    }
+    Some(options)
+}
+
+fn run_search(seed: u64, steps: u64, options: &Options) -> io::Result<u8> {
+    let by = match options.external {
+        true => By::External,
+        false => By::AllAssertions,
+    };
+    let (counts, failure) = search(by, options.fault, seed, steps);
+    let mut out = io::stdout().lock();
+    writeln!(out, "seed {seed}")?;
+    match by {
+        By::AllAssertions => print_counts(&mut out, &counts)?,
+        By::External => writeln!(out, "orders {}\nsteps {}", counts.orders, counts.steps)?,
+    }
+    let Some(Failure {
+        violation, shrunk, ..
+    }) = failure
+    else {
+        return Ok(0);
+    };
+    writeln!(out, "violation {violation}")?;
+    for line in &shrunk {
+        writeln!(out, "{line}")?;
+    }
+    Ok(1)
+}
+
+fn print_counts(out: &mut impl Write, counts: &Counts) -> io::Result<()> {
+    writeln!(out, "orders {}", counts.orders)?;
+    writeln!(out, "steps {}", counts.steps)?;
+    writeln!(out, "updates {}", counts.updates)?;
+    writeln!(out, "lookups {}", counts.lookups)?;
+    for (check, count) in counts.checks.iter().enumerate() {
+        writeln!(out, "check {}: {count}", check + 1)?;
+    }
+    writeln!(out, "splits {}", counts.splits)?;
+    writeln!(out, "failed bucket swaps {}", counts.failed_state_swaps)?;
+    writeln!(
+        out,
+        "failed directory swaps {}",
+        counts.failed_directory_swaps
+    )?;
+    writeln!(out, "crowded {}", counts.crowded)?;
+    writeln!(out, "overtaken lookups {}", counts.overtaken_lookups)
+}
+
+fn replay(fault: Fault) -> io::Result<u8> {
+    let mut input = io::stdin().lock();
+    let mut bytes = Vec::new();
+    let mut lines: Vec<Line> = Vec::new();
+    let mut places = Vec::new();
+    let mut place = 0;
+    while next_line(&mut input, &mut bytes)? {
+        place += 1;
+        if let Some(line) = read_line(&bytes) {
+            lines.push(line);
+            places.push(place);
+        }
+    }
+    let mut out = io::stdout().lock();
+    let mut code = 0;
+    for (by, name) in [
+        (By::AllAssertions, "all assertions"),
+        (By::External, "external"),
+    ] {
+        match verdict(by, fault, &lines) {
+            Ok(counts) => writeln!(out, "{name}: held over {} steps", counts.steps)?,
+            Err((at, violation)) => {
+                writeln!(out, "{name}: line {}: {violation}", places[at])?;
+                if violation.name != UNDECIDED {
+                    code = 1;
+                }
+            }
+        }
+    }
+    Ok(code)
+}
+
+fn faults() -> io::Result<u8> {
+    let mut out = io::stdout().lock();
+    for fault in Fault::ALL {
+        writeln!(out, "{}", fault.name())?;
+    }
+    Ok(0)
+}

@@ -1,0 +1,84 @@
+//! Variations of stored orders: random search near orders that reach rare states.
+
+use crate::lines::{read_line, Line};
+use crate::prng::Prng;
+
+/// Stored orders that reach the third and fourth check, or park a worker at a late swap.
+const STORED: [&str; 7] = [
+    include_str!("../orders/covered.txt"),
+    include_str!("../orders/section-9.txt"),
+    include_str!("../orders/one-directory-round.txt"),
+    include_str!("../orders/one-pass.txt"),
+    include_str!("../orders/own-update-only.txt"),
+    include_str!("../orders/directory-swap-blind.txt"),
+    include_str!("../orders/announce-applies.txt"),
+];
+
+/// A stored order with one to six random changes; its opening stays first.
+pub fn variation(prng: &mut Prng) -> Vec<Line> {
+    let text = STORED[prng.below(STORED.len() as u64) as usize];
+    let read = |line: &str| read_line(line.as_bytes());
+    let mut lines: Vec<Line> = text.lines().filter_map(read).collect();
+    for _ in 0..prng.between(1, 6) {
+        change(prng, &mut lines);
+    }
+    lines
+}
+
+fn change(prng: &mut Prng, lines: &mut Vec<Line>) {
+    let place = prng.between(1, lines.len() as u64 - 1) as usize;
+    let line = lines[place];
+    match prng.below(8) {
+        0 if place > 1 => lines.swap(place, place - 1),
+        1 => lines.insert(place, line),
+        2 if lines.len() > 3 => {
+            lines.remove(place);
+        }
+        3 => split_steps(prng, lines, place),
+        _ => lines[place] = changed(prng, line),
+    }
+}
+
+/// Two lines of steps for one, the second a little later.
+fn split_steps(prng: &mut Prng, lines: &mut Vec<Line>, place: usize) {
+    if let Line::Step { worker, count } = lines[place] {
+        let first = prng.between(1, count);
+        lines[place] = Line::Step {
+            worker,
+            count: first,
+        };
+        let count = (count - first).max(1);
+        let later = (place + 1 + prng.below(3) as usize).min(lines.len());
+        lines.insert(later, Line::Step { worker, count });
+    }
+}
+
+/// Other settings, another account nearby, or a few steps more or less.
+fn changed(prng: &mut Prng, line: Line) -> Line {
+    match line {
+        Line::Open { n, b, m } => Line::Open { n, b, m: m + 1 },
+        Line::Call {
+            kind,
+            worker,
+            account,
+            total,
+        } => {
+            let bit = match prng.percent(70) {
+                true => 31 - prng.below(4),
+                false => prng.below(32),
+            };
+            let account = account ^ (1 << bit);
+            Line::Call {
+                kind,
+                worker,
+                account,
+                total,
+            }
+        }
+        Line::Step { worker, count } => {
+            let count = (count + prng.below(7)).max(4) - 3;
+            Line::Step { worker, count }
+        }
+        Line::List => Line::List,
+    }
+}

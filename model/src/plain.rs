@@ -1,0 +1,61 @@
+//! The plain table: the sequential specification, with the crowding rule.
+
+use crate::records::{prefix_of, Answer, Kind};
+use crate::settings::Settings;
+use std::collections::BTreeMap;
+
+/// Accounts, each once, each with a total. It knows no workers, steps or buckets.
+#[derive(Clone, PartialEq, Eq, PartialOrd, Ord, Debug)]
+pub struct Plain {
+    pub bucket_size: usize,
+    pub greatest_depth: u32,
+    pub accounts: BTreeMap<u32, i64>,
+}
+
+impl Plain {
+    pub fn new(settings: &Settings) -> Plain {
+        Plain {
+            bucket_size: settings.bucket_size,
+            greatest_depth: settings.greatest_depth,
+            accounts: BTreeMap::new(),
+        }
+    }
+
+    /// Whether b accounts agree with this one in the first M bits.
+    pub fn is_crowded(&self, account: u32) -> bool {
+        let depth = self.greatest_depth;
+        let rest = u32::MAX.checked_shr(depth).unwrap_or(0);
+        let range = (account & !rest)..=(account | rest);
+        let same = |other: &u32| prefix_of(*other, depth) == prefix_of(account, depth);
+        let agreeing = self.accounts.range(range).filter(|item| same(item.0));
+        agreeing.count() >= self.bucket_size
+    }
+
+    /// Feeds one operation; the total counts for an insert only.
+    pub fn apply(&mut self, kind: Kind, account: u32, total: i64) -> Answer {
+        match kind {
+            Kind::Lookup => match self.accounts.get(&account) {
+                Some(total) => Answer::Found(*total),
+                None => Answer::None,
+            },
+            _ if self.is_crowded(account) => Answer::Crowded,
+            Kind::Insert => match self.accounts.insert(account, total) {
+                Some(_) => Answer::Replaced,
+                None => Answer::Added,
+            },
+            Kind::Delete => match self.accounts.remove(&account) {
+                Some(_) => Answer::Removed,
+                None => Answer::Absent,
+            },
+        }
+    }
+
+    /// Whether a listing shows exactly this table.
+    pub fn lists_as(&self, items: &[(u32, i64)]) -> bool {
+        let own = self
+            .accounts
+            .iter()
+            .map(|(account, total)| (*account, *total));
+        own.eq(items.iter().copied())
+    }
+}

@@ -1,0 +1,275 @@
+//! Random orders: settings, accounts, parking styles and kinds, all a function of the seed.
+
+use crate::lines::Line;
+use crate::machine::Machine;
+use crate::overtake;
+use crate::prng::Prng;
+use crate::records::Kind;
+use crate::settings::Settings;
+use crate::totals::LENT;
+
+/// How the next worker and its number of steps are chosen.
+#[derive(Clone, Copy, PartialEq, Eq, Debug)]
+enum Style {
+    Single,
+    Bursts,
+    RoundRobin,
+    Parking,
+    /// Parks workers where others can overtake them: before a directory swap, and before the
+    /// second bucket pass.
+    Overtaking,
+}
+
+/// Draws the lines of one order.
+#[derive(Clone, Debug)]
+pub struct Generator {
+    prng: Prng,
+    pub settings: Settings,
+    pool: Vec<u32>,
+    style: Style,
+    /// Per worker the tick until which it is parked.
+    parked: Vec<u64>,
+    tick: u64,
+    inserts: u64,
+    deletes: u64,
+    listings: u64,
+}
+
+impl Generator {
+    /// `small` keeps n at most 4, for the external search.
+    pub fn new(seed: u64, small: bool) -> Generator {
+        let mut prng = Prng::new(seed);
+        let style = match prng.below(8) {
+            0 => Style::Single,
+            1 => Style::Bursts,
+            2 => Style::RoundRobin,
+            3 | 4 => Style::Parking,
+            _ => Style::Overtaking,
+        };
+        let settings = match style == Style::Overtaking && prng.percent(80) {
+            true => splitting_settings(&mut prng, small),
+            false => draw_settings(&mut prng, small),
+        };
+        let pool = draw_pool(&mut prng, &settings);
+        Generator {
+            parked: vec![0; settings.workers],
+            tick: 0,
+            inserts: prng.between(40, 90),
+            deletes: prng.between(0, 100),
+            listings: if small { 15 } else { 1 },
+            prng,
+            settings,
+            pool,
+            style,
+        }
+    }
+
+    pub fn opening(&self) -> Line {
+        Line::Open {
+            n: self.settings.workers as u64,
+            b: self.settings.bucket_size as u64,
+            m: u64::from(self.settings.greatest_depth),
+        }
+    }
+
+    /// The next line for a machine in this state.
+    pub fn next(&mut self, machine: &Machine) -> Line {
+        self.tick += 1;
+        if self.prng.percent(self.listings) {
+            return Line::List;
+        }
+        if self.prng.below(200) == 0 {
+            return self.refused();
+        }
+        let (idle, mut busy) = self.ready(machine);
+        let mut call = self.prng.percent(35);
+        if self.style == Style::Overtaking && self.prng.percent(98) {
+            let held = |w: &usize| overtake::is_held_back(machine, *w);
+            let free: Vec<usize> = busy.iter().copied().filter(|w| !held(w)).collect();
+            if !free.is_empty() || !idle.is_empty() {
+                busy = free;
+            }
+            let urgent = |w: &usize| overtake::is_urgent(machine, *w);
+            if self.prng.percent(80) && busy.iter().any(urgent) {
+                busy.retain(urgent);
+                call = false;
+            }
+        }
+        call |= busy.is_empty();
+        match self.prng.pick(&idle) {
+            Some(worker) if call => self.call(machine, worker),
+            _ => self.step(&busy),
+        }
+    }
+
+    /// Workers that are not parked, idle and busy; all if all are parked.
+    fn ready(&self, machine: &Machine) -> (Vec<usize>, Vec<usize>) {
+        let all = 0..self.settings.workers;
+        let free: Vec<usize> = all
+            .clone()
+            .filter(|w| self.parked[*w] <= self.tick)
+            .collect();
+        let from = if free.is_empty() { all.collect() } else { free };
+        from.into_iter()
+            .partition(|w| machine.workers[*w].task.is_none())
+    }
+
+    /// A line that may be refused: wrong settings, or any worker whatever it is doing.
+    fn refused(&mut self) -> Line {
+        let worker = self.prng.below(self.settings.workers as u64 + 1) as usize;
+        match self.prng.below(3) {
+            0 => Line::Open { n: 9, b: 2, m: 0 },
+            1 => Line::Step { worker, count: 1 },
+            _ => Line::Call {
+                kind: Kind::Lookup,
+                worker,
+                account: self.pool[0],
+                total: 0,
+            },
+        }
+    }
+
+    fn call(&mut self, machine: &Machine, worker: usize) -> Line {
+        let kind = if self.prng.percent(self.inserts) {
+            Kind::Insert
+        } else if self.prng.percent(self.deletes) {
+            Kind::Delete
+        } else {
+            Kind::Lookup
+        };
+        let near = self.prng.percent(80) && self.style == Style::Overtaking;
+        let account = if near {
+            self.near_account(machine)
+        } else {
+            self.any_account()
+        };
+        let total = match kind {
+            Kind::Insert => self.tick as i64 - 50,
+            _ => 0,
+        };
+        Line::Call {
+            kind,
+            worker,
+            account,
+            total,
+        }
+    }
+
+    fn any_account(&mut self) -> u32 {
+        let place = self.prng.below(self.pool.len() as u64);
+        self.pool[place as usize]
+    }
+
+    /// An account of the bucket in which some update is under way.
+    fn near_account(&mut self, machine: &Machine) -> u32 {
+        let wanted = overtake::accounts_to_overtake(machine);
+        let tasks = machine.workers.iter().filter_map(|w| w.task.as_ref());
+        let updates: Vec<u32> = tasks
+            .filter(|task| task.is_update())
+            .map(|task| task.operation.account)
+            .collect();
+        let first = self.prng.pick(&wanted);
+        let Some(account) = first.or_else(|| self.prng.pick(&updates)) else {
+            return self.any_account();
+        };
+        let leaf = machine.directory.bucket(account);
+        let same: Vec<u32> = self
+            .pool
+            .iter()
+            .copied()
+            .filter(|other| leaf.covers(*other))
+            .collect();
+        self.prng.pick(&same).unwrap_or(account)
+    }
+
+    fn step(&mut self, busy: &[usize]) -> Line {
+        let worker = self.choose(busy);
+        let count = match self.style {
+            Style::Single | Style::RoundRobin => 1,
+            Style::Bursts => self.prng.between(1, 60),
+            Style::Parking => self.prng.between(1, 12),
+            Style::Overtaking => self.prng.between(1, 5),
+        };
+        let parks = match self.style {
+            Style::Parking => 8,
+            Style::RoundRobin => 0,
+            _ => 2,
+        };
+        if self.prng.percent(parks) {
+            let long = if self.prng.percent(5) { 100_000 } else { 200 };
+            self.parked[worker] = self.tick + self.prng.between(1, long);
+        }
+        Line::Step { worker, count }
+    }
+
+    fn choose(&mut self, busy: &[usize]) -> usize {
+        if self.style == Style::RoundRobin && !busy.is_empty() {
+            return busy[self.tick as usize % busy.len()];
+        }
+        self.prng.pick(busy).unwrap_or(0)
+    }
+}
+
+/// Settings that produce many splits: small buckets, some depth.
+fn splitting_settings(prng: &mut Prng, small: bool) -> Settings {
+    let most_workers = if small { 4 } else { 5 };
+    Settings {
+        workers: prng.between(2, most_workers) as usize,
+        bucket_size: prng.between(2, 3) as usize,
+        greatest_depth: prng.between(2, 5) as u32,
+    }
+}
+
+fn draw_settings(prng: &mut Prng, small: bool) -> Settings {
+    loop {
+        let n = match (small, prng.percent(5)) {
+            (true, _) => prng.between(1, 4),
+            (false, true) => 8,
+            (false, false) => prng.between(1, 5),
+        };
+        let b = if prng.percent(10) {
+            prng.between(2, 16)
+        } else {
+            prng.between(2, 3 + prng.clone().below(2))
+        };
+        let m = if prng.percent(10) {
+            prng.between(0, 8)
+        } else {
+            prng.between(0, 4)
+        };
+        match Settings::new(n, b, m) {
+            Ok(settings) if settings.words() <= LENT => return settings,
+            _ => {}
+        }
+    }
+}
+
+/// Accounts that produce splitting and crowding.
+fn draw_pool(prng: &mut Prng, settings: &Settings) -> Vec<u32> {
+    let depth = settings.greatest_depth + prng.below(2) as u32;
+    let shift = 32 - depth;
+    let base = prng.draw() as u32;
+    let most = 24 + (1 << settings.greatest_depth.min(6));
+    let count = prng.between(settings.bucket_size as u64 + 1, most);
+    let style = prng.below(4);
+    let mut draw = || -> u32 {
+        let high = match style {
+            // Any prefix.
+            0 => prng.draw() as u32,
+            // One prefix and those that differ from it in one bit.
+            1 if depth > 0 => base ^ (prng.below(2) as u32) << (31 - prng.below(u64::from(depth))),
+            // One prefix mostly.
+            2 if prng.percent(60) => base,
+            // On both sides of a boundary.
+            _ => (prng.draw() as u32 & !u32::MAX.checked_shr(depth).unwrap_or(0))
+                .wrapping_sub(prng.below(2) as u32),
+        };
+        let top = (u64::from(high) >> shift << shift) as u32;
+        if style == 3 {
+            high
+        } else {
+            top | prng.below(4) as u32
+        }
+    };
+    (0..count).map(|_| draw()).collect()
+}

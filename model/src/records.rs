@@ -1,0 +1,151 @@
+//! The records of the table: announced updates, bucket states, buckets and directories.
+//! Records are shared by reference, and identity is the identity of the reference.
+
+use std::cell::RefCell;
+use std::rc::Rc;
+
+/// What an operation does.
+#[derive(Clone, Copy, PartialEq, Eq, PartialOrd, Ord, Hash, Debug)]
+pub enum Kind {
+    Insert,
+    Delete,
+    Lookup,
+}
+
+/// What an operation is answered.
+#[derive(Clone, Copy, PartialEq, Eq, PartialOrd, Ord, Hash, Debug)]
+pub enum Answer {
+    Added,
+    Replaced,
+    Removed,
+    Absent,
+    Found(i64),
+    None,
+    Crowded,
+}
+
+/// An announced update. The ticket is the worker's sequence number for it.
+#[derive(Clone, Copy, PartialEq, Eq, Debug)]
+pub struct Update {
+    pub kind: Kind,
+    pub account: u32,
+    pub total: i64,
+    pub ticket: u32,
+}
+
+/// The last settled ticket (sequence number of the last applied update) and its answer.
+#[derive(Clone, Copy, PartialEq, Eq, Debug, Default)]
+pub struct Settled {
+    pub ticket: u32,
+    pub answer: Option<Answer>,
+}
+
+/// A bucket state. It never changes once it is shared.
+#[derive(Clone, PartialEq, Eq, Debug)]
+pub struct State {
+    pub items: Vec<(u32, i64)>,
+    pub applied: Vec<bool>,
+    pub settled: Vec<Settled>,
+}
+
+/// A bucket: depth and prefix are fixed, state and toggle are shared cells.
+#[derive(Debug)]
+pub struct Bucket {
+    pub depth: u32,
+    pub prefix: u32,
+    pub state: RefCell<Rc<State>>,
+    pub toggle: RefCell<Vec<bool>>,
+}
+
+/// A directory. It never changes once it is shared.
+#[derive(Debug)]
+pub struct Directory {
+    pub depth: u32,
+    pub entries: Vec<Rc<Bucket>>,
+}
+
+/// The first `depth` bits of an account, most significant first.
+pub fn prefix_of(account: u32, depth: u32) -> u32 {
+    if depth == 0 {
+        0
+    } else {
+        account >> (32 - depth)
+    }
+}
+
+impl State {
+    /// No accounts, bits 0, ticket numbers 0.
+    pub fn empty(workers: usize) -> State {
+        State {
+            items: Vec::new(),
+            applied: vec![false; workers],
+            settled: vec![Settled::default(); workers],
+        }
+    }
+
+    pub fn find(&self, account: u32) -> Option<i64> {
+        let mut all = self.items.iter();
+        all.find(|item| item.0 == account).map(|item| item.1)
+    }
+
+    pub fn is_full(&self, bucket_size: usize) -> bool {
+        self.items.len() >= bucket_size
+    }
+
+    /// A ticket is settled when the settled number is not below it.
+    pub fn is_settled(&self, worker: usize, ticket: u32) -> bool {
+        self.settled[worker].ticket >= ticket
+    }
+
+    /// Carries out an update on this private copy and settles its ticket.
+    pub fn carry_out(&mut self, worker: usize, update: &Update) {
+        let place = self.items.iter().position(|item| item.0 == update.account);
+        let answer = match (update.kind, place) {
+            (Kind::Insert, Some(at)) => {
+                self.items[at].1 = update.total;
+                Answer::Replaced
+            }
+            (Kind::Insert, None) => {
+                self.items.push((update.account, update.total));
+                Answer::Added
+            }
+            (_, Some(at)) => {
+                self.items.swap_remove(at);
+                Answer::Removed
+            }
+            (_, None) => Answer::Absent,
+        };
+        self.settled[worker] = Settled {
+            ticket: update.ticket,
+            answer: Some(answer),
+        };
+    }
+}
+
+impl Bucket {
+    pub fn new(depth: u32, prefix: u32, state: State) -> Rc<Bucket> {
+        let toggle = vec![false; state.applied.len()];
+        Rc::new(Bucket {
+            depth,
+            prefix,
+            state: RefCell::new(Rc::new(state)),
+            toggle: RefCell::new(toggle),
+        })
+    }
+
+    /// A reference to the current state (one read of a shared cell).
+    pub fn current(&self) -> Rc<State> {
+        Rc::clone(&self.state.borrow())
+    }
+
+    pub fn covers(&self, account: u32) -> bool {
+        prefix_of(account, self.depth) == self.prefix
+    }
+}
+
+impl Directory {
+    /// The bucket that the account belongs to.
+    pub fn bucket(&self, account: u32) -> &Rc<Bucket> {
+        &self.entries[prefix_of(account, self.depth) as usize]
+    }
+}

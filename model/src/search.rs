@@ -1,0 +1,106 @@
+//! Random search: draws orders from a seed and judges them until so many steps were made.
+
+use crate::check::Counts;
+use crate::fault::Fault;
+use crate::judge::{External, Internal, Judge};
+use crate::lines::Line;
+use crate::mutate::variation;
+use crate::prng::Prng;
+use crate::random::Generator;
+use crate::shrink::shrink;
+use crate::violation::Violation;
+
+/// Which statement an order is judged by.
+#[derive(Clone, Copy, PartialEq, Eq, Debug)]
+pub enum By {
+    /// Moments, invariants and step bounds.
+    AllAssertions,
+    /// Answers, listings and step bounds only.
+    External,
+}
+
+/// A failing order, as drawn and as shrunk.
+#[derive(Clone, Debug)]
+pub struct Failure {
+    pub violation: Violation,
+    pub drawn: Vec<Line>,
+    pub shrunk: Vec<Line>,
+}
+
+pub fn new_judge(by: By, fault: Fault) -> Box<dyn Judge> {
+    match by {
+        By::AllAssertions => Box::new(Internal::new(fault)),
+        By::External => Box::new(External::new(fault)),
+    }
+}
+
+/// Judges a whole order.
+pub fn verdict(by: By, fault: Fault, lines: &[Line]) -> Result<Counts, (usize, Violation)> {
+    crate::judge::judge(new_judge(by, fault).as_mut(), lines)
+}
+
+/// Draws and judges one order of about so many steps. Answers the lines as well.
+pub fn one_order(
+    by: By,
+    fault: Fault,
+    seed: u64,
+    steps: u64,
+) -> (Vec<Line>, Result<Counts, Violation>) {
+    let mut judge = new_judge(by, fault);
+    let mut generator = Generator::new(seed, by == By::External);
+    let mut lines = vec![generator.opening()];
+    let mut line = lines[0];
+    // Every fourth line or more makes a step, so this many lines are enough.
+    for _ in 0..4 * steps {
+        if let Err(violation) = judge.take(&line) {
+            return (lines, Err(violation));
+        }
+        if judge.counts().steps >= steps {
+            break;
+        }
+        let machine = judge.machine().expect("the opening was accepted");
+        line = generator.next(machine);
+        lines.push(line);
+    }
+    (lines, Ok(judge.counts()))
+}
+
+/// Judges a variation of a stored order.
+pub fn one_variation(by: By, fault: Fault, seed: u64) -> (Vec<Line>, Result<Counts, Violation>) {
+    let lines = variation(&mut Prng::new(seed));
+    let outcome = verdict(by, fault, &lines).map_err(|(_, violation)| violation);
+    (lines, outcome)
+}
+
+/// Draws orders until so many steps were made or one failed. The counts include the last order
+/// only if it did not fail.
+pub fn search(by: By, fault: Fault, seed: u64, steps: u64) -> (Counts, Option<Failure>) {
+    let mut seeds = Prng::new(seed);
+    let mut counts = Counts::default();
+    while counts.steps < steps {
+        let order_seed = seeds.draw();
+        let length = match by {
+            By::AllAssertions => seeds.between(100, 700),
+            By::External => seeds.between(50, 400),
+        };
+        let varies = by == By::AllAssertions && seeds.percent(40);
+        let (drawn, outcome) = match varies {
+            true => one_variation(by, fault, order_seed),
+            false => one_order(by, fault, order_seed, length),
+        };
+        match outcome {
+            Ok(more) => counts.add(&more),
+            Err(violation) => {
+                let fails = |lines: &[Line]| verdict(by, fault, lines).is_err();
+                let shrunk = shrink(&drawn, &fails);
+                let failure = Failure {
+                    violation,
+                    drawn,
+                    shrunk,
+                };
+                return (counts, Some(failure));
+            }
+        }
+    }
+    (counts, None)
+}

@@ -1,0 +1,173 @@
+//! Shrinks a failing order: shorter lists of lines, smaller step counts, smaller settings.
+
+use crate::lines::Line;
+
+/// The shortest failing order that is found from this one, which must fail.
+pub fn shrink(order: &[Line], fails: &dyn Fn(&[Line]) -> bool) -> Vec<Line> {
+    let mut best = order.to_vec();
+    loop {
+        let before = size(&best);
+        best = delete_chunks(best, fails);
+        best = delete_pairs(best, fails);
+        best = shorten(best, fails);
+        best = simplify(best, fails);
+        if size(&best) >= before {
+            return best;
+        }
+    }
+}
+
+/// What is made smaller: lines first, then steps, then numbers in use.
+fn size(order: &[Line]) -> (usize, u64, u64) {
+    let steps = order.iter().map(|line| match line {
+        Line::Step { count, .. } => *count,
+        _ => 0,
+    });
+    let weight = order.iter().map(|line| match line {
+        Line::Open { n, b, m } => n + b + m,
+        Line::Call { account, total, .. } => {
+            u64::from(account.count_ones()) + total.unsigned_abs().min(64)
+        }
+        _ => 0,
+    });
+    (order.len(), steps.sum(), weight.sum())
+}
+
+fn without(order: &[Line], from: usize, count: usize) -> Vec<Line> {
+    let to = (from + count).min(order.len());
+    [&order[..from], &order[to..]].concat()
+}
+
+/// Deletes chunks of half the length, then of a quarter, down to single lines.
+fn delete_chunks(mut order: Vec<Line>, fails: &dyn Fn(&[Line]) -> bool) -> Vec<Line> {
+    let mut chunk = order.len().div_ceil(2).max(1);
+    loop {
+        let mut from = 0;
+        while from < order.len() {
+            let shorter = without(&order, from, chunk);
+            if fails(&shorter) {
+                order = shorter;
+            } else {
+                from += chunk;
+            }
+        }
+        if chunk == 1 {
+            return order;
+        }
+        chunk = chunk.div_ceil(2);
+    }
+}
+
+/// Deletes two lines that are needed only together, as a call and its steps.
+fn delete_pairs(mut order: Vec<Line>, fails: &dyn Fn(&[Line]) -> bool) -> Vec<Line> {
+    if order.len() > 60 {
+        return order;
+    }
+    let mut first = 0;
+    while first < order.len() {
+        let mut second = first + 1;
+        while second < order.len() {
+            let shorter = without(&without(&order, second, 1), first, 1);
+            if fails(&shorter) {
+                order = shorter;
+                second = first + 1;
+            } else {
+                second += 1;
+            }
+        }
+        first += 1;
+    }
+    order
+}
+
+/// Tries the change at every line; keeps it where the order still fails and is smaller.
+fn at_every_line(
+    mut order: Vec<Line>,
+    fails: &dyn Fn(&[Line]) -> bool,
+    changes: &dyn Fn(&Line) -> Vec<Line>,
+) -> Vec<Line> {
+    for place in 0..order.len() {
+        for change in changes(&order[place]) {
+            let mut changed = order.clone();
+            changed[place] = change;
+            if size(&changed) < size(&order) && fails(&changed) {
+                order = changed;
+            }
+        }
+    }
+    order
+}
+
+/// Step counts become smaller; two lines of steps of one worker become one.
+fn shorten(order: Vec<Line>, fails: &dyn Fn(&[Line]) -> bool) -> Vec<Line> {
+    let order = join_steps(order, fails);
+    at_every_line(order, fails, &|line| match *line {
+        Line::Step { worker, count } => {
+            let smaller = (1..count.min(200)).map(|count| Line::Step { worker, count });
+            smaller.rev().collect()
+        }
+        _ => Vec::new(),
+    })
+}
+
+fn join_steps(mut order: Vec<Line>, fails: &dyn Fn(&[Line]) -> bool) -> Vec<Line> {
+    for first in 0..order.len() {
+        for second in first + 1..order.len() {
+            let joined = match (order.get(first), order.get(second)) {
+                (
+                    Some(&Line::Step { worker, count }),
+                    Some(&Line::Step {
+                        worker: other,
+                        count: more,
+                    }),
+                ) if worker == other => Line::Step {
+                    worker,
+                    count: (count + more).min(9_999),
+                },
+                _ => continue,
+            };
+            for kept in [first, second] {
+                let mut shorter = order.clone();
+                shorter[kept] = joined;
+                let shorter = without(&shorter, first + second - kept, 1);
+                if fails(&shorter) {
+                    order = shorter;
+                    break;
+                }
+            }
+        }
+    }
+    order
+}
+
+/// Settings, accounts and totals become simpler.
+fn simplify(order: Vec<Line>, fails: &dyn Fn(&[Line]) -> bool) -> Vec<Line> {
+    at_every_line(order, fails, &|line| match *line {
+        Line::Open { n, b, m } => {
+            let (less_n, less_b, less_m) = (n.max(1) - 1, b.max(1) - 1, m.max(1) - 1);
+            vec![
+                Line::Open { n: less_n, b, m },
+                Line::Open { n, b: less_b, m },
+                Line::Open { n, b, m: less_m },
+            ]
+        }
+        Line::Call {
+            kind,
+            worker,
+            account,
+            total,
+        } => {
+            let call = |account, total| Line::Call {
+                kind,
+                worker,
+                account,
+                total,
+            };
+            let bits = (0..32).map(|bit| account & !(1u32 << bit));
+            let mut simpler: Vec<Line> = bits.map(|account| call(account, total)).collect();
+            simpler.extend([0, 1, 2].map(|total| call(account, total)));
+            simpler
+        }
+        _ => Vec::new(),
+    })
+}

@@ -1,0 +1,230 @@
+//! The cases of document 01, as driver lines and whole output, and its refusals.
+
+use model::fault::Fault;
+use model::machine::{Machine, Stepped};
+use model::records::{Answer, Kind};
+use model::settings::Settings;
+use model::totals::transcript;
+
+/// Left the input lines, right the output lines, as document 01 prints them.
+fn session(pairs: &[(&str, &str)]) {
+    let input: String = pairs.iter().map(|(line, _)| format!("{line}\n")).collect();
+    let expected: String = pairs.iter().map(|(_, out)| format!("{out}\n")).collect();
+    let output = transcript(input.as_bytes(), Fault::None);
+    assert_eq!(String::from_utf8(output).expect("text"), expected);
+}
+
+#[test]
+fn settings_outside_their_range_are_refused() {
+    session(&[
+        ("O 0 2 1", "refused 1"),
+        ("O 9 2 1", "refused 1"),
+        ("O 1 1 1", "refused 1"),
+        ("O 1 17 1", "refused 1"),
+        ("O 1 2 9", "refused 1"),
+    ]);
+}
+
+#[test]
+fn the_greatest_settings_open_over_the_words_needed() {
+    let words = Settings::new(8, 16, 8).expect("in range").words();
+    assert!(Machine::open(8, 16, 8, words).is_ok());
+    assert_eq!(Machine::open(8, 16, 8, words - 1).err(), Some(2));
+    assert_eq!(Machine::open(9, 16, 8, 0).err(), Some(1));
+}
+
+#[test]
+fn the_words_needed_are_within_the_limit_for_all_settings() {
+    for (n, b, m) in all_settings() {
+        let words = Settings::new(n, b, m).expect("in range").words();
+        assert!(words <= 16 * (2 * n + 1) * (1 << m) * (b + n + 4));
+    }
+}
+
+fn all_settings() -> impl Iterator<Item = (u64, u64, u64)> {
+    (1..=8).flat_map(|n| (2..=16).flat_map(move |b| (0..=8).map(move |m| (n, b, m))))
+}
+
+#[test]
+fn a_fresh_table_lists_nothing() {
+    for (n, b, m) in all_settings() {
+        let machine = Machine::open(n, b, m, u64::MAX).expect("in range");
+        assert_eq!(machine.listing(0, 0), Ok(Vec::new()));
+    }
+    session(&[("O 2 2 1", "ok"), ("T", "end 0")]);
+}
+
+#[test]
+fn the_session() {
+    session(&[
+        ("O 1 2 1", "ok"),
+        ("I 0 5 700", "ok"),
+        ("S 0 12", "moved 12"),
+        ("S 0 9", "answered added 13"),
+        ("L 0 5", "ok"),
+        ("S 0 2", "answered found 700 2"),
+        ("T", "5 700\nend 1"),
+    ]);
+}
+
+/// One worker, holding 5 and 6.
+const HOLDING: [(&str, &str); 5] = [
+    ("O 1 2 1", "ok"),
+    ("I 0 5 50", "ok"),
+    ("S 0 99", "answered added 13"),
+    ("I 0 6 60", "ok"),
+    ("S 0 99", "answered added 13"),
+];
+
+#[test]
+fn a_split_then_crowded() {
+    let mut pairs = HOLDING.to_vec();
+    pairs.extend([
+        ("I 0 2147483648 80", "ok"),
+        ("S 0 99", "answered added 23"),
+        ("I 0 7 70", "ok"),
+        ("S 0 99", "answered crowded 13"),
+        ("D 0 5", "ok"),
+        ("S 0 99", "answered crowded 13"),
+        ("T", "5 50\n6 60\n2147483648 80\nend 3"),
+    ]);
+    session(&pairs);
+}
+
+#[test]
+fn crowded_straight_away_and_the_split_stays() {
+    let mut pairs = HOLDING.to_vec();
+    pairs.extend([
+        ("I 0 7 70", "ok"),
+        ("S 0 99", "answered crowded 23"),
+        ("T", "5 50\n6 60\nend 2"),
+        ("D 0 5", "ok"),
+        ("S 0 99", "answered crowded 13"),
+    ]);
+    session(&pairs);
+}
+
+#[test]
+fn busy_idle_and_stranger() {
+    session(&[
+        ("O 2 2 1", "ok"),
+        ("S 0 1", "refused 5"),
+        ("I 0 5 7", "ok"),
+        ("I 0 5 7", "refused 4"),
+        ("L 0 5", "refused 4"),
+        ("I 2 5 7", "refused 3"),
+        ("S 2 1", "refused 3"),
+        ("S 1 1", "refused 5"),
+    ]);
+}
+
+#[test]
+fn a_lookup_after_a_delete() {
+    session(&[
+        ("O 2 2 1", "ok"),
+        ("I 0 5 50", "ok"),
+        ("S 0 99", "answered added 15"),
+        ("L 1 5", "ok"),
+        ("S 1 1", "moved 1"),
+        ("D 0 5", "ok"),
+        ("S 0 99", "answered removed 15"),
+        ("S 1 1", "answered none 2"),
+    ]);
+}
+
+#[test]
+fn a_helped_insert() {
+    session(&[
+        ("O 2 2 1", "ok"),
+        ("I 1 9 90", "ok"),
+        ("S 1 3", "moved 3"),
+        ("I 0 5 50", "ok"),
+        ("S 0 99", "answered added 15"),
+        ("T", "5 50\n9 90\nend 2"),
+        ("S 1 99", "answered added 15"),
+    ]);
+}
+
+#[test]
+fn the_second_pass_is_needed() {
+    session(&[
+        ("O 2 2 1", "ok"),
+        ("I 0 5 50", "ok"),
+        ("S 0 99", "answered added 15"),
+        ("I 0 6 60", "ok"),
+        ("S 0 99", "answered added 15"),
+        ("I 0 2147483648 80", "ok"),
+        ("S 0 20", "moved 20"),
+        ("I 1 2147483649 90", "ok"),
+        ("S 1 13", "moved 13"),
+        ("S 0 99", "answered added 29"),
+        ("S 1 99", "answered added 43"),
+    ]);
+}
+
+#[test]
+fn update_65535_is_accepted_and_the_next_is_spent() {
+    let mut input = String::from("O 1 2 1\n");
+    for _ in 0..65_535 {
+        input.push_str("I 0 5 7\nS 0 99\n");
+    }
+    input.push_str("I 0 5 7\nD 0 5\nS 0 1\nL 0 5\nS 0 2\n");
+    let output = String::from_utf8(transcript(input.as_bytes(), Fault::None)).expect("text");
+    let lines: Vec<&str> = output.lines().collect();
+    let replaced = |line: &&&str| **line == "answered replaced 13";
+    assert_eq!(lines.iter().filter(replaced).count(), 65_534);
+    let end = [
+        "ok",
+        "answered replaced 13",
+        "refused 7",
+        "refused 7",
+        "refused 5",
+        "ok",
+    ];
+    assert_eq!(lines[65_535 * 2 - 1..65_535 * 2 + 5], end);
+    assert_eq!(lines.last(), Some(&"answered found 7 2"));
+}
+
+#[test]
+fn refusals_of_a_call_come_in_order() {
+    let mut machine = Machine::open(1, 2, 1, u64::MAX).expect("in range");
+    assert_eq!(machine.call(1, 9, 5, 0), Err(3));
+    assert_eq!(machine.call(0, 0, 5, 0), Err(6));
+    assert_eq!(machine.call(0, 4, 5, 0), Err(6));
+    machine.workers[0].last_ticket = 65_535;
+    assert_eq!(machine.call(0, 4, 5, 0), Err(6));
+    assert_eq!(machine.call(0, 1, 5, 0), Err(7));
+    assert_eq!(machine.call(0, 2, 5, 0), Err(7));
+    assert_eq!(machine.call(0, 3, 5, 0), Ok(()));
+    assert_eq!(machine.call(0, 9, 5, 0), Err(4));
+    assert_eq!(machine.step(1).stepped, Stepped::Refused(3));
+}
+
+#[test]
+fn a_listing_is_narrow_exactly_below_the_count() {
+    let mut machine = Machine::open(1, 2, 1, u64::MAX).expect("in range");
+    for account in [9, 5] {
+        machine.call(0, 1, account, 7).expect("idle");
+        while machine.step(0).stepped == Stepped::Moved {}
+    }
+    assert_eq!(machine.listing(1, 2), Err(10));
+    assert_eq!(machine.listing(2, 1), Err(10));
+    assert_eq!(machine.listing(2, 2), Ok(vec![(5, 7), (9, 7)]));
+}
+
+#[test]
+fn the_plain_table_answers_as_its_rules_say() {
+    let settings = Settings::new(1, 2, 1).expect("in range");
+    let mut plain = model::plain::Plain::new(&settings);
+    assert_eq!(plain.apply(Kind::Lookup, 5, 0), Answer::None);
+    assert_eq!(plain.apply(Kind::Delete, 5, 0), Answer::Absent);
+    assert_eq!(plain.apply(Kind::Insert, 5, 1), Answer::Added);
+    assert_eq!(plain.apply(Kind::Insert, 5, 2), Answer::Replaced);
+    assert_eq!(plain.apply(Kind::Lookup, 5, 0), Answer::Found(2));
+    assert_eq!(plain.apply(Kind::Insert, 1 << 31, 3), Answer::Added);
+    assert_eq!(plain.apply(Kind::Insert, 6, 4), Answer::Added);
+    assert_eq!(plain.apply(Kind::Insert, 5, 9), Answer::Crowded);
+    assert_eq!(plain.apply(Kind::Delete, 7, 0), Answer::Crowded);
+    assert_eq!(plain.apply(Kind::Delete, 1 << 31, 0), Answer::Removed);
+    assert!(plain.lists_as(&[(5, 2), (6, 4)]));
+}

@@ -1,0 +1,79 @@
+//! The binary's commands: exit codes and output.
+
+use std::io::Write;
+use std::process::{Command, Output, Stdio};
+
+fn run(arguments: &[&str], input: &[u8]) -> Output {
+    let mut child = Command::new(env!("CARGO_BIN_EXE_model"))
+        .args(arguments)
+        .stdin(Stdio::piped())
+        .stdout(Stdio::piped())
+        .stderr(Stdio::piped())
+        .spawn()
+        .expect("the binary starts");
+    let mut stdin = child.stdin.take().expect("piped");
+    // A command that reads nothing may be gone before the input is written.
+    let written = stdin.write_all(input);
+    drop(stdin);
+    assert!(written.is_ok() || input.is_empty());
+    child.wait_with_output().expect("the binary ends")
+}
+
+fn text(bytes: &[u8]) -> String {
+    String::from_utf8(bytes.to_vec()).expect("output is text")
+}
+
+#[test]
+fn unknown_arguments_get_the_usage_and_exit_2() {
+    let wrong: [&[&str]; 10] = [
+        &[],
+        &["help"],
+        &["totals", "x"],
+        &["totals", "--seed", "1"],
+        &["search"],
+        &["search", "--seed", "1"],
+        &["search", "--seed", "x", "--steps", "5"],
+        &["search", "--steps"],
+        &["replay", "--fault", "unknown"],
+        &["faults", "--external"],
+    ];
+    for arguments in wrong {
+        let output = run(arguments, b"");
+        assert_eq!(output.status.code(), Some(2), "{arguments:?}");
+        assert!(text(&output.stderr).starts_with("usage:"), "{arguments:?}");
+        assert!(output.stdout.is_empty(), "{arguments:?}");
+    }
+}
+
+#[test]
+fn totals_answers_standard_input() {
+    let input = b"O 1 2 1\nI 0 5 700\nS 0 12\nS 0 9\nL 0 5\nS 0 2\nT";
+    let output = run(&["totals"], input);
+    assert_eq!(output.status.code(), Some(0));
+    let expected = "ok\nok\nmoved 12\nanswered added 13\nok\nanswered found 700 2\n5 700\nend 1\n";
+    assert_eq!(text(&output.stdout), expected);
+}
+
+#[test]
+fn a_search_prints_its_counts_and_a_failing_one_an_order() {
+    let good = run(&["search", "--seed", "3", "--steps", "2000"], b"");
+    assert_eq!(good.status.code(), Some(0));
+    assert!(text(&good.stdout).starts_with("seed 3\norders "));
+    let search = ["search", "--seed", "3", "--steps", "2000"];
+    let bad = run(&[&search[..], &["--fault", "always-added"]].concat(), b"");
+    assert_eq!(bad.status.code(), Some(1));
+    let shown = text(&bad.stdout);
+    let order = shown.split("violation ").nth(1).expect("a violation");
+    let lines = order.split_once('\n').expect("an order").1;
+    let again = run(&["replay", "--fault", "always-added"], lines.as_bytes());
+    assert_eq!(again.status.code(), Some(1));
+    assert_eq!(run(&["replay"], lines.as_bytes()).status.code(), Some(0));
+}
+
+#[test]
+fn faults_lists_every_name_once() {
+    let output = run(&["faults"], b"");
+    let names: Vec<String> = text(&output.stdout).lines().map(String::from).collect();
+    let all = model::fault::Fault::ALL.map(|fault| fault.name().to_string());
+    assert_eq!(names, all);
+}

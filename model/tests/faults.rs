@@ -1,0 +1,130 @@
+//! Each wrong machine is caught by the external statement, and each stored order is judged well
+//! on the true machine and gives the stored output.
+
+use model::explain::UNDECIDED;
+use model::fault::Fault;
+use model::judge::{judge, Event, Internal};
+use model::lines::{read_line, Line};
+use model::machine::Stepped;
+use model::records::Answer;
+use model::search::{search, verdict, By};
+use model::task::StepKind;
+use model::totals::transcript;
+use std::path::PathBuf;
+
+/// Wrong machines that random search with this seed and budget does not catch by the external
+/// statement; their stored orders do.
+const NOT_BY_SEARCH: [Fault; 2] = [Fault::OneDirectoryRound, Fault::AnnounceApplies];
+const SEED: u64 = 1;
+const BUDGET: u64 = 100_000;
+
+/// Stored orders that are not named after a fault, with the fault whose output they tell apart
+/// from the true machine's.
+const MORE: [(&str, Fault); 5] = [
+    ("covered", Fault::OneDirectoryRound),
+    ("section-9", Fault::OneDirectoryRound),
+    ("own-update-only-listing", Fault::OwnUpdateOnly),
+    ("toggle-ignored-listing", Fault::ToggleIgnored),
+    ("announce-applies-listing", Fault::AnnounceApplies),
+];
+
+fn stored(name: &str, ending: &str) -> String {
+    let mut path = PathBuf::from(env!("CARGO_MANIFEST_DIR"));
+    path.push("orders");
+    path.push(format!("{name}.{ending}"));
+    std::fs::read_to_string(&path).unwrap_or_else(|error| panic!("{}: {error}", path.display()))
+}
+
+fn lines(name: &str) -> Vec<Line> {
+    let text = stored(name, "txt");
+    let read = |line: &str| read_line(line.as_bytes()).expect("a stored line can be read");
+    text.lines().map(read).collect()
+}
+
+fn output(name: &str, fault: Fault) -> String {
+    let bytes = transcript(stored(name, "txt").as_bytes(), fault);
+    String::from_utf8(bytes).expect("output is text")
+}
+
+/// Rejected by the external statement, and not merely undecided.
+fn is_rejected(fault: Fault, order: &[Line]) -> bool {
+    let verdict = verdict(By::External, fault, order);
+    verdict.is_err_and(|(_, violation)| violation.name != UNDECIDED)
+}
+
+#[test]
+fn random_search_catches_faults_by_the_external_statement() {
+    for fault in Fault::ALL {
+        if NOT_BY_SEARCH.contains(&fault) {
+            continue;
+        }
+        let (counts, failure) = search(By::External, fault, SEED, BUDGET);
+        let failure = failure.unwrap_or_else(|| panic!("{} not caught", fault.name()));
+        println!("{} after {} steps", fault.name(), counts.steps);
+        assert!(is_rejected(fault, &failure.shrunk));
+        assert!(verdict(By::External, Fault::None, &failure.shrunk).is_ok());
+        assert!(verdict(By::AllAssertions, Fault::None, &failure.drawn).is_ok());
+    }
+}
+
+#[test]
+fn every_fault_has_a_stored_order_that_the_external_statement_rejects() {
+    for fault in Fault::ALL {
+        let order = lines(fault.name());
+        assert!(is_rejected(fault, &order), "{fault:?}");
+        assert!(
+            verdict(By::AllAssertions, fault, &order).is_err(),
+            "{fault:?}"
+        );
+    }
+}
+
+#[test]
+fn stored_orders_hold_on_the_true_machine_with_the_stored_output() {
+    let named = Fault::ALL.map(|fault| (fault.name(), fault));
+    for (name, fault) in named.into_iter().chain(MORE) {
+        let order = lines(name);
+        assert!(
+            verdict(By::AllAssertions, Fault::None, &order).is_ok(),
+            "{name}"
+        );
+        assert!(verdict(By::External, Fault::None, &order).is_ok(), "{name}");
+        assert_eq!(output(name, Fault::None), stored(name, "out"), "{name}");
+        assert_ne!(output(name, fault), stored(name, "out"), "{name}");
+    }
+}
+
+#[test]
+fn the_second_directory_round_is_needed() {
+    let order = lines("section-9");
+    let mut all = Internal::new(Fault::None);
+    all.record = true;
+    assert!(judge(&mut all, &order).is_ok());
+    let last: &Event = all.events.last().expect("steps were made");
+    let (answer, steps) = (Answer::Crowded, 69);
+    assert_eq!(last.worker, 0);
+    assert_eq!(last.report.stepped, Stepped::Answered { answer, steps });
+    assert_eq!(last.report.kind, StepKind::CheckState { check: 4 });
+    assert_eq!(last.moments.len(), 1);
+    let fault = Fault::OneDirectoryRound;
+    assert!(verdict(By::AllAssertions, fault, &order).is_err());
+    assert!(verdict(By::External, fault, &order).is_err());
+}
+
+#[test]
+fn an_announcement_that_applies_changes_two_cells_at_once() {
+    let order = lines("announce-applies-listing");
+    let failed = verdict(By::AllAssertions, Fault::AnnounceApplies, &order);
+    assert!(failed.is_err());
+    // The listing alone can be explained: the moment would be the announcement.
+    assert!(verdict(By::External, Fault::AnnounceApplies, &order).is_ok());
+}
+
+#[test]
+fn fault_names_are_distinct_and_found_again() {
+    for fault in Fault::ALL {
+        assert_eq!(Fault::from_name(fault.name()), Some(fault));
+    }
+    assert_eq!(Fault::from_name("none"), None);
+    assert_eq!(Fault::from_name("no-such-fault"), None);
+}
