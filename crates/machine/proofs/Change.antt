@@ -1,0 +1,445 @@
+-- What a change of the shared cells keeps: the theory that the flip, the bucket swap and the directory swap share.
+-- Rests on the invariant and on what happens to one worker's entry of a bucket.
+use Prim.Native.Nat.{ℕ, _≤_, _<_}
+use native.Mathlib.Omega.{arith}
+use mathlib.Core.Path.{_≡_, refl, ap, sym, _∙_, subst}
+use mathlib.Core.Logic.{_⊎_, inl, inr}
+use mathlib.Core.Bool.{true}
+use lib.Dec.{ltb}
+use Rattle.interface.specs.declared.Settings.{Settings}
+use Rattle.machine.specs.Sequential.{account}
+use Rattle.machine.specs.Records.{Name, Body, Bucket, Slot, empty, announced, Cells}
+use Rattle.machine.specs.BucketPass.{full, splittable}
+use Rattle.machine.specs.DirectoryPass.{leafOf}
+use Rattle.machine.proofs.Base.{and-parts}
+use Rattle.machine.proofs.Counter.{Two, one, two, BStep, readS, readT, swap, slotB, DStep, copyD, swapD, slotD, state, PC, idle, announce}
+use Rattle.machine.proofs.Counter.{look₁, look₂, over, readD, flip, checkD, checkS, inB, inD}
+use Rattle.machine.proofs.Inv.{Task, target, IsTwo, BothTwo, Rounds, SawThere, Past, KnownD, Known, Covered, leaf, body, leafBody, held, own}
+use Rattle.machine.proofs.Inv.{DirectoryFresh, Fresh, Agree, Differ, ticketOf, IsMade, Closed, ClosedSlot, Shut, Gone, Hold, SeenState, SeenAt}
+use Rattle.machine.proofs.Inv.{Grown, Worked, SeenDirectory, ReadAt, RoundAt, Announced, Looking, SlotFacts, ReadFacts, Own, Pair}
+use Rattle.machine.proofs.Resolve.{Fate, stays, gets, fate-le, fate-keep}
+
+-- ---- where a worker stands
+
+-- it holds a bucket that it will still use
+abbrev pub Holds : PC → Type 0
+Holds idle = ⊥
+Holds announce = ⊥
+Holds look₁ = ⊥
+Holds look₂ = Unit {0}
+Holds over = ⊥
+Holds (readD p) = ⊥
+Holds (flip p) = Unit {0}
+Holds (checkD p c) = ⊥
+Holds (checkS p c) = Unit {0}
+Holds (inB p r x) = Unit {0}
+Holds (inD p r x) = ⊥
+
+abbrev pub PastState : BStep → Type 0
+PastState readS = ⊥
+PastState readT = Unit {0}
+PastState swap = Unit {0}
+PastState (slotB i) = Unit {0}
+
+-- in the second round of the bucket pass, past its state read
+abbrev pub Second : PC → Type 0
+Second idle = ⊥
+Second announce = ⊥
+Second look₁ = ⊥
+Second look₂ = ⊥
+Second over = ⊥
+Second (readD p) = ⊥
+Second (flip p) = ⊥
+Second (checkD p c) = ⊥
+Second (checkS p c) = ⊥
+Second (inB p r x) = IsTwo r × PastState x
+Second (inD p r x) = ⊥
+
+abbrev pub PastCopy : DStep → Type 0
+PastCopy copyD = ⊥
+PastCopy swapD = Unit {0}
+PastCopy (slotD i) = Unit {0}
+PastCopy (state i) = Unit {0}
+
+-- in the second round of pass two's directory pass, past the directory read
+abbrev pub LastRound : PC → Type 0
+LastRound idle = ⊥
+LastRound announce = ⊥
+LastRound look₁ = ⊥
+LastRound look₂ = ⊥
+LastRound over = ⊥
+LastRound (readD p) = ⊥
+LastRound (flip p) = ⊥
+LastRound (checkD p c) = ⊥
+LastRound (checkS p c) = ⊥
+LastRound (inB p r x) = ⊥
+LastRound (inD p r x) = BothTwo p r × PastCopy x
+
+-- in pass two its update was announced long before
+known-two : (p r : Two) (i now : ℕ) (x : DStep) → IsTwo p → KnownD p r i now x
+known-two two r i now copyD h = tt
+known-two two r i now swapD h = tt
+known-two two r i now (slotD m) h = tt
+known-two two r i now (state m) h = tt
+
+second-rounds : (pc : PC) → Second pc → Rounds pc
+second-rounds (inB p r x) h = tt
+
+-- ---- a change
+
+-- the directory's cell: as it was, or with a later stamp
+pub data Turn (c c′ : Cells) : Type 0 where
+  still : c′ .directory ≡ c .directory → Turn c c′
+  turned : c .directory .stamp < c′ .directory .stamp → Turn c c′
+
+module _ (s : Settings) where
+  -- An account's bucket, x with body b, becomes x′ with body b′: it is the same bucket, or a deeper one made of it, which was full.
+  pub data Evolves (slots : ℕ → Slot) (x : Name) (b : Body) (x′ : Name) (b′ : Body) : Type 0 where
+    stay : x′ ≡ x → ((i : ℕ) → Fate b b′ (slots i) (Unit {0}) i) → (full s b ≡ true → b′ ≡ b) → Evolves slots x b x′ b′
+    grow : x .depth < x′ .depth → full s b ≡ true → x .depth < s .depth → ((i : ℕ) → Fate b b′ (slots i) (Unit {0}) i) → Evolves slots x b x′ b′
+
+  -- What becomes of the bucket that worker j holds at place pc, with ticket t and the stamp i of the state it has read.
+  pub record KeptBucket (j t : ℕ) (pc : PC) (i : ℕ) (x x′ : Bucket) : Type 0 where
+    pub unchanged : full s (x .state .value .body) ≡ true → x′ .state .value .body ≡ x .state .value .body
+    pub later : x .state .stamp ≤ x′ .state .stamp
+    pub same : x′ .state .stamp ≡ x .state .stamp → x′ .state .value ≡ x .state .value
+    pub applied :
+        Rounds pc → (Agree x j → (t ≤ x .state .value .body .settled j .ticket) ⊎ (full s (x .state .value .body) ≡ true))
+        → Agree x′ j → (t ≤ x′ .state .value .body .settled j .ticket) ⊎ (full s (x′ .state .value .body) ≡ true)
+    pub second : Second pc → (Differ x j → i ≡ x .state .stamp) → Differ x′ j → i ≡ x′ .state .stamp
+    pub settled : x .state .value .body .settled j .ticket ≤ x′ .state .value .body .settled j .ticket
+
+  -- what becomes of account a's bucket
+  abbrev pub Leads : Cells → Cells → ℕ → Type 0
+  Leads c c′ a = Evolves (c .slots) (leaf c a) (leafBody c a) (leaf c′ a) (leafBody c′ a)
+
+  -- A change of the cells, of slots too.
+  pub record Moved (c c′ : Cells) : Type 0 where
+    pub turn : Turn c c′
+    pub evolves : (a : ℕ) → Leads c c′ a
+
+  -- A change of the cells that leaves the slots.
+  pub record Changed (c c′ : Cells) : Type 0 where
+    pub slots : c′ .slots ≡ c .slots
+    pub turn : Turn c c′
+    pub evolves : (a : ℕ) → Leads c c′ a
+
+  -- ---- what is asked of a change, for worker j with task k at place pc
+
+  module _ (c c′ : Cells) (j : ℕ) (k : Task) (pc : PC) where
+    abbrev pub Kept : Type 0
+    Kept = KeptBucket j (k .ticket) pc (k .reads .state .stamp) (own c k) (own c′ k)
+
+    -- that its bucket is kept
+    abbrev pub Keeps : Type 0
+    Keeps = Holds pc → Kept
+
+    -- that its update is closed if its account's bucket was split
+    abbrev pub Splits : Type 0
+    Splits = Known (k .reads .directory .stamp) (c .directory .stamp) pc → leaf c (target k) .depth < leaf c′ (target k) .depth → Shut s c′ j k
+
+    -- that its update is closed if it is past the last directory read and the directory was swapped
+    abbrev pub Swaps : Type 0
+    Swaps = LastRound pc → DirectoryFresh c k ⊎ Shut s c j k → DirectoryFresh c′ k ⊎ Shut s c′ j k
+
+  -- ---- one bucket
+
+  -- a bucket whose state is as it was is kept, if in its rounds the worker's bit is too
+  pub kept-same :
+      {j t : ℕ} {pc : PC} {i : ℕ} {x x′ : Bucket} → x′ .state ≡ x .state → (Rounds pc → x′ .toggle j ≡ x .toggle j) → KeptBucket j t pc i x x′
+  kept-same {pc = pc} e f = record {
+    unchanged = λ h. rw e;
+    later = rw e (omega arith);
+    same = λ h. rw e;
+    applied = λ r h. rw (e, f r) h;
+    second = λ r h. rw (e, f (second-rounds pc r)) h;
+    settled = rw e (omega arith);
+  }
+
+  closed-on :
+      {slots : ℕ → Slot} {x x′ : Name} {b b′ : Body} (j t : ℕ) → Evolves slots x b x′ b′ → Closed s j t (x .depth) b → Closed s j t (x′ .depth) b′
+  closed-on j t (stay e f g) (inl h) = inl (omega (arith, fate-le (f j)))
+  closed-on j t (stay e f g) (inr h) = inr (rw (g (h .0)) (h .0), ap (λ z. z .depth) e ∙ h .1)
+  closed-on j t (grow l m d f) (inl h) = inl (omega (arith, fate-le (f j)))
+  closed-on j t (grow l m d f) (inr h) = absurd (omega arith)
+
+  -- a closed update stays closed at a bucket that is kept
+  closed-kept :
+      {j t d : ℕ} {b b′ : Body} → (full s b ≡ true → b′ ≡ b) → b .settled j .ticket ≤ b′ .settled j .ticket → Closed s j t d b → Closed s j t d b′
+  closed-kept f l (inl h) = inl (omega arith)
+  closed-kept f l (inr h) = inr (rw (f (h .0)) (h .0), h .1)
+
+  -- h is the body of the bucket that is gone, b that of the one in its place
+  gone-on :
+      {j t : ℕ} {x : Slot} {T : Type 0} {h h′ b b′ : Body} → ticketOf x ≤ t → Fate b b′ x T j → h′ ≡ h → Gone s j t h b → Gone s j t h′ b′
+  gone-on l f e g = rw e (record {
+    full = g .full;
+    settled = λ le. let q = g .settled le in fate-keep f (rw q (omega arith)) ∙ q;
+  })
+
+  splits-full : (d : ℕ) (b : Body) → splittable s d b ≡ true → full s b ≡ true
+  unfolding splittable
+  splits-full d b h = and-parts (full s b) (ltb d (s .depth)) h .0
+
+  -- ---- what a worker has read in the directory pass is no later than the directory
+
+  saw-bounded :
+      (n j p : ℕ) (k : Task) (c : Cells) (pc : PC) → SawThere n j pc → ReadFacts s pc c p k → k .reads .directory .stamp ≤ c .directory .stamp
+  saw-bounded n j p k c (inD _ r swapD) x h = h .read .0 .bounded
+  saw-bounded n j p k c (inD _ r (slotD i)) x h = h .read .0 .bounded
+  saw-bounded n j p k c (inD _ r (state i)) x h = h .read .0 .bounded
+
+  past-bounded :
+      (n j p : ℕ) (k : Task) (c : Cells) (pc : PC) → Past n j pc → ReadFacts s pc c p k → k .reads .directory .stamp ≤ c .directory .stamp
+  past-bounded n j p k c (inD _ r swapD) x h = h .read .0 .bounded
+  past-bounded n j p k c (inD _ r (state i)) x h = h .read .0 .bounded
+
+  -- ---- all cells
+
+  module _ (c c′ : Cells) (mv : Moved c c′) where
+    -- a closed update stays closed
+    pub closed-moved : (j : ℕ) (x : Slot) → ClosedSlot s c j x → ClosedSlot s c′ j x
+    closed-moved j empty h = tt
+    closed-moved j (announced u t) h = closed-on j t (mv .evolves (account u)) h
+
+    shut-moved : (j : ℕ) (k : Task) → Shut s c j k → Shut s c′ j k
+    shut-moved j k h = closed-on j (k .ticket) (mv .evolves (target k)) h
+
+    -- ---- the directory
+
+    stamp-up : c .directory .stamp ≤ c′ .directory .stamp
+    stamp-up = go (mv .turn)
+      where
+        go : Turn c c′ → c .directory .stamp ≤ c′ .directory .stamp
+        go (still e) = rw e (omega arith)
+        go (turned l) = omega arith
+
+    -- to a worker whose stamp is the new one the directory is as it was
+    fresh-still : (k : Task) → k .reads .directory .stamp ≤ c .directory .stamp → DirectoryFresh c′ k → c′ .directory ≡ c .directory
+    fresh-still k l e = go (mv .turn)
+      where
+        go : Turn c c′ → c′ .directory ≡ c .directory
+        go (still f) = f
+        go (turned g) = absurd (omega arith)
+
+    seen-directory-move : (k : Task) → SeenDirectory s c k → SeenDirectory s c′ k
+    seen-directory-move k h = record {
+      bounded = omega (arith, stamp-up);
+      same = λ e. let q = fresh-still k (h .bounded) e in rw q (h .same (rw q at e));
+      coherent = h .coherent;
+    }
+
+    worked-move : (k : Task) (a : ℕ) → c′ .directory ≡ c .directory → Worked s c k a → Worked s c′ k a
+    worked-move k a q h = go (mv .evolves a) h
+      where
+        leaf-same : leaf c′ a ≡ leaf c a
+        leaf-same = rw q
+
+        go : Leads c c′ a → Worked s c k a → Worked s c′ k a
+        go v (inl z) = inl (rw q z)
+        go (stay e f g) (inr z) =
+            let b : leafBody c′ a ≡ leafBody c a = g (splits-full (leaf c a .depth) (leafBody c a) (z .splits)) in
+            inr (subst (λ x. Grown s (k .reads .slots) x (leafBody c′ a) a (leafOf (k .reads .copy) a)) (sym e) (rw b z))
+        go (grow l m d f) (inr z) = absurd (omega (arith, ap (λ x. x .depth) leaf-same))
+
+    depth-up : (a : ℕ) → leaf c a .depth ≤ leaf c′ a .depth
+    depth-up a = go (mv .evolves a)
+      where
+        go : Leads c c′ a → leaf c a .depth ≤ leaf c′ a .depth
+        go (stay e f g) = rw e (omega arith)
+        go (grow l m d f) = omega arith
+
+    -- ---- worker j with task k
+
+    module _ (j : ℕ) (k : Task) where
+      module _ (slot : c′ .slots j ≡ c .slots j) where
+        closed-slot-move : ClosedSlot s c j (c .slots j) → ClosedSlot s c′ j (c′ .slots j)
+        closed-slot-move h = rw slot (closed-moved j (c .slots j) h)
+
+        announced-move : Announced s c j k → Announced s c′ j k
+        announced-move h = record { wanted = h .wanted; asks = h .asks; slot = rw slot (h .slot) }
+
+        looking-move : Looking s c j k → Looking s c′ j k
+        looking-move h = record { wanted = h .wanted; asks = h .asks; closed = closed-slot-move (h .closed) }
+
+        slot-facts-move : (pc : PC) → SlotFacts s pc c j k → SlotFacts s pc c′ j k
+        slot-facts-move idle h = (h .0, closed-slot-move (h .1))
+        slot-facts-move announce h = record { wanted = h .wanted; asks = h .asks; closed = closed-slot-move (h .closed); newer = rw slot (h .newer) }
+        slot-facts-move look₁ h = looking-move h
+        slot-facts-move look₂ h = looking-move h
+        slot-facts-move over h = absurd h
+        slot-facts-move (readD p) h = announced-move h
+        slot-facts-move (flip p) h = announced-move h
+        slot-facts-move (checkD p x) h = announced-move h
+        slot-facts-move (checkS p x) h = announced-move h
+        slot-facts-move (inB p r x) h = announced-move h
+        slot-facts-move (inD p r x) h = announced-move h
+
+      -- ---- its bucket
+
+      abbrev GoneIn : Cells → Type 0
+      GoneIn d = Gone s j (k .ticket) (body d (held k)) (leafBody d (target k))
+
+      hold-move : {pc : PC} → ticketOf (c .slots j) ≤ k .ticket → Kept c c′ j k pc → Hold s c j k → Hold s c′ j k
+      hold-move l b h = record { named = h .named; depth = omega (arith, depth-up (target k)); is = go (mv .evolves (target k)) (h .is) }
+        where
+          gone : {T : Type 0} → Fate (leafBody c (target k)) (leafBody c′ (target k)) (c .slots j) T j → GoneIn c → GoneIn c′
+          gone f g = gone-on l f (b .unchanged (g .full)) g
+
+          go : Leads c c′ (target k) → (held k ≡ leaf c (target k)) ⊎ GoneIn c → (held k ≡ leaf c′ (target k)) ⊎ GoneIn c′
+          go (stay e f g) (inl z) = inl (z ∙ sym e)
+          go (stay e f g) (inr z) = inr (gone (f j) z)
+          go (grow e m d f) (inl z) = inr (gone (f j) (rw z (record { full = m; settled = λ l. refl })))
+          go (grow e m d f) (inr z) = inr (gone (f j) z)
+
+      -- if its account's bucket was split, its update is closed
+      module _ (shut : leaf c (target k) .depth < leaf c′ (target k) .depth → Shut s c′ j k) where
+        -- it is closed, or what holds of a bucket that stays holds
+        unless-split :
+            {A A′ : Type 0}
+            → (leaf c′ (target k) ≡ leaf c (target k) → (full s (leafBody c (target k)) ≡ true → leafBody c′ (target k) ≡ leafBody c (target k))
+            → A → A′)
+            → A ⊎ Shut s c j k → A′ ⊎ Shut s c′ j k
+        unless-split {A} {A′} h (inr z) = inr (shut-moved j k z)
+        unless-split {A} {A′} h (inl z) = go (mv .evolves (target k))
+          where
+            go : Leads c c′ (target k) → A′ ⊎ Shut s c′ j k
+            go (stay e f g) = inl (h e g z)
+            go (grow l m d f) = inr (shut l)
+
+        leaf-move : (held k ≡ leaf c (target k)) ⊎ Shut s c j k → (held k ≡ leaf c′ (target k)) ⊎ Shut s c′ j k
+        leaf-move = unless-split (λ e g z. z ∙ sym e)
+
+        full-move : (full s (leafBody c (target k)) ≡ true) ⊎ Shut s c j k → (full s (leafBody c′ (target k)) ≡ true) ⊎ Shut s c′ j k
+        full-move = unless-split (λ e g z. ap (full s) (g z) ∙ z)
+
+      -- ---- its rounds
+
+      seen-state-move : (p r : Two) (x : BStep) → PastState x → Kept c c′ j k (inB p r x) → SeenState s r c j k → SeenState s r c′ j k
+      seen-state-move p r x h b o = record {
+        bounded = omega (arith, b .later);
+        same = λ e. let y : Fresh c k = omega (arith, b .later) in o .same y ∙ sym (b .same (sym e ∙ y));
+        second = λ t. b .second (t, h) (o .second t);
+      }
+
+      seen-at-move : (p r : Two) (x : BStep) → Kept c c′ j k (inB p r x) → SeenAt s r x c j k → SeenAt s r x c′ j k
+      seen-at-move p r readS b o = tt
+      seen-at-move p r readT b o = seen-state-move p r readT tt b o
+      seen-at-move p r swap b o = seen-state-move p r swap tt b o
+      seen-at-move p r (slotB i) b o = seen-state-move p r (slotB i) tt b o
+
+      all-worked-move :
+          SeenDirectory s c k × (DirectoryFresh c k → (a : ℕ) → Worked s c k a)
+          → SeenDirectory s c′ k × (DirectoryFresh c′ k → (a : ℕ) → Worked s c′ k a)
+      all-worked-move h = (seen-directory-move k (h .0), λ e a. let q = fresh-still k (h .0 .bounded) e in worked-move k a q (h .1 (rw q at e) a))
+
+      read-at-move : (x : DStep) → ReadAt s x c k → ReadAt s x c′ k
+      read-at-move copyD h = tt
+      read-at-move swapD h = all-worked-move h
+      read-at-move (slotD i) h = (seen-directory-move k (h .0), h .1)
+      read-at-move (state i) h = all-worked-move h
+
+      round-at-move :
+          (p r : Two) (x : DStep) → (BothTwo p r × PastCopy x → DirectoryFresh c k ⊎ Shut s c j k → DirectoryFresh c′ k ⊎ Shut s c′ j k)
+          → RoundAt s p r x c j k → RoundAt s p r x c′ j k
+      round-at-move p r copyD last h = tt
+      round-at-move p r swapD last h = λ b. last (b, tt) (h b)
+      round-at-move p r (slotD i) last h = λ b. last (b, tt) (h b)
+      round-at-move p r (state i) last h = λ b. last (b, tt) (h b)
+
+      -- ---- what it has read
+
+      read-facts-move :
+          (pc : PC) → ticketOf (c .slots j) ≤ k .ticket → Keeps c c′ j k pc → Splits c c′ j k pc → Swaps c c′ j k pc → ReadFacts s pc c j k → ReadFacts s pc c′ j k
+      read-facts-move idle l kept shut last h = tt
+      read-facts-move announce l kept shut last h = tt
+      read-facts-move look₁ l kept shut last h = tt
+      read-facts-move look₂ l kept shut last h = hold-move l (kept tt) h
+      read-facts-move over l kept shut last h = absurd h
+      read-facts-move (readD p) l kept shut last h = tt
+      read-facts-move (flip p) l kept shut last h = (hold-move l (kept tt) (h .0), λ t. leaf-move (shut t) (h .1 t))
+      read-facts-move (checkD one x) l kept shut last h = tt
+      read-facts-move (checkD two one) l kept shut last h = full-move (shut tt) h
+      read-facts-move (checkD two two) l kept shut last h = shut-moved j k h
+      read-facts-move (checkS one x) l kept shut last h = (hold-move l (kept tt) (h .0), tt)
+      read-facts-move (checkS two one) l kept shut last h = (hold-move l (kept tt) (h .0), full-move (shut tt) (h .1))
+      read-facts-move (checkS two two) l kept shut last h =
+          (hold-move l (kept tt) (h .0), closed-kept (kept tt .unchanged) (kept tt .settled) (h .1))
+      read-facts-move (inB p r x) l kept shut last h = record {
+        hold = hold-move l (kept tt) (h .hold);
+        pass = λ t. leaf-move (shut t) (h .pass t);
+        applied = kept tt .applied tt (h .applied);
+        seen = seen-at-move p r x (kept tt) (h .seen);
+      }
+      read-facts-move (inD p r x) l kept shut last h = record {
+        full = λ t. full-move (shut (known-two p r _ _ x t)) (h .full t);
+        read = read-at-move x (h .read);
+        round = round-at-move p r x last (h .round);
+      }
+
+    -- what worker j knows it still knows, if its slot is as it was
+    pub own-moved :
+        (j : ℕ) (k : Task) → c′ .slots j ≡ c .slots j → Own s c j k
+        → Keeps c c′ j k (k .pc) → Splits c c′ j k (k .pc) → Swaps c c′ j k (k .pc) → Own s c′ j k
+    own-moved j k slot o kept shut last = record {
+      ticket = rw slot (o .ticket);
+      slot = slot-facts-move j k slot (k .pc) (o .slot);
+      read = read-facts-move j k (k .pc) (o .ticket) kept shut last (o .read);
+    }
+
+  -- ---- the slots left
+
+  module _ (c c′ : Cells) (ch : Changed c c′) where
+    moved : Moved c c′
+    moved = record { turn = ch .turn; evolves = ch .evolves }
+
+    -- a closed update stays closed
+    pub closed-move : (j : ℕ) (x : Slot) → ClosedSlot s c j x → ClosedSlot s c′ j x
+    closed-move = closed-moved c c′ moved
+
+    pub shut-move : (j : ℕ) (k : Task) → Shut s c j k → Shut s c′ j k
+    shut-move = shut-moved c c′ moved
+
+    -- what worker j knows it still knows
+    pub own-move :
+        (j : ℕ) (k : Task) → Own s c j k → Keeps c c′ j k (k .pc) → Splits c c′ j k (k .pc) → Swaps c c′ j k (k .pc) → Own s c′ j k
+    own-move j k = own-moved c c′ moved j k (ap (λ f. f j) (ch .slots))
+
+    pub old-move :
+        (j : ℕ) (k : Task) → (k .reads .slots j ≡ c .slots j) ⊎ ClosedSlot s c j (k .reads .slots j)
+        → (k .reads .slots j ≡ c′ .slots j) ⊎ ClosedSlot s c′ j (k .reads .slots j)
+    old-move j k (inl e) = inl (rw (ch .slots) e)
+    old-move j k (inr h) = inr (closed-move j (k .reads .slots j) h)
+
+    -- no ticket is settled before it is announced
+    pub tickets-move :
+        ((a j : ℕ) → leafBody c a .settled j .ticket ≤ ticketOf (c .slots j)) → (a j : ℕ) → leafBody c′ a .settled j .ticket ≤ ticketOf (c′ .slots j)
+    tickets-move h a j = rw (ch .slots) (go (ch .evolves a))
+      where
+        bound : Fate (leafBody c a) (leafBody c′ a) (c .slots j) (Unit {0}) j → leafBody c′ a .settled j .ticket ≤ ticketOf (c .slots j)
+        bound (stays e) = rw e (h a j)
+        bound (gets t l e) = omega arith
+
+        go : Leads c c′ a → leafBody c′ a .settled j .ticket ≤ ticketOf (c .slots j)
+        go (stay e f g) = bound (f j)
+        go (grow l m d f) = bound (f j)
+
+    -- ---- the directory's part of a pair: worker j with task k, and q, which is worker p's
+
+    pub seen-move :
+        (j p : ℕ) (k q : Task) → Own s c p q → Pair s j c k q
+        → Known (k .reads .directory .stamp) (c′ .directory .stamp) (k .pc) → SawThere (s .workers) j (q .pc) → DirectoryFresh c′ q
+        → q .reads .slots j ≡ c′ .slots j
+    seen-move j p k q o h l x e =
+        let z = fresh-still c c′ moved q (saw-bounded (s .workers) j p q c (q .pc) x (o .read)) e in rw (ch .slots) (h .seen (rw z at l) x (rw z at e))
+
+    pub covers-move :
+        (j p : ℕ) (k q : Task) → Own s c p q → Pair s j c k q
+        → Covered (k .reads .directory .stamp) (c′ .directory .stamp) (k .pc) → Past (s .workers) j (q .pc) → DirectoryFresh c′ q
+        → IsMade (leafOf (q .reads .copy) (target k)) ⊎ Shut s c′ j k
+    covers-move j p k q o h l x e =
+        let z = fresh-still c c′ moved q (past-bounded (s .workers) j p q c (q .pc) x (o .read)) e in go (h .covers (rw z at l) x (rw z at e))
+      where
+        go : IsMade (leafOf (q .reads .copy) (target k)) ⊎ Shut s c j k → IsMade (leafOf (q .reads .copy) (target k)) ⊎ Shut s c′ j k
+        go (inl y) = inl y
+        go (inr y) = inr (shut-move j k y)

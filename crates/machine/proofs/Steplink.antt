@@ -1,0 +1,179 @@
+-- Each step of the machine is a transition of its worker's task. Rests on the transitions and the laws of cells.
+use Prim.Native.Nat.{ℕ, zero, suc, _≤_, _<_}
+use mathlib.Core.Path.{_≡_, refl, sym, ap, _∙_, subst⁻¹, fun-ext}
+use mathlib.Core.Option.{Option, none, some}
+use lib.Dec.{ltb, eqb}
+use borrow.Author.Tests.{ltb-true, ltb-false}
+use Rattle.interface.specs.declared.Settings.{Settings}
+use Rattle.interface.specs.declared.Answer.{Answer}
+use Rattle.machine.specs.Choice.{if_then_else_, assign}
+use Rattle.machine.specs.Sequential.{Update, account, Operation, update, lookup}
+use Rattle.machine.specs.Records.{Leaf, kept, made, Slot, empty, announced, Cells, Reads, Worker, Machine}
+use Rattle.machine.specs.BucketPass.{checked}
+use Rattle.machine.specs.DirectoryPass.{leafOf}
+use Rattle.machine.specs.Steps.{Effect, leaving, direct, assignState, updateAccess, lookupAccess, access, perform, counted, done}
+use Rattle.machine.specs.Steps.{announcing, directoryReading, flipping, stateReading, toggleReading, slotReading, swapped, stateSwapping}
+use Rattle.machine.specs.Steps.{stateChecking, directoryCopying, leafReading, resizing, redirected, directorySwapping}
+use Rattle.machine.proofs.Base.{if-elim, if-ap, eq-elim}
+use Rattle.machine.proofs.Cells.{state-same, toggle-same, slot-same, directory-same}
+use Rattle.machine.proofs.Counter.{Two, one, two, readS, readT, swap, slotB, copyD, swapD, slotD, state}
+use Rattle.machine.proofs.Counter.{PC, idle, announce, look₁, look₂, over, readD, flip, checkD, checkS, inB, inD}
+use Rattle.machine.proofs.Counter.{phaseOf, after, Within, Proper, counter, counter-phase, counter-after, counter-within, counter-proper}
+use Rattle.machine.proofs.Inv.{Task, held, body}
+use Rattle.machine.proofs.Keeping.{goes}
+use Rattle.machine.proofs.Transitions.{taskOf, tasksOf, resizedAt, resizedFor, afterB, afterC, afterD, Transition}
+use Rattle.machine.proofs.Transitions.{looks, finds, announces, readsD, flips, readsS, readsT, slotsB, lastB, swaps, misses, checksD, answers}
+use Rattle.machine.proofs.Transitions.{passes, copies, slotsD, lastD, resizes, lastState, redirects, missesD}
+
+-- what one step of worker j's operation o does
+abbrev pub effectOf : Settings → Machine → ℕ → Operation → Effect Cells
+effectOf s m j o = perform (access s j (m .workers j) o) (m .cells)
+
+-- the worker after it
+abbrev pub workerAfter : Settings → Machine → ℕ → Operation → Worker
+workerAfter s m j o = counted (m .workers j) (effectOf s m j o .reads) (effectOf s m j o .answer)
+
+-- the test of an order between numbers
+lt-elim : {A : Type 0} (P : A → Type 0) (a b : ℕ) (x y : A) → (a < b → P x) → (b ≤ a → P y) → P (if ltb a b then x else y)
+lt-elim P a b x y h k = if-elim P (ltb a b) x y (λ e. h (ltb-true a b e)) (λ e. k (ltb-false a b e))
+
+-- ---- the counter goes on as the transitions do after a round and after a check
+
+after-swap : (n : ℕ) (p r : Two) → after n (inB p r swap) ≡ afterB p r
+after-swap n p one = refl
+after-swap n p two = refl
+
+after-check : (n : ℕ) (p x : Two) → after n (checkS p x) ≡ afterC p x
+after-check n p one = refl
+after-check n one two = refl
+after-check n two two = refl
+
+after-redirect : (n : ℕ) (p r : Two) → after n (inD p r swapD) ≡ afterD p r
+after-redirect n p one = refl
+after-redirect n p two = refl
+
+-- ---- the state step for worker i of a directory round only reads
+
+module _ (s : Settings) (c : Cells) (r : Reads) (i : ℕ) where
+  leaf-effect : (t : ℕ) (l : Leaf) → perform (leafReading s r i t l) c ≡ leaving c (resizedAt s c i t r l)
+  unfolding perform leafReading
+  leaf-effect t (made x b) = refl
+  leaf-effect t (kept x) = ap (λ d. leaving d (resizedAt s c i t r (kept x))) (state-same c x)
+
+  resize-effect : (x : Slot) → perform (resizing s r i x) c ≡ leaving c (resizedFor s c i r x)
+  unfolding perform resizing
+  resize-effect empty = refl
+  resize-effect (announced u t) = leaf-effect t (leafOf (r .copy) (account u))
+
+-- ---- a worker's step
+
+-- a worker by its parts
+abbrev doing : Option Operation → ℕ → ℕ → Reads → Worker
+doing q t i r = record { last = t; operation = q; steps = i; reads = r }
+
+module _ (s : Settings) (j : ℕ) (c : Cells) where
+  -- effect x is a transition of worker w's task
+  abbrev Links : Worker → Effect Cells → Type 0
+  Links w x =
+      Transition s j c (taskOf (s .workers) w) (x .contents) (taskOf (s .workers) (counted w (x .reads) (x .answer))) (x .answer)
+
+  -- the step of worker w for operation o is one, where there is a step to come
+  abbrev Linked : Operation → Worker → Type 0
+  Linked o w = (taskOf (s .workers) w .pc ≡ over → ⊥) → Links w (perform (access s j w o) c)
+
+  lookup-linked : (a t i : ℕ) (r : Reads) → Linked (lookup a) (doing (some (lookup a)) t i r)
+  unfolding access lookupAccess directoryReading perform counted
+  lookup-linked a t zero r early = rw directory-same (looks refl)
+  lookup-linked a t (suc zero) r early = rw state-same (finds refl)
+  lookup-linked a t (suc (suc i)) r early = absurd (early refl)
+
+  module _ (u : Update) (t i : ℕ) (r : Reads) where
+    abbrev me : Worker
+    me = doing (some (update u)) t i r
+
+    abbrev task : Task
+    task = taskOf (s .workers) me
+
+    -- the update goes on at place pc, with cells d and reads q
+    abbrev To : Cells → Reads → PC → Type 0
+    To d q pc = Transition s j c task d (goes task pc q) none
+
+    -- the worker stands at place pc, a step of an update
+    record Stands (pc : PC) : Type 0 where
+      at : counter (s .workers) i ≡ pc
+      next : counter (s .workers) (suc i) ≡ after (s .workers) pc
+      within : Within (s .workers) pc
+      proper : Proper pc
+      early : pc ≡ over → ⊥
+
+    -- a step without answer, by the cells that it leaves and the place that comes next
+    moves : {d′ d : Cells} {q : Reads} {pc : PC} → d′ ≡ d → counter (s .workers) (suc i) ≡ pc → To d q pc → Links me (leaving d′ q)
+    unfolding counted
+    moves e f x = rw (e, f) x
+
+    check-links :
+        (p x : Two) → Stands (checkS p x) → (a : Option Answer) → checked s j t (held task .depth) (body c (held task)) ≡ a
+        → Links me (record { contents = c; reads = r; answer = a })
+    unfolding counted
+    check-links p x h none e = moves refl (h .next ∙ after-check (s .workers) p x) (passes p x (h .at) e)
+    check-links p x h (some a) e = answers p x a (h .at) e
+
+    update-links : (pc : PC) → Stands pc → Links me (perform (updateAccess s j r u t (phaseOf pc)) c)
+    unfolding perform updateAccess announcing directoryReading flipping stateReading toggleReading slotReading stateSwapping swapped
+        stateChecking directoryCopying directorySwapping redirected
+    update-links idle h = absurd (h .proper)
+    update-links look₁ h = absurd (h .proper)
+    update-links look₂ h = absurd (h .proper)
+    update-links over h = absurd (h .early refl)
+    update-links announce h = moves refl (h .next) (announces u (h .at) refl)
+    update-links (readD p) h = moves (directory-same c) (h .next) (readsD p (h .at))
+    update-links (flip p) h = moves refl (h .next) (flips p (h .at))
+    update-links (inB p x readS) h = moves (state-same c _) (h .next) (readsS p x (h .at))
+    update-links (inB p x readT) h = moves (toggle-same c _) (h .next) (readsT p x (h .at))
+    update-links (inB p x (slotB m)) h =
+        moves (slot-same c m) (h .next) (lt-elim (To c _) (suc m) (s .workers) _ _ (slotsB p x m (h .at)) (lastB p x m (h .at)))
+    update-links (inB p x swap) h =
+        moves refl (h .next ∙ after-swap (s .workers) p x)
+        (eq-elim (λ v. To (assignState c (held task) v) r (afterB p x)) _ _ _ _
+        (λ e. swaps p x (h .at) (sym e))
+        (λ e. rw state-same (misses p x (h .at) (λ f. e (sym f)))))
+    update-links (checkD p x) h = moves (directory-same c) (h .next) (checksD p x (h .at))
+    update-links (checkS p x) h = rw state-same (check-links p x h _ refl)
+    update-links (inD p x copyD) h = moves (directory-same c) (h .next) (copies p x (h .at))
+    update-links (inD p x (slotD m)) h =
+        moves (slot-same c m) (h .next) (lt-elim (To c _) (suc m) (s .workers) _ _ (slotsD p x m (h .at)) (lastD p x m (h .at)))
+    update-links (inD p x (state m)) h =
+        rw resize-effect
+        (moves refl (h .next) (lt-elim (To c _) (suc m) (s .workers) _ _ (resizes p x m (h .at)) (lastState p x m (h .at) (h .within))))
+    update-links (inD p x swapD) h =
+        moves refl (h .next ∙ after-redirect (s .workers) p x)
+        (eq-elim (λ v. To (direct c v) r (afterD p x)) _ _ _ _
+        (λ e. redirects p x (h .at) (sym e))
+        (λ e. rw directory-same (missesD p x (h .at) (λ f. e (sym f)))))
+
+  linked : 1 ≤ s .workers → (o : Operation) (t i : ℕ) (r : Reads) → Linked o (doing (some o) t i r)
+  unfolding access
+  linked h (lookup a) t i r early = lookup-linked a t i r early
+  linked h (update u) t i r early =
+      rw counter-phase
+      (update-links u t i r (counter (s .workers) i) (record {
+        at = refl;
+        next = counter-after (s .workers) i h;
+        within = counter-within (s .workers) i;
+        proper = counter-proper (s .workers) i;
+        early = early;
+      }))
+
+pub step-transition :
+    (s : Settings) (m : Machine) (j : ℕ) (o : Operation) → 1 ≤ s .workers → m .workers j .operation ≡ some o → (tasksOf s m j .pc ≡ over → ⊥)
+    → Transition s j (m .cells) (tasksOf s m j) (effectOf s m j o .contents) (taskOf (s .workers) (workerAfter s m j o)) (effectOf s m j o .answer)
+step-transition s m j o h e =
+    let w = m .workers j in
+    subst⁻¹ (λ q. Linked s j (m .cells) o (doing q (w .last) (w .steps) (w .reads))) e (linked s j (m .cells) h o (w .last) (w .steps) (w .reads))
+
+-- the tasks after it: only worker j's is another
+pub tasks-after :
+    (s : Settings) (m : Machine) (j : ℕ) (o : Operation)
+    → tasksOf s (done m j (effectOf s m j o) .0) ≡ assign (tasksOf s m) j (taskOf (s .workers) (workerAfter s m j o))
+unfolding done assign
+tasks-after s m j o = fun-ext (λ i. if-ap (taskOf (s .workers)) (eqb i j) (workerAfter s m j o) (m .workers i))

@@ -1,0 +1,308 @@
+-- A swap of the directory that succeeds keeps the invariant.
+-- Rests on what a round makes of a full bucket, on the theory of a change of the shared cells, and on a swap that fails.
+use Prim.Native.Nat.{ℕ, _≤_, _<_}
+use native.Mathlib.Omega.{arith}
+use mathlib.Core.Path.{_≡_, refl, ap, sym, _∙_, subst}
+use mathlib.Core.Logic.{_⊎_, inl, inr}
+use mathlib.Core.Bool.{Bool, true, false, not}
+use mathlib.Core.Option.{Option, none, some}
+use borrow.Author.Tests.{eq-eqb, eqb-true, leb-true, leb-false, not-true}
+use Rattle.interface.specs.declared.Settings.{Settings}
+use Rattle.machine.specs.Choice.{assign}
+use Rattle.machine.specs.Sequential.{Update, account}
+use Rattle.machine.specs.Records.{Name, Body, Bucket, bucketOf, Leaf, kept, made, Copy, Slot, empty, announced, Cells, newBucket}
+use Rattle.machine.specs.BucketPass.{full, splittable, settledAt}
+use Rattle.machine.specs.DirectoryPass.{copyOf, leafOf, nameOf, bodyMade}
+use Rattle.machine.specs.Steps.{created, direct}
+use Rattle.machine.proofs.Base.{no-both, and-true, and-parts}
+use Rattle.machine.proofs.Counter.{Two, one, two, copyD, swapD, slotD, state, PC, look₂, readD, flip, checkD, checkS, inB, inD}
+use Rattle.machine.proofs.Copies.{nameAt, Inside, depthAt, Coherent, within, name-at, splittable-below}
+use Rattle.machine.proofs.Copies.{bodyMade-made, bodyMade-kept, bodyMade-some, bucketOf-directoryOf, coherent-directoryOf}
+use Rattle.machine.proofs.Inv.{Task, about, target, Rounds, HasToggle, SawThere, Past, Late, Known, Covered, resolved}
+use Rattle.machine.proofs.Inv.{leaf, body, leafBody, held, own, DirectoryFresh, Agree, IsMade, Closed, ClosedIn, ClosedSlot, Shut}
+use Rattle.machine.proofs.Inv.{Hold, Grown, Worked, InDirectory, Announced, SlotFacts, ReadFacts, Own, View, Pair, Calm, Inv}
+use Rattle.machine.proofs.Keeping.{goes, saw-toggle, Reading, reading}
+use Rattle.machine.proofs.Resolve.{Fate, stays, gets, due, bodyAt, Made, resolved-ok}
+use Rattle.machine.proofs.Change.{Holds, LastRound, turned, stay, grow, Leads, Changed, Keeps, Splits, Swaps}
+use Rattle.machine.proofs.Change.{kept-same, closed-move, shut-move, own-move, old-move, tickets-move, seen-move, covers-move}
+use Rattle.machine.proofs.Transitions.{afterD, redirectedCells}
+use Rattle.machine.proofs.DirectorySteps.{missedD-ok}
+
+-- ---- where a worker stands
+
+toggle-holds : (pc : PC) → HasToggle pc → Holds pc
+toggle-holds (inB p r x) h = tt
+
+late-holds : (m now : ℕ) (pc : PC) → Late m now pc → Holds pc
+late-holds m now (inB p r x) h = tt
+
+-- past the last directory read, everybody has read its update and splits its bucket
+last-covered : (m now : ℕ) (pc : PC) → LastRound pc → Covered m now pc × Known m now pc
+last-covered m now (inD one r x) h = absurd (h .0)
+last-covered m now (inD two one x) h = absurd (h .0)
+last-covered m now (inD two two copyD) h = absurd (h .1)
+last-covered m now (inD two two swapD) h = (tt, tt)
+last-covered m now (inD two two (slotD l)) h = (tt, tt)
+last-covered m now (inD two two (state l)) h = (tt, tt)
+
+module _ (s : Settings) (c : Cells) (j : ℕ) (k : Task) where
+  holds-hold : (pc : PC) → Holds pc → ReadFacts s pc c j k → Hold s c j k
+  holds-hold look₂ h f = f
+  holds-hold (flip p) h f = f .0
+  holds-hold (checkS p x) h f = f .0
+  holds-hold (inB p r x) h f = f .hold
+
+  known-announced : (m now : ℕ) (pc : PC) → Known m now pc → SlotFacts s pc c j k → Announced s c j k
+  known-announced m now (readD p) h f = f
+  known-announced m now (flip p) h f = f
+  known-announced m now (checkD p x) h f = f
+  known-announced m now (checkS p x) h f = f
+  known-announced m now (inB p r x) h f = f
+  known-announced m now (inD p r x) h f = f
+
+-- what a round of task k makes of account a's bucket, where it splits it
+abbrev pub remade : Settings → Cells → Task → ℕ → Copy
+remade s c k a = resolved s (leaf c a) (leafBody c a) (k .reads .slots) (s .workers)
+
+-- ---- a swap that succeeds
+
+module _
+    (s : Settings) (small : s .depth ≤ 32) (w : ℕ) (wn : w < s .workers) (c : Cells) (tasks : ℕ → Task) (i : Inv s c tasks) (p r : Two)
+    (here : tasks w .pc ≡ inD p r swapD) (fresh : DirectoryFresh c (tasks w))
+  where
+    abbrev k : Task
+    k = tasks w
+
+    abbrev copy : Copy
+    copy = k .reads .copy
+
+    abbrev c′ : Cells
+    c′ = redirectedCells c k
+
+    mine : InDirectory s p r swapD c w k
+    mine = subst (λ pc. ReadFacts s pc c w k) here (i .own w wn .read)
+
+    coherent : Coherent (s .depth) copy
+    coherent = mine .read .0 .coherent
+
+    pub worked : (a : ℕ) → Worked s c k a
+    worked = mine .read .1 fresh
+
+    -- account a's bucket is split
+    abbrev Split : ℕ → Type 0
+    Split a = Grown s (k .reads .slots) (leaf c a) (leafBody c a) a (leafOf copy a)
+
+    inside : (a : ℕ) → Inside (leaf c a) a
+    unfolding leafOf copyOf bucketOf
+    inside a = i .directory .named a
+
+    shared : (a e : ℕ) → Inside (leaf c a) e → leaf c e ≡ leaf c a
+    unfolding leafOf copyOf bucketOf
+    shared a e h = ap nameOf (i .directory .shared a e h)
+
+    pub remade-ok : (a : ℕ) → Made s (leaf c a) (leafBody c a) (k .reads .slots) (s .workers) (remade s c k a)
+    unfolding leafOf copyOf bucketOf
+    remade-ok a =
+        let d = i .directory in
+        resolved-ok s small (leaf c a) a (name-at d a) (omega (arith, within d a, d .bound)) (leafBody c a) (k .reads .slots) (s .workers)
+
+    -- ---- the buckets afterwards
+
+    leaf-is : (a : ℕ) → leaf c′ a ≡ nameOf (leafOf copy a)
+    unfolding direct
+    leaf-is a = bucketOf-directoryOf copy a
+
+    bucket-is : (x : Name) → c′ .buckets x ≡ created (c .buckets x) (bodyMade copy x)
+    unfolding direct
+    bucket-is x = refl
+
+    -- a bucket no deeper than its account's is not touched
+    untouched : (d a : ℕ) → d ≤ leaf c a .depth → c′ .buckets (nameAt d a) ≡ c .buckets (nameAt d a)
+    untouched d a l = bucket-is (nameAt d a) ∙ go (bodyMade copy (nameAt d a)) refl
+      where
+        no-body : (b : Body) → leafOf copy a ≡ made (nameAt d a) b → Worked s c k a → ⊥
+        no-body b e (inl f) = subst IsMade (sym e ∙ f) tt
+        no-body b e (inr g) = omega (arith, g .deeper, ap (λ (y : Leaf). nameOf y .depth) e)
+
+        go : (o : Option Body) → bodyMade copy (nameAt d a) ≡ o → created (c .buckets (nameAt d a)) o ≡ c .buckets (nameAt d a)
+        go none e = refl
+        go (some b) e = absurd (no-body b (bodyMade-some small coherent (nameAt d a) b e a refl) (worked a))
+
+    -- an account's bucket that is not split
+    pub leaf-old : (a : ℕ) → leafOf copy a ≡ kept (leaf c a) → (leaf c′ a ≡ leaf c a) × (leafBody c′ a ≡ leafBody c a)
+    leaf-old a e =
+        let n : leaf c′ a ≡ leaf c a = leaf-is a ∙ ap nameOf e in
+        let b = bucket-is (leaf c a) ∙ ap (created (c .buckets (leaf c a))) (bodyMade-kept small coherent a (leaf c a) e) in
+        (n, ap (body c′) n ∙ ap (λ (x : Bucket). x .state .value .body) b)
+
+    -- and one that is
+    pub leaf-new : (a : ℕ) → Split a → (leaf c′ a ≡ nameOf (leafOf (remade s c k a) a)) × (leafBody c′ a ≡ bodyAt (remade s c k a) a)
+    unfolding newBucket
+    leaf-new a g =
+        let x : Name = nameAt (depthAt (remade s c k a) a) a in
+        let l : leafOf copy a ≡ made x (bodyAt (remade s c k a) a) = g .is ∙ remade-ok a .stands a (inside a) in
+        let b = bucket-is x ∙ ap (created (c .buckets x)) (bodyMade-made small coherent a x _ l) in
+        (leaf-is a ∙ ap nameOf (g .is), ap (body c′) (leaf-is a ∙ ap nameOf l) ∙ ap (λ (y : Bucket). y .state .value .body) b)
+
+    -- ---- the change
+
+    -- what is taken into a bucket that is split is what stands in the slot
+    pub taken-real :
+        (a j : ℕ) → leaf c a .depth < s .depth → j < s .workers → due (leaf c a) (leafBody c a) j (k .reads .slots j) ≡ true
+        → k .reads .slots j ≡ c .slots j
+    unfolding settledAt
+    taken-real a j l jn d = go (i .view j w jn wn .old)
+      where
+        not-closed : (x : Slot) → due (leaf c a) (leafBody c a) j x ≡ true → ClosedSlot s c j x → ⊥
+        not-closed empty e h = no-both e refl
+        not-closed (announced u t) e h =
+            let y : leaf c (account u) ≡ leaf c a = shared a (account u) (eqb-true _ _ (and-parts _ _ e .0)) in
+            go (subst (λ x. Closed s j t (x .depth) (body c x)) y h)
+          where
+            go : Closed s j t (leaf c a .depth) (leafBody c a) → ⊥
+            go (inl y) = omega (arith, leb-false t (leafBody c a .settled j .ticket) (not-true _ (and-parts _ _ e .1)))
+            go (inr y) = omega (arith, y .1)
+
+        go : (k .reads .slots j ≡ c .slots j) ⊎ ClosedSlot s c j (k .reads .slots j) → k .reads .slots j ≡ c .slots j
+        go (inl e) = e
+        go (inr h) = absurd (not-closed (k .reads .slots j) d h)
+
+    evolves : (a : ℕ) → Leads s c c′ a
+    unfolding splittable
+    evolves a = go (worked a)
+      where
+        real :
+            leaf c a .depth < s .depth → (b : Body) (j : ℕ)
+            → Fate (leafBody c a) b (k .reads .slots j) ((j < s .workers) × (due (leaf c a) (leafBody c a) j (k .reads .slots j) ≡ true)) j
+            → Fate (leafBody c a) b (c .slots j) (Unit {0}) j
+        real d b j (stays e) = stays e
+        real d b j (gets h l e) = let z = taken-real a j d (h .0) (h .1) in gets tt (rw z at l) (rw z at e)
+
+        go : Worked s c k a → Leads s c c′ a
+        go (inl e) = let z = leaf-old a e in stay (z .0) (λ j. stays (ap (λ (b : Body). b .settled j) (z .1))) (λ h. z .1)
+        go (inr g) =
+            let d = splittable-below s (leaf c a .depth) (leafBody c a) (g .splits) in
+            grow (rw (leaf-is a) (g .deeper)) (and-parts _ _ (g .splits) .0) d
+            (λ j. rw (leaf-new a g .1) (real d _ j (remade-ok a .fate a j (inside a))))
+
+    later : c .directory .stamp < c′ .directory .stamp
+    unfolding direct
+    later = omega arith
+
+    pub changed : Changed s c c′
+    unfolding direct
+    changed = record { slots = refl; turn = turned later; evolves = evolves }
+
+    -- ---- the workers
+
+    -- an update that was read, and whose bucket is split, is closed
+    serves : (j t : ℕ) (u : Update) → j < s .workers → k .reads .slots j ≡ announced u t → Split (account u) → ClosedIn s c′ j t (account u)
+    unfolding settledAt
+    serves j t u jn e g = go (settledAt (leafBody c (account u)) j t) refl
+      where
+        served :
+            (bodyAt (remade s c k (account u)) (account u) .settled j .ticket ≡ t)
+            ⊎ ((full s (bodyAt (remade s c k (account u)) (account u)) ≡ true) × (depthAt (remade s c k (account u)) (account u) ≡ s .depth))
+            → ClosedIn s c′ j t (account u)
+        served (inl h) = inl (rw (leaf-new (account u) g .1) (omega arith))
+        served (inr h) = inr (rw (leaf-new (account u) g .1) (h .0), rw (leaf-new (account u) g .0) (h .1))
+
+        go : (v : Bool) → settledAt (leafBody c (account u)) j t ≡ v → ClosedIn s c′ j t (account u)
+        go true h = closed-move s c c′ changed j (announced u t) (inl (leb-true t _ h))
+        go false h = served (remade-ok (account u) .served j t u jn e (rw e (and-true (eq-eqb _ _ (inside (account u))) (ap not h))))
+
+    module _ (j : ℕ) (jn : j < s .workers) where
+      abbrev q : Task
+      q = tasks j
+
+      abbrev KnownNow : Type 0
+      KnownNow = Known (q .reads .directory .stamp) (c .directory .stamp) (q .pc)
+
+      -- the bucket that a worker holds is not touched
+      pub own-same : Holds (q .pc) → own c′ q ≡ own c q
+      own-same h =
+          let o = holds-hold s c j q (q .pc) h (i .own j jn .read) in
+          subst (λ x. c′ .buckets x ≡ c .buckets x) (sym (o .named)) (untouched (held q .depth) (target q) (o .depth))
+
+      -- a worker whose update everybody has read, and whose bucket is split, is served
+      shut-split : KnownNow → Split (target q) → Shut s c′ j q
+      shut-split l g =
+          let a = known-announced s c j q _ _ (q .pc) l (i .own j jn .slot) in
+          let e : target q ≡ account (a .wanted) = ap about (a .asks) in
+          let x = i .pair j w jn wn .seen l (subst (SawThere (s .workers) j) (sym here) jn) fresh in
+          subst (ClosedIn s c′ j (q .ticket)) (sym e) (serves j (q .ticket) (a .wanted) jn (x ∙ a .slot) (subst Split e g))
+
+      own-kept : Own s c′ j q
+      own-kept = own-move s c c′ changed j q (i .own j jn) kept shut last
+        where
+          kept : Keeps s c c′ j q (q .pc)
+          kept h = let e = own-same h in kept-same s (ap (λ (x : Bucket). x .state) e) (λ f. ap (λ (x : Bucket). x .toggle j) e)
+
+          split : KnownNow → leaf c (target q) .depth < leaf c′ (target q) .depth → Worked s c k (target q) → Shut s c′ j q
+          split l d (inl e) = absurd (omega (arith, ap (λ (x : Name). x .depth) (leaf-old (target q) e .0)))
+          split l d (inr g) = shut-split l g
+
+          shut : Splits s c c′ j q (q .pc)
+          shut l d = split l d (worked (target q))
+
+          covered : KnownNow → IsMade (leafOf copy (target q)) ⊎ Shut s c j q → Worked s c k (target q) → Shut s c′ j q
+          covered l (inl y) (inl e) = absurd (subst IsMade e y)
+          covered l (inl y) (inr g) = shut-split l g
+          covered l (inr y) f = shut-move s c c′ changed j q y
+
+          last : Swaps s c c′ j q (q .pc)
+          last h f =
+              let v = last-covered (q .reads .directory .stamp) (c .directory .stamp) (q .pc) h in
+              inr (covered (v .1) (i .pair j w jn wn .covers (v .0) (subst (Past (s .workers) j) (sym here) jn) fresh) (worked (target q)))
+
+      calm-kept : (x : Name) → Calm s j c′ q x
+      unfolding newBucket
+      calm-kept x = rw (bucket-is x) (go (bodyMade copy x))
+        where
+          go : (o : Option Body) → Agree (created (c .buckets x) o) j ⊎ (Rounds (q .pc) × (held q ≡ x))
+          go none = i .calm x j jn
+          go (some b) = inl refl
+
+    module _ (j m : ℕ) (jn : j < s .workers) (mn : m < s .workers) where
+      toggle-same : HasToggle (tasks m .pc) → own c′ (tasks m) ≡ own c (tasks m)
+      toggle-same h = own-same m mn (toggle-holds (tasks m .pc) h)
+
+      view-kept : View s j c′ (tasks m)
+      unfolding direct
+      view-kept =
+          let v = i .view j m jn mn in
+          record {
+            bit = λ h. let e = toggle-same h in rw e (v .bit h);
+            slot = λ h. let e = toggle-same (saw-toggle (s .workers) j (tasks m .pc) h) in rw e (v .slot h);
+            old = old-move s c c′ changed j (tasks m) (v .old);
+          }
+
+      pair-kept : Pair s j c′ (tasks j) (tasks m)
+      pair-kept =
+          let o = i .pair j m jn mn in
+          record {
+            rush = λ l d e h f.
+                let x = own-same j jn (late-holds (tasks j .reads .state .stamp) (own c′ (tasks j) .state .stamp) (tasks j .pc) l) in
+                let y = toggle-same h in
+                rw x (o .rush (rw x at l) (rw x at d) e h (rw y at f));
+            seen = seen-move s c c′ changed j m (tasks j) (tasks m) (i .own m mn) o;
+            covers = covers-move s c c′ changed j m (tasks j) (tasks m) (i .own m mn) o;
+          }
+
+    -- the cells changed, nobody moved
+    pub redirect-kept : Inv s c′ tasks
+    unfolding direct
+    redirect-kept = record {
+      directory = coherent-directoryOf copy coherent;
+      tickets = tickets-move s c c′ changed (i .tickets);
+      calm = λ x j jn. calm-kept j jn x;
+      own = own-kept;
+      view = view-kept;
+      pair = pair-kept;
+    }
+
+    -- the directory is no longer the one that the worker has read, so it goes on as after a swap that fails
+    pub redirect-ok : Inv s c′ (assign tasks w (goes k (afterD p r) (k .reads)))
+    redirect-ok = reading s w wn c′ tasks (goes k (afterD p r) (k .reads)) redirect-kept
+        (subst (λ pc. Reading s w c′ (goes k pc (k .reads)) (goes k (afterD p r) (k .reads))) (sym here)
+        (missedD-ok s w c′ k p r (λ e. omega (arith, later))))
