@@ -23,3 +23,13 @@ pub mod Steplink
 pub mod Tasks
 pub mod Feed
 pub mod Explain
+pub mod Statuses
+pub mod ExplainSteps
+pub mod ExplainSwap
+pub mod Woods
+pub mod Overtaken
+pub mod ExplainRedirect
+pub mod StepExplained
+pub mod Advance
+pub mod Places
+pub mod Claim

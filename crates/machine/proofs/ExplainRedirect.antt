@@ -1,0 +1,281 @@
+-- A directory swap that succeeds is explained by the plain table: the lookups that it overtakes take effect first, then the updates that
+-- it carries out, in worker order. Rests on what a round makes of a full bucket, on a copy for each bucket, and on the invariant.
+use Prim.Native.Nat.{ℕ, zero, suc, _≤_, _<_}
+use native.Mathlib.Omega.{arith}
+use mathlib.Core.Path.{_≡_, refl, ap, sym, _∙_, subst, fun-ext}
+use mathlib.Core.Logic.{_⊎_, inl, inr}
+use mathlib.Core.Bool.{Bool, true, false}
+use mathlib.Core.List.{[]}
+use mathlib.Core.Option.{none, some}
+use borrow.Author.Tests.{eqb-true, not-true}
+use Rattle.interface.specs.declared.Settings.{Settings}
+use Rattle.machine.specs.Choice.{if_then_else_, _and_, assign}
+use Rattle.machine.specs.Sequential.{Table, Update, account, update}
+use Rattle.machine.specs.Records.{Name, Body, bucketOf, Leaf, kept, made, Copy, Slot, empty, announced, Cells}
+use Rattle.machine.specs.DirectoryPass.{copyOf, leafOf, nameOf, takeUpdate, takeSlot, takeSlots}
+use Rattle.machine.specs.History.{Member}
+use Rattle.machine.proofs.Base.{no-both, if-elim, if-true, if-false, if-same, if-eq, and-true, and-parts}
+use Rattle.machine.proofs.Counter.{Two, one, two, PC, look₂, swapD, inD}
+use Rattle.machine.proofs.Cells.{same-elim}
+use Rattle.machine.proofs.Copies.{nameAt, Inside, leaf-plant, Coherent, splittable-below}
+use Rattle.machine.proofs.Inv.{Task, target, uniform, resolved, leaf, body, leafBody, own, DirectoryFresh, ClosedSlot, Hold, Grown}
+use Rattle.machine.proofs.Inv.{Worked, InDirectory, Announced, Looking, SlotFacts, ReadFacts, Inv}
+use Rattle.machine.proofs.Keeping.{goes}
+use Rattle.machine.proofs.Transitions.{afterD, redirectedCells}
+use Rattle.machine.proofs.Splitting.{due-unsettled}
+use Rattle.machine.proofs.Resolve.{due, bodyOf, Made, resolved-ok}
+use Rattle.machine.proofs.Change.{Leads}
+use Rattle.machine.proofs.SwapDirectory.{worked, remade-ok, leaf-old, leaf-new, taken-real, changed, own-same}
+use Rattle.machine.proofs.Explain.{Parts, lookupStatus, statusAt, status, Explained}
+use Rattle.machine.proofs.Statuses.{UnderWay, by-place, under-announced, outcome-goes, Grove, coherent-grove, Waits, waits-status}
+use Rattle.machine.proofs.Statuses.{told-none, told-parts, told-gained, told-others}
+use Rattle.machine.proofs.Woods.{leaves, graft, Wood, Stage, later, taking}
+use Rattle.machine.proofs.Overtaken.{looked-up, Passed, tale}
+
+-- ---- places, leaves and slots
+
+after-under : (p r : Two) → UnderWay (afterD p r)
+after-under p one = tt
+after-under p two = tt
+
+-- made in the round
+abbrev isMade : Leaf → Bool
+isMade (kept x) = false
+isMade (made x b) = true
+
+-- a slot that is not due is not taken
+take-not : (s : Settings) (x : Name) (b : Body) (j : ℕ) (o : Slot) (C : Copy) → (due x b j o ≡ true → ⊥) → takeSlot s x b j o C ≡ C
+unfolding takeSlot
+take-not s x b j empty C n = refl
+take-not s x b j (announced u tk) C n = if-elim (λ (D : Copy). D ≡ C) (due x b j (announced u tk)) _ C (λ d. absurd (n d)) (λ d. refl)
+
+module _
+    (s : Settings) (small : s .depth ≤ 32) (w : ℕ) (wn : w < s .workers) (c : Cells) (tasks : ℕ → Task) (i : Inv s c tasks) (p r : Two)
+    (here : tasks w .pc ≡ inD p r swapD) (fresh : DirectoryFresh c (tasks w)) (t : Table) (parts : Parts c t)
+  where
+    abbrev k : Task
+    k = tasks w
+
+    abbrev copy : Copy
+    copy = k .reads .copy
+
+    abbrev slots : ℕ → Slot
+    slots = k .reads .slots
+
+    abbrev c′ : Cells
+    c′ = redirectedCells c k
+
+    grove : Grove s (leaf c)
+    unfolding leafOf copyOf bucketOf
+    grove = coherent-grove (i .directory)
+
+    coherent : Coherent (s .depth) copy
+    coherent =
+        let mine : InDirectory s p r swapD c w k = subst (λ (pc : PC). ReadFacts s pc c w k) here (i .own w wn .read) in
+        mine .read .0 .coherent
+
+    works : (a : ℕ) → Worked s c k a
+    works = worked s small w wn c tasks i p r here fresh
+
+    -- the swap splits account a's bucket
+    abbrev splits : ℕ → Bool
+    splits a = isMade (leafOf copy a)
+
+    -- what the round makes of account a's bucket, if it splits it, once the slots of the workers below j are taken
+    abbrev wood : ℕ → ℕ → Copy
+    wood j a = resolved s (leaf c a) (leafBody c a) slots (if splits a then j else 0)
+
+    wood-made : (j a : ℕ) → Made s (leaf c a) (leafBody c a) slots (if splits a then j else 0) (wood j a)
+    wood-made j a =
+        let named : leaf c a ≡ nameAt (leaf c a .depth) a = λ q. record { depth = leaf c a .depth; prefix = sym (grove .named a) q } in
+        resolved-ok s small (leaf c a) a named (grove .bound a) (leafBody c a) slots _
+
+    -- ---- the buckets that are split
+
+    grown-splits : (a : ℕ) → Grown s slots (leaf c a) (leafBody c a) a (leafOf copy a) → splits a ≡ true
+    grown-splits a g = ap isMade (g .is ∙ remade-ok s small w wn c tasks i p r here fresh a .stands a (grove .named a))
+
+    splits-same : (a e : ℕ) → leaf c e ≡ leaf c a → splits e ≡ splits a
+    splits-same a e q = go (works a) (works e)
+      where
+        not-split : (a e : ℕ) → leaf c e ≡ leaf c a → leafOf copy a ≡ kept (leaf c a) → splits e ≡ splits a
+        not-split a e q z = ap isMade (coherent .shared a e (rw z (subst (λ (x : Name). Inside x e) q (grove .named e))))
+
+        go : Worked s c k a → Worked s c k e → splits e ≡ splits a
+        go (inl z) y = not-split a e q z
+        go (inr z) (inl y) = sym (not-split e a (sym q) y)
+        go (inr z) (inr y) = grown-splits e y ∙ sym (grown-splits a z)
+
+    wood-ok : (j : ℕ) → Wood s c (wood j)
+    wood-ok j = record {
+      one = λ a e q.
+          ap (λ (x : Name). resolved s x (body c x) slots (if splits e then j else 0)) q
+          ∙ ap (λ (b : Bool). resolved s (leaf c a) (leafBody c a) slots (if b then j else 0)) (splits-same a e q);
+      coherent = λ a. wood-made j a .coherent;
+      low = λ a. wood-made j a .low a (grove .named a);
+    }
+
+    -- worker j's update is taken into account a's bucket
+    abbrev takes : ℕ → ℕ → Bool
+    takes j a = splits a and due (leaf c a) (leafBody c a) j (slots j)
+
+    takes-same : (j a e : ℕ) → leaf c e ≡ leaf c a → takes j e ≡ takes j a
+    takes-same j a e q =
+        ap (λ (x : Name). splits e and due x (body c x) j (slots j)) q
+        ∙ ap (λ (b : Bool). b and due (leaf c a) (leafBody c a) j (slots j)) (splits-same a e q)
+
+    -- what is taken into a bucket is of it
+    home : (j a : ℕ) {u : Update} {tk : ℕ} → slots j ≡ announced u tk → takes j a ≡ true → leaf c (account u) ≡ leaf c a
+    home j a at x = grove .shared a _ (eqb-true _ _ (and-parts _ _ (rw at at (and-parts _ _ x .1)) .0))
+
+    wood-next : (j a : ℕ) → splits a ≡ true → wood (suc j) a ≡ takeSlot s (leaf c a) (leafBody c a) j (slots j) (wood j a)
+    unfolding resolved takeSlots
+    wood-next j a e = rw (if-true (suc j) 0 e, if-true j 0 e)
+
+    wood-idle : (j a : ℕ) → (takes j a ≡ true → ⊥) → wood (suc j) a ≡ wood j a
+    wood-idle j a n = go (splits a) refl
+      where
+        go : (b : Bool) → splits a ≡ b → wood (suc j) a ≡ wood j a
+        go true x = wood-next j a x ∙ take-not s (leaf c a) (leafBody c a) j (slots j) (wood j a) (λ d. n (and-true x d))
+        go false x = rw (if-false (suc j) 0 x, if-false j 0 x)
+
+    -- ---- the updates, in worker order
+
+    -- the updates of the workers below j have been taken
+    abbrev At : ℕ → Type 0
+    At j = Stage s c tasks t (leaves (wood j)) j
+
+    stage-to : {F : ℕ → Leaf} {j : ℕ} (H : ℕ → Copy) → ((a : ℕ) → leaves H a ≡ F a) → Stage s c tasks t F j → Stage s c tasks t (leaves H) j
+    stage-to {j = j} H q = subst (λ (f : ℕ → Leaf). Stage s c tasks t f j) (fun-ext (λ a. sym (q a)))
+
+    idle : (j : ℕ) → ((a : ℕ) → takes j a ≡ true → ⊥) → At j → At (suc j)
+    idle j n q = stage-to (wood (suc j)) (λ a. ap (λ (C : Copy). leafOf C a) (wood-idle j a (n a))) (later q)
+
+    -- worker j's update u is taken
+    module _ (j : ℕ) (jn : j < s .workers) (u : Update) (tk : ℕ) (at : slots j ≡ announced u tk) (x : takes j (account u) ≡ true) where
+      owed : due (leaf c (account u)) (leafBody c (account u)) j (announced u tk) ≡ true
+      owed = rw at at (and-parts _ _ x .1)
+
+      low : leaf c (account u) .depth < s .depth
+      low = elim (works (account u)) [
+        | inl z ↦ absurd (no-both (and-parts _ _ x .0) (ap isMade z))
+        | inr z ↦ splittable-below s (leaf c (account u) .depth) (leafBody c (account u)) (z .splits)
+      ]
+
+      real : c .slots j ≡ announced u tk
+      real = sym (taken-real s small w wn c tasks i p r here fresh (account u) j low jn (and-parts _ _ x .1)) ∙ at
+
+      unclosed : ClosedSlot s c j (c .slots j) → ⊥
+      unclosed h = elim (subst (ClosedSlot s c j) real h) [
+        | inl y ↦ omega (arith, due-unsettled (leaf c (account u)) (leafBody c (account u)) j (announced u tk) owed)
+        | inr y ↦ omega (arith, y .1, low)
+      ]
+
+      under : UnderWay (tasks j .pc)
+      under = by-place (λ (pc : PC). SlotFacts s pc c j (tasks j) → UnderWay pc)
+          (λ f. unclosed (f .1)) (λ f. unclosed (f .closed)) (λ f. unclosed (f .closed)) (λ f. unclosed (f .closed)) (λ f. f) (λ pc h f. h)
+          (tasks j .pc) (i .own j jn .slot)
+
+      ann : Announced s c j (tasks j)
+      ann = under-announced s c j (tasks j) (tasks j .pc) under (i .own j jn .slot)
+
+      slot : announced u tk ≡ announced (ann .wanted) (tasks j .ticket)
+      slot = sym real ∙ ann .slot
+
+      ticket : tk ≡ tasks j .ticket
+      ticket = cc slot
+
+      waits : Waits s c tasks j
+      waits = record {
+        below = jn;
+        under = under;
+        wanted = u;
+        asks = let z : ann .wanted ≡ u = cc slot in ann .asks ∙ ap (λ (v : Update). some (update v)) z;
+        unsettled = rw (← ticket) (not-true _ (and-parts _ _ owed .1));
+      }
+
+      busy : At j → At (suc j)
+      unfolding takeSlot waits
+      busy q = stage-to (wood (suc j)) (λ a. ap (λ (C : Copy). leafOf C a) (next a)) (taking s small c tasks t grove (wood j) (wood-ok j) j waits q)
+        where
+          C : Copy
+          C = takeUpdate s j u (tasks j .ticket) (wood j (account u))
+
+          next : (a : ℕ) → wood (suc j) a ≡ graft c (account u) C (wood j) a
+          next a = same-elim (λ (D : Copy). wood (suc j) a ≡ D) (leaf c a) (leaf c (account u)) C (wood j a)
+              (λ q. wood-ok (suc j) .one (account u) a q ∙ wood-next j (account u) (and-parts _ _ x .0) ∙ rw (at, ← ticket) (if-true _ _ owed))
+              (λ n. wood-idle j a (λ y. n (sym (home j a at y))))
+
+    step : (j : ℕ) → j < s .workers → (o : Slot) → slots j ≡ o → At j → At (suc j)
+    step j jn empty at q = idle j (λ a x. no-both (and-parts _ _ x .1) (rw at refl)) q
+    step j jn (announced u tk) at q = go (takes j (account u)) refl
+      where
+        go : (b : Bool) → takes j (account u) ≡ b → At (suc j)
+        go true x = busy j jn u tk at x q
+        go false x = idle j (λ a y. no-both (takes-same j a (account u) (home j a at y) ∙ y) x) q
+
+    first-leaf : (a : ℕ) → leafOf (resolved s (leaf c a) (leafBody c a) slots 0) a ≡ made (leaf c a) (leafBody c a)
+    unfolding resolved takeSlots
+    first-leaf a =
+        leaf-plant (leaf c a) _ (uniform (leaf c a .depth)) a (omega arith) (omega (arith, grove .bound a)) ∙ if-eq _ _ _ _ (grove .named a)
+
+    stages : (j : ℕ) → j ≤ s .workers → At j
+    stages zero l = stage-to {F = λ a. made (leaf c a) (leafBody c a)} (wood 0) (λ a. rw (if-same {A = ℕ} (splits a) 0) (first-leaf a))
+        (record { effects = []; below = λ j m. absurd m; told = told-none s c tasks t parts })
+    stages (suc j) l = step j (omega arith) (slots j) refl (stages j (omega arith))
+
+    -- the cells after the swap hold what it has made
+    holds : (a : ℕ) → (leaf c′ a ≡ nameOf (leaves (wood (s .workers)) a)) × (leafBody c′ a ≡ bodyOf (leaves (wood (s .workers)) a))
+    unfolding if_then_else_
+    holds a = go (works a)
+      where
+        go : Worked s c k a → (leaf c′ a ≡ nameOf (leaves (wood (s .workers)) a)) × (leafBody c′ a ≡ bodyOf (leaves (wood (s .workers)) a))
+        go (inl z) = rw (ap isMade z, first-leaf a) (leaf-old s small w wn c tasks i p r here fresh a z)
+        go (inr z) = rw (grown-splits a z) (leaf-new s small w wn c tasks i p r here fresh a z)
+
+    -- ---- the whole swap
+
+    updates : At (s .workers)
+    updates = stages (s .workers) (omega arith)
+
+    -- a worker whose update is not carried out has had what it had, or is a lookup that is overtaken
+    verdict : (j : ℕ) → j < s .workers → (Member j (updates .effects) → ⊥)
+        → Passed s c c′ tasks t j ⊎ (status c′ j (tasks j) ≡ status c j (tasks j))
+    verdict j jn n = by-place
+        (λ (pc : PC). tasks j .pc ≡ pc → Passed s c c′ tasks t j ⊎ (statusAt pc c′ j (tasks j) ≡ statusAt pc c j (tasks j)))
+        (λ z. inr refl) (λ z. inr refl) (λ z. inr refl) looks (λ z. inr refl)
+        (λ pc u z. inr (told-others s c tasks (updates .told) c′ (λ a. holds a .1) j pc u n)) (tasks j .pc) refl
+      where
+        looks : tasks j .pc ≡ look₂ → Passed s c c′ tasks t j ⊎ (lookupStatus c′ (tasks j) ≡ lookupStatus c (tasks j))
+        looks z =
+            let same : own c′ (tasks j) ≡ own c (tasks j) = own-same s small w wn c tasks i p r here fresh j jn (rw z tt) in
+            let hold : Hold s c j (tasks j) = subst (λ (pc : PC). ReadFacts s pc c j (tasks j)) z (i .own j jn .read) in
+            let look : Looking s c j (tasks j) = subst (λ (pc : PC). SlotFacts s pc c j (tasks j)) z (i .own j jn .slot) in
+            let lead : Leads s c c′ (target (tasks j)) = changed s small w wn c tasks i p r here fresh .evolves (target (tasks j)) in
+            elim (looked-up s c c′ t parts j (tasks j) lead same hold) [
+              | inl x ↦ inr x
+              | inr x ↦ inl (record { asked = look .wanted; asks = look .asks; waits = rw z (x .0); answered = rw z (x .1) })
+            ]
+
+    pub explained-redirect :
+        Explained s w c (redirectedCells c (tasks w)) tasks (assign tasks w (goes (tasks w) (afterD p r) (tasks w .reads))) none t
+    explained-redirect =
+        let d = updates .told in
+        let q = tale s c c′ tasks t (updates .effects) verdict (record {
+          effects = updates .effects;
+          keeps = λ j m. m;
+          distinct = d .distinct;
+          waiting = λ j m. waits-status s c tasks (d .waits j m);
+          parts = told-parts s c tasks d c′ (λ a. holds a .1) (λ a. holds a .0);
+          gained = told-gained s c tasks d c′ (λ a. holds a .1);
+          others = λ j l. absurd (omega arith);
+        }) (s .workers) (omega arith) in
+        let stays = outcome-goes c′ tasks w (afterD p r) (k .reads) (rw here tt) (after-under p r) in
+        record {
+          effects = q .effects;
+          distinct = q .distinct;
+          waiting = q .waiting;
+          parts = q .parts;
+          gained = λ j a m. stays j ∙ q .gained j a m;
+          others = λ j jn n. stays j ∙ q .others j jn n;
+        }

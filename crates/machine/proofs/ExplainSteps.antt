@@ -1,0 +1,281 @@
+-- Every step but the two successful swaps, explained by the plain table: no bucket's body changes, and at most the worker's own operation
+-- takes effect. Rests on the invariant, on what a check says, and on the laws of feeding.
+use Prim.Native.Nat.{ℕ, _≤_, _<_}
+use native.Mathlib.Omega.{arith}
+use native.Mathlib.Decide.{ℕ-discrete}
+use mathlib.Core.Path.{_≡_, refl, ap, sym, _∙_, subst}
+use mathlib.Core.Logic.{_≢_, _⊎_, inl, inr}
+use mathlib.Core.Bool.{Bool, true, false}
+use mathlib.Core.List.{[], _∷_}
+use mathlib.Core.Option.{Option, none, some}
+use lib.Dec.{eqb}
+use borrow.Author.Tests.{le-leb, lt-leb}
+use Rattle.interface.specs.declared.Settings.{Settings}
+use Rattle.interface.specs.declared.Answer.{Answer}
+use Rattle.machine.specs.Choice.{if_then_else_, assign}
+use Rattle.machine.specs.Sequential.{Table, Update, Operation, update, lookup, firstBits, find, having, looked, crowds}
+use Rattle.machine.specs.Records.{Name, same, Settled, bucketOf, announced, Cells, Reads}
+use Rattle.machine.specs.BucketPass.{checked}
+use Rattle.machine.specs.Steps.{withDirectory, assignSlot, assignBucket, assignToggle}
+use Rattle.machine.specs.History.{Member, fed}
+use Rattle.machine.proofs.Base.{if-true, if-false, if-eq, if-ne, assign-at, assign-other}
+use Rattle.machine.proofs.Cells.{same-true, eq-same, bucket-elim}
+use Rattle.machine.proofs.Counter.{Two, one, two, readS, PC, announce, look₁, look₂, readD, flip, checkS, inB}
+use Rattle.machine.proofs.Copies.{nameAt}
+use Rattle.machine.proofs.Tables.{find-having-in, crowds-full}
+use Rattle.machine.proofs.Inv.{Task, about, target, leaf, body, leafBody, held, Gone, Hold, Announced, Own, Pair, Inv}
+use Rattle.machine.proofs.Keeping.{goes}
+use Rattle.machine.proofs.Transitions.{ended, afterB, afterC, afterD, flippedCells}
+use Rattle.machine.proofs.BucketSteps.{leaf-named, leaf-below, Verdict, settled, crowded, check-settled, unanswered-ok}
+use Rattle.machine.proofs.Explain.{Parts, statusAt, status, outcome, feed, answersOf, Explained}
+use Rattle.machine.proofs.Feed.{fed-lookup, fed-crowded}
+use Rattle.machine.proofs.Statuses.{UnderWay, by-place, entryStatus, status-entry}
+
+-- ---- the status of an operation
+
+pub under-afterB : (p r : Two) → UnderWay (afterB p r)
+under-afterB p one = tt
+under-afterB p two = tt
+
+pub under-afterD : (p r : Two) → UnderWay (afterD p r)
+under-afterD p one = tt
+under-afterD p two = tt
+
+-- an announced update that has had its moment, and one that has not
+entry-settled : (t : ℕ) (e : Settled) → t ≤ e .ticket → entryStatus t e ≡ some (e .answer)
+entry-settled t e l = if-true _ none (le-leb t _ l)
+
+entry-unsettled : (t : ℕ) (e : Settled) → e .ticket < t → entryStatus t e ≡ none
+entry-unsettled t e l = if-false _ none (lt-leb t _ l)
+
+-- what holds of the outcome for the step's worker, and of the statuses of the others, holds of each outcome
+outcome-elim :
+    (P : ℕ → Option Answer → Type 0) (w : ℕ) (c : Cells) (tasks : ℕ → Task) (k : Task) (reply : Option Answer)
+    → P w (outcome reply c w k) → ((j : ℕ) → j ≢ w → P j (status c j (tasks j)))
+    → (j : ℕ) → P j (outcome (if eqb j w then reply else none) c j (assign tasks w k j))
+outcome-elim P w c tasks k reply me others j = go (ℕ-discrete j w)
+  where
+    go : Dec (j ≡ w) → P j (outcome (if eqb j w then reply else none) c j (assign tasks w k j))
+    go (yes e) = rw (if-eq j w reply none e, assign-at tasks w k j e, e) me
+    go (no n) = rw (if-ne j w reply none n, assign-other tasks w k j n) (others j n)
+
+-- ---- cells that differ in slots and toggles at most
+
+record Alike (c c′ : Cells) : Type 0 where
+  directory : c′ .directory ≡ c .directory
+  bodies : (x : Name) → body c′ x ≡ body c x
+
+alike-refl : (c : Cells) → Alike c c
+alike-refl c = record { directory = refl; bodies = λ x. refl }
+
+module _ (c c′ : Cells) (h : Alike c c′) where
+  leaf-alike : (a : ℕ) → leaf c′ a ≡ leaf c a
+  leaf-alike a = ap (λ d. bucketOf (d .value) a) (h .directory)
+
+  leafBody-alike : (a : ℕ) → leafBody c′ a ≡ leafBody c a
+  leafBody-alike a = ap (body c′) (leaf-alike a) ∙ h .bodies (leaf c a)
+
+  parts-alike : (t : Table) → Parts c t → Parts c′ t
+  parts-alike t p = record {
+    ascending = p .ascending;
+    part = λ a. ap (λ b. b .items) (leafBody-alike a) ∙ p .part a
+        ∙ ap (λ x. having (x .depth) (firstBits (x .depth) a) t) (sym (leaf-alike a));
+  }
+
+  status-alike : (j : ℕ) (k : Task) (pc : PC) → statusAt pc c′ j k ≡ statusAt pc c j k
+  status-alike j k = by-place (λ pc. statusAt pc c′ j k ≡ statusAt pc c j k) refl refl refl
+      (λ i. if same (held k) (leaf-alike (target k) i) then none else some (looked (find (h .bodies (held k) i .items) (target k))))
+      refl
+      (λ pc u. status-entry c′ j k pc u ∙ ap (λ b. entryStatus (k .ticket) (b .settled j)) (leafBody-alike (target k))
+      ∙ sym (status-entry c j k pc u))
+
+-- ---- the steps of worker w
+
+module _ (s : Settings) (w : ℕ) (wn : w < s .workers) (c : Cells) (tasks : ℕ → Task) (i : Inv s c tasks) (t : Table) (parts : Parts c t) where
+  status-at : {pc : PC} → tasks w .pc ≡ pc → status c w (tasks w) ≡ statusAt pc c w (tasks w)
+  status-at at = ap (λ pc. statusAt pc c w (tasks w)) at
+
+  entry-at :
+      {pc : PC} → tasks w .pc ≡ pc → UnderWay pc
+      → status c w (tasks w) ≡ entryStatus (tasks w .ticket) (leafBody c (target (tasks w)) .settled w)
+  entry-at {pc} at u = status-at at ∙ status-entry c w (tasks w) pc u
+
+  task-at : {pc : PC} → tasks w .pc ≡ pc → tasks w ≡ goes (tasks w) pc (tasks w .reads)
+  task-at at = ap (λ pc. goes (tasks w) pc (tasks w .reads)) at
+
+  own-at : {pc : PC} → tasks w .pc ≡ pc → Own s c w (goes (tasks w) pc (tasks w .reads))
+  own-at at = subst (Own s c w) (task-at at) (i .own w wn)
+
+  -- nothing takes effect
+  silent :
+      (c′ : Cells) → Alike c c′ → (k : Task) (reply : Option Answer) → outcome reply c′ w k ≡ status c w (tasks w)
+      → Explained s w c c′ tasks (assign tasks w k) reply t
+  unfolding feed answersOf
+  silent c′ h k reply e = record {
+    effects = [];
+    distinct = tt;
+    waiting = λ j m. absurd m;
+    parts = parts-alike c c′ h t parts;
+    gained = λ j r m. absurd m;
+    others = λ j jn m. outcome-elim (λ j o. o ≡ status c j (tasks j)) w c′ tasks k reply
+        e (λ j n. status-alike c c′ h j (tasks j) (tasks j .pc)) j;
+  }
+
+  -- the worker's operation takes effect and is answered; it leaves the table as it is
+  served :
+      (k : Task) (r : Answer) (o : Operation) → tasks w .operation ≡ some o → status c w (tasks w) ≡ none → fed s (some o) t ≡ (r, t)
+      → Explained s w c c tasks (assign tasks w k) (some r) t
+  unfolding feed answersOf
+  served k r o asks waits e = record {
+    effects = w ∷ [];
+    distinct = (λ m. m, tt);
+    waiting = λ j m. rw (only m) (wn, waits, (o, asks));
+    parts = subst (Parts c) (sym (ap (λ x. x .1) answer)) parts;
+    gained = λ j r′ m. outcome-elim (λ j o. j ≡ w → o ≡ some r′) w c tasks k (some r)
+        (λ g. ap some (sym (ap (λ x. x .1) (only m) ∙ ap (λ x. x .0) answer))) (λ j n g. absurd (n g)) j (ap (λ x. x .0) (only m));
+    others = λ j jn m. outcome-elim (λ j o. j ≢ w → o ≡ status c j (tasks j)) w c tasks k (some r)
+        (λ n. absurd (n refl)) (λ j n g. refl) j (λ g. m (inl g));
+  }
+    where
+      answer : fed s (tasks w .operation) t ≡ (r, t)
+      answer = rw asks e
+
+      only : {A : Type 0} {x y : A} → Member x (y ∷ []) → x ≡ y
+      only (inl g) = g
+
+  -- ---- steps without an answer
+
+  -- only the worker's task changes
+  pub explained-quiet : (k : Task) → status c w k ≡ status c w (tasks w) → Explained s w c c tasks (assign tasks w k) none t
+  explained-quiet k e = silent c (alike-refl c) k none e
+
+  pub explained-under-way :
+      (pc pc′ : PC) (r : Reads) → tasks w .pc ≡ pc → UnderWay pc → UnderWay pc′
+      → Explained s w c c tasks (assign tasks w (goes (tasks w) pc′ r)) none t
+  explained-under-way pc pc′ r at u u′ =
+      explained-quiet (goes (tasks w) pc′ r) (status-entry c w (goes (tasks w) pc′ r) pc′ u′ ∙ sym (entry-at at u))
+
+  -- a check without an answer; the last one always has one
+  pub explained-pass :
+      (p x : Two) → tasks w .pc ≡ checkS p x → checked s w (tasks w .ticket) (held (tasks w) .depth) (body c (held (tasks w))) ≡ none
+      → Explained s w c c tasks (assign tasks w (goes (tasks w) (afterC p x) (tasks w .reads))) none t
+  explained-pass p x at e =
+      let pair = subst (λ k. Pair s w c k k) (task-at at) (i .pair w w wn wn) in
+      explained-under-way (checkS p x) (afterC p x) (tasks w .reads) at tt (go p x (unanswered-ok s w c (tasks w) p x e .own (own-at at) pair))
+    where
+      go : (p x : Two) → Own s c w (goes (tasks w) (afterC p x) (tasks w .reads)) → UnderWay (afterC p x)
+      go p one o = tt
+      go one two o = tt
+      go two two o = absurd (o .slot)
+
+  -- a lookup reads the directory: the bucket it then holds is its account's
+  pub explained-look :
+      tasks w .pc ≡ look₁ → Explained s w c c tasks (assign tasks w (goes (tasks w) look₂ (withDirectory (tasks w .reads) (c .directory)))) none t
+  unfolding withDirectory
+  explained-look at = explained-quiet (goes (tasks w) look₂ (withDirectory (tasks w .reads) (c .directory)))
+      (if-true none _ (eq-same (leaf c (target (tasks w))) _ refl) ∙ sym (status-at at))
+
+  -- an update is announced: its ticket is newer than any that is settled
+  pub explained-announce :
+      (u : Update) → tasks w .pc ≡ announce → tasks w .operation ≡ some (update u)
+      → Explained s w c (assignSlot c w (announced u (tasks w .ticket))) tasks (assign tasks w (goes (tasks w) (readD one) (tasks w .reads))) none t
+  unfolding assignSlot
+  explained-announce u at asks =
+      silent told alike (goes (tasks w) (readD one) (tasks w .reads)) none
+      (status-alike c told alike w (tasks w) (readD one) ∙ status-entry c w (tasks w) (readD one) tt
+      ∙ entry-unsettled _ _ newer ∙ sym (status-at at))
+    where
+      told : Cells
+      told = assignSlot c w (announced u (tasks w .ticket))
+
+      newer : leafBody c (target (tasks w)) .settled w .ticket < tasks w .ticket
+      newer = omega (arith, i .tickets (target (tasks w)) w, own-at at .slot .newer)
+
+      alike : Alike c told
+      alike = record { directory = refl; bodies = λ x. refl }
+
+  pub explained-flip :
+      (p : Two) → tasks w .pc ≡ flip p
+      → Explained s w c (flippedCells w c (tasks w)) tasks (assign tasks w (goes (tasks w) (inB p one readS) (tasks w .reads))) none t
+  unfolding assignToggle assignBucket
+  explained-flip p at = silent flipped alike (goes (tasks w) (inB p one readS) (tasks w .reads)) none
+      (status-alike c flipped alike w (tasks w) (inB p one readS) ∙ sym (status-at at))
+    where
+      flipped : Cells
+      flipped = flippedCells w c (tasks w)
+
+      alike : Alike c flipped
+      alike = record {
+        directory = refl;
+        bodies = λ x. bucket-elim (λ b. b .state .value .body ≡ body c x) c (held (tasks w)) _ x (λ e. ap (body c) (sym e)) (λ e. refl);
+      }
+
+  -- ---- steps with an answer
+
+  -- Where the bucket held is the account's, the lookup takes effect now. Where it is not, the lookup has had this answer.
+  pub explained-find :
+      tasks w .pc ≡ look₂
+      → Explained s w c c tasks (assign tasks w (ended (tasks w) (tasks w .reads)))
+      (some (looked (find (body c (held (tasks w)) .items) (target (tasks w))))) t
+  explained-find at = go (same x (leaf c a)) refl
+    where
+      a : ℕ
+      a = target (tasks w)
+
+      x : Name
+      x = held (tasks w)
+
+      wanted : ℕ
+      wanted = own-at at .slot .wanted
+
+      asks : tasks w .operation ≡ some (lookup wanted)
+      asks = own-at at .slot .asks
+
+      found : x ≡ leaf c a → find (body c x .items) a ≡ find t wanted
+      found e =
+          ap (λ y. find (body c y .items) a) e ∙ ap (λ l. find l a) (parts .part a) ∙ find-having-in (leaf c a .depth) _ t a refl
+          ∙ ap (λ o. find t (about o)) asks
+
+      go : (b : Bool) → same x (leaf c a) ≡ b
+          → Explained s w c c tasks (assign tasks w (ended (tasks w) (tasks w .reads))) (some (looked (find (body c x .items) a))) t
+      go true e = served _ _ (lookup wanted) asks (status-at at ∙ if-true none _ e)
+          (fed-lookup s wanted t ∙ ap (λ v. (looked v, t)) (sym (found (same-true _ _ e))))
+      go false e = silent c (alike-refl c) _ _ (sym (status-at at ∙ if-false none _ e))
+
+  -- What is settled at the bucket held is settled at the account's: the update has had this answer. A crowded one takes effect now.
+  pub explained-answer :
+      (p x : Two) (r : Answer) → tasks w .pc ≡ checkS p x
+      → checked s w (tasks w .ticket) (held (tasks w) .depth) (body c (held (tasks w))) ≡ some r
+      → Explained s w c c tasks (assign tasks w (ended (tasks w) (tasks w .reads))) (some r) t
+  explained-answer p x r at e = go (check-settled s w (k .ticket) (held k .depth) (body c (held k)) r e)
+    where
+      k : Task
+      k = goes (tasks w) (checkS p x) (tasks w .reads)
+
+      a : ℕ
+      a = target k
+
+      hold : Hold s c w k
+      hold = own-at at .read .0
+
+      call : Announced s c w k
+      call = own-at at .slot
+
+      entry :
+          (held k ≡ leaf c a) ⊎ Gone s w (k .ticket) (body c (held k)) (leafBody c a) → k .ticket ≤ body c (held k) .settled w .ticket
+          → leafBody c a .settled w ≡ body c (held k) .settled w
+      entry (inl n) l = ap (λ y. body c y .settled w) (sym n)
+      entry (inr g) l = g .settled l
+
+      go : Verdict s w (k .ticket) (held k .depth) (body c (held k)) r → Explained s w c c tasks (assign tasks w (ended k (k .reads))) (some r) t
+      go (settled l f) =
+          silent c (alike-refl c) _ (some r)
+          (sym (entry-at at tt ∙ ap (entryStatus (k .ticket)) (entry (hold .is) l) ∙ entry-settled _ _ l ∙ ap some (sym f)))
+      go (crowded l f d g) =
+          let deep : leaf c a .depth ≡ s .depth = omega (arith, hold .depth, leaf-below s c (i .directory) a) in
+          let here : held k ≡ leaf c a = hold .named ∙ ap (λ z. nameAt z a) (d ∙ sym deep) ∙ sym (leaf-named s c (i .directory) a) in
+          let part : body c (held k) .items ≡ having (s .depth) (firstBits (s .depth) a) t = rw (here, ← deep) (parts .part a) in
+          let full : crowds (s .capacity) (s .depth) a t ≡ true = crowds-full s a t (body c (held k)) part ∙ f in
+          served _ r (update (call .wanted)) (call .asks)
+          (entry-at at tt ∙ entry-unsettled _ _ (subst (λ y. body c y .settled w .ticket < k .ticket) here l))
+          (fed-crowded s (call .wanted) t (rw (call .asks) at full) ∙ ap (λ r. (r, t)) (sym g))

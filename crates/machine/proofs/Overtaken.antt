@@ -1,0 +1,118 @@
+-- The lookups that a change of the cells overtakes: each holds its account's bucket until the change puts deeper ones in its place, and
+-- takes effect just before the updates that are carried out. Rests on the laws of feeding and on the theory of a change.
+use Prim.Native.Nat.{ℕ, zero, suc, _≤_, _<_}
+use native.Mathlib.Omega.{arith}
+use mathlib.Core.Path.{_≡_, refl, ap, sym, _∙_}
+use mathlib.Core.Logic.{_⊎_, inl, inr}
+use mathlib.Core.Bool.{Bool, true, false}
+use mathlib.Core.List.{List, _∷_}
+use mathlib.Core.Option.{none, some}
+use Rattle.interface.specs.declared.Settings.{Settings}
+use Rattle.interface.specs.declared.Answer.{Answer}
+use Rattle.machine.specs.Sequential.{Table, Operation, lookup, find, looked}
+use Rattle.machine.specs.Records.{same, Bucket, Cells}
+use Rattle.machine.specs.History.{Member, Distinct, fed}
+use Rattle.machine.proofs.Base.{if-true, if-false}
+use Rattle.machine.proofs.Cells.{same-false}
+use Rattle.machine.proofs.Copies.{same-true}
+use Rattle.machine.proofs.Tables.{find-having-in}
+use Rattle.machine.proofs.Inv.{Task, target, leaf, body, held, own, Hold}
+use Rattle.machine.proofs.Splitting.{below-suc}
+use Rattle.machine.proofs.Change.{stay, grow, Leads}
+use Rattle.machine.proofs.Explain.{Parts, lookupStatus, status, feed, answersOf}
+use Rattle.machine.proofs.Feed.{member-dec, fed-lookup}
+
+-- A lookup, k, that holds a bucket which the change does not touch: it has had what it had, or it has just had the plain table's answer.
+pub looked-up :
+    (s : Settings) (c c′ : Cells) (t : Table) → Parts c t → (j : ℕ) (k : Task) → Leads s c c′ (target k) → own c′ k ≡ own c k → Hold s c j k
+    → (lookupStatus c′ k ≡ lookupStatus c k) ⊎ ((lookupStatus c k ≡ none) × (lookupStatus c′ k ≡ some (looked (find t (target k)))))
+looked-up s c c′ t parts j k v e h = go (same (held k) (leaf c a)) refl (same (held k) (leaf c′ a)) refl
+  where
+    a : ℕ
+    a = target k
+
+    kept : some (looked (find (body c′ (held k) .items) a)) ≡ some (looked (find (body c (held k) .items) a))
+    kept = ap (λ (b : Bucket). some (looked (find (b .state .value .body .items) a))) e
+
+    back : held k ≡ leaf c′ a → Leads s c c′ a → held k ≡ leaf c a
+    back q (stay x f g) = q ∙ x
+    back q (grow l m d f) = absurd (omega (arith, h .depth, ap (λ x. x .depth) q))
+
+    go : (x : Bool) → same (held k) (leaf c a) ≡ x → (y : Bool) → same (held k) (leaf c′ a) ≡ y
+        → (lookupStatus c′ k ≡ lookupStatus c k) ⊎ ((lookupStatus c k ≡ none) × (lookupStatus c′ k ≡ some (looked (find t a))))
+    go true x true y = inl (if-true _ _ y ∙ sym (if-true _ _ x))
+    go false x false y = inl (if-false _ _ y ∙ kept ∙ sym (if-false _ _ x))
+    go false x true y = absurd (same-false _ _ x (back (same-true _ _ y) v))
+    go true x false y = inr (if-true _ _ x, if-false _ _ y ∙ kept ∙ ap (λ o. some (looked o)) part)
+      where
+        part : find (body c (held k) .items) a ≡ find t a
+        part = rw (same-true _ _ x, parts .part a) (find-having-in _ _ t a refl)
+
+module _ (s : Settings) (c c′ : Cells) (tasks : ℕ → Task) (t : Table) where
+  -- a lookup that the change overtakes
+  pub record Passed (j : ℕ) : Type 0 where
+    pub asked : ℕ
+    pub asks : tasks j .operation ≡ some (lookup asked)
+    pub waits : status c j (tasks j) ≡ none
+    pub answered : status c′ j (tasks j) ≡ some (looked (find t (target (tasks j))))
+
+  -- it has an operation under way, which had not had its moment
+  abbrev Unserved : ℕ → Type 0
+  Unserved j = (j < s .workers) × (status c j (tasks j) ≡ none) × ((o : Operation) × (tasks j .operation ≡ some o))
+
+  -- The change as explained for the workers below m, and for the workers js, whose updates it carries out.
+  pub record Tale (js : List ℕ) (m : ℕ) : Type 0 where
+    pub effects : List ℕ
+    pub keeps : (j : ℕ) → Member j js → Member j effects
+    pub distinct : Distinct effects
+    pub waiting : (j : ℕ) → Member j effects → Unserved j
+    pub parts : Parts c′ (feed s tasks t effects)
+    pub gained : (j : ℕ) (r : Answer) → Member (j, r) (answersOf s tasks t effects) → status c′ j (tasks j) ≡ some r
+    pub others : (j : ℕ) → j < m → (Member j effects → ⊥) → status c′ j (tasks j) ≡ status c j (tasks j)
+
+  module _ {js : List ℕ} {m : ℕ} (q : Tale js m) where
+    passes : m < s .workers → Passed m → (Member m (q .effects) → ⊥) → Tale js (suc m)
+    unfolding feed answersOf
+    passes mn h n = record {
+      effects = m ∷ q .effects;
+      keeps = λ j x. inr (q .keeps j x);
+      distinct = (n, q .distinct);
+      waiting = waiting;
+      parts = rw e (q .parts);
+      gained = gained;
+      others = below-suc _ m (λ j l y. q .others j l (λ x. y (inr x))) (λ y. absurd (y (inl refl)));
+    }
+      where
+        e : fed s (tasks m .operation) t ≡ (looked (find t (target (tasks m))), t)
+        e = rw (h .asks) (fed-lookup s (h .asked) t)
+
+        waiting : (j : ℕ) → Member j (m ∷ q .effects) → Unserved j
+        waiting j (inl x) = rw x (mn, h .waits, (lookup (h .asked), h .asks))
+        waiting j (inr x) = q .waiting j x
+
+        gained : (j : ℕ) (r : Answer) → Member (j, r) (answersOf s tasks t (m ∷ q .effects)) → status c′ j (tasks j) ≡ some r
+        gained j r (inl x) = rw (ap (λ z. z .0) x) (h .answered ∙ ap some (sym (ap (λ z. z .1) x ∙ ap (λ z. z .0) e)))
+        gained j r (inr x) = q .gained j r (rw e at x)
+
+    stays : ((Member m (q .effects) → ⊥) → status c′ m (tasks m) ≡ status c m (tasks m)) → Tale js (suc m)
+    stays e = record {
+      effects = q .effects;
+      keeps = q .keeps;
+      distinct = q .distinct;
+      waiting = q .waiting;
+      parts = q .parts;
+      gained = q .gained;
+      others = below-suc _ m (q .others) e;
+    }
+
+  -- each worker that is not among js has had what it had, or is a lookup that is overtaken
+  pub tale : (js : List ℕ) → ((j : ℕ) → j < s .workers → (Member j js → ⊥) → Passed j ⊎ (status c′ j (tasks j) ≡ status c j (tasks j)))
+      → Tale js 0 → (m : ℕ) → m ≤ s .workers → Tale js m
+  tale js v q zero l = q
+  tale js v q (suc m) l = go (tale js v q m (omega arith))
+    where
+      go : Tale js m → Tale js (suc m)
+      go y = elim (member-dec m (y .effects)) [
+        | yes x ↦ stays y (λ n. absurd (n x))
+        | no n ↦ elim (v m (omega arith) (λ x. n (y .keeps m x))) [ inl h ↦ passes y (omega arith) h n | inr e ↦ stays y (λ x. e) ]
+      ]
