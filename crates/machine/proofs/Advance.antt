@@ -1,36 +1,35 @@
 -- Every entry of a list, from a good machine: who takes effect there, and how the machine and the plain table go on.
 -- Rests on the invariant of the machine and on the explanation of one step.
-use Prim.Native.Nat.{ℕ, zero, suc, _≤_, _<_}
-use mathlib.Core.Path.{_≡_, refl, sym, ap, ap₂, _∙_, subst}
-use mathlib.Core.Logic.{_≢_}
-use mathlib.Core.Bool.{Bool, true, false}
-use mathlib.Core.List.{List, [], _∷_}
-use mathlib.Core.Option.{Option, none, some}
-use lib.Dec.{ltb, eqb}
-use lib.IntN.{ℤ}
+use Prim.Native.Nat.{ℕ, _<_}
 use native.Mathlib.Omega.{arith}
 use native.Mathlib.Decide.{ℕ-discrete, decLt}
-use borrow.Author.Tests.{eq-eqb, eqb-true, lt-ltb, le-ltb}
+use mathlib.Core.Path.{_≡_, refl, sym, ap, _∙_, subst}
+use mathlib.Core.Logic.{_≢_, by-cases}
+use mathlib.Core.Bool.{true}
+use mathlib.Core.List.{[]}
+use mathlib.Core.Option.{Option, none, some}
+use lib.Dec.{eqb}
+use lib.IntN.{ℤ}
+use borrow.Author.Tests.{eq-eqb}
 use Rattle.interface.specs.Limits.{inRange}
 use Rattle.interface.specs.declared.Settings.{Settings}
 use Rattle.interface.specs.declared.Answer.{Answer}
 use Rattle.interface.specs.declared.Refusal.{Refusal}
 use Rattle.interface.specs.declared.Stepped.{Stepped}
 use Rattle.interface.specs.declared.Called.{Called}
-use Rattle.machine.specs.Choice.{if_then_else_, _and_, assign}
+use Rattle.machine.specs.Choice.{if_then_else_}
 use Rattle.machine.specs.Sequential.{Table, Operation, update, lookup}
 use Rattle.machine.specs.Records.{Cells, Worker, Machine}
-use Rattle.machine.specs.Steps.{Effect, step, stepOf, done, counted, reported}
+use Rattle.machine.specs.Steps.{Effect, step, done, reported}
 use Rattle.machine.specs.Calls.{call, callOf, begun, operationOf, spent, ticketFor}
-use Rattle.machine.specs.History.{Entry, calling, stepping, showing, reopening, next, asked, accepts, moves, callsTo, stepsOf, Member, Distinct}
-use Rattle.machine.proofs.Base.{no-both, if-elim, if-true, if-false, eq-elim, if-eq, if-ne, if-same, and-true, and-parts, assign-at, assign-other, assign-elim}
+use Rattle.machine.specs.History.{Entry, calling, stepping, showing, reopening, next, accepts, moves, stepsOf, Member}
+use Rattle.machine.proofs.Base.{no-both, if-elim, if-same, and-true, assign-at, assign-other}
 use Rattle.machine.proofs.Openings.{call-stranger, call-busy, idle-call, call-refused, step-stranger, step-idle, step-made, step-refused}
-use Rattle.machine.proofs.Counter.{announce, counter, counter-start}
-use Rattle.machine.proofs.Inv.{Task}
+use Rattle.machine.proofs.Counter.{counter-start}
 use Rattle.machine.proofs.Transitions.{placeOf, taskOf, tasksOf}
 use Rattle.machine.proofs.Steplink.{effectOf}
-use Rattle.machine.proofs.Tasks.{Good, call-good, step-good}
-use Rattle.machine.proofs.Explain.{Parts, statusAt, status, outcome, feed, answersOf, Explained}
+use Rattle.machine.proofs.Tasks.{Good}
+use Rattle.machine.proofs.Explain.{Parts, statusAt, status, outcome, feed, answersOf, Explained, replyTo}
 use Rattle.machine.proofs.StepExplained.{step-explained}
 
 abbrev pub answerIn : Stepped → Option Answer
@@ -49,7 +48,8 @@ pub record StepParts (s : Settings) (m : Machine) (j : ℕ) : Type 0 where
 
 module _ (s : Settings) (m : Machine) (j : ℕ) where
   pub accepted-step : moves (step s m j .1) ≡ true → StepParts s m j
-  accepted-step h = go (decLt j (s .workers))
+  accepted-step h = by-cases (decLt j (s .workers)) (λ l. by l (m .workers j .operation) refl)
+      (λ l. absurd (not-refused (step-stranger s m j (omega arith))))
     where
       not-refused : {r : Refusal} → step s m j ≡ (m, Stepped.Refused r) → ⊥
       not-refused e = no-both h (ap (λ (x : Machine × Stepped). moves (x .1)) e)
@@ -57,10 +57,6 @@ module _ (s : Settings) (m : Machine) (j : ℕ) where
       by : j < s .workers → (o : Option Operation) → m .workers j .operation ≡ o → StepParts s m j
       by l none e = absurd (not-refused (step-idle s m j l e))
       by l (some o) e = record { worker = l; operation = o; under-way = e; is = step-made s m j l e }
-
-      go : Dec (j < s .workers) → StepParts s m j
-      go (yes l) = by l (m .workers j .operation) refl
-      go (no l) = absurd (not-refused (step-stranger s m j (omega arith)))
 
 -- what an accepted call to worker j is made of
 pub record CallParts (s : Settings) (m : Machine) (j kind a : ℕ) (v : ℤ) : Type 0 where
@@ -73,7 +69,8 @@ pub record CallParts (s : Settings) (m : Machine) (j kind a : ℕ) (v : ℤ) : T
 module _ (s : Settings) (m : Machine) (j kind a : ℕ) (v : ℤ) where
   pub accepted-call : accepts (call s m j kind a v .1) ≡ true → CallParts s m j kind a v
   unfolding callOf
-  accepted-call h = go (decLt j (s .workers))
+  accepted-call h = by-cases (decLt j (s .workers)) (λ l. by l (m .workers j .operation) refl)
+      (λ l. absurd (not-refused (call-stranger s m j kind a v (omega arith))))
     where
       not-refused : {r : Refusal} → call s m j kind a v ≡ (m, Called.Refused r) → ⊥
       not-refused e = no-both h (ap (λ (x : Machine × Called). accepts (x .1)) e)
@@ -89,10 +86,6 @@ module _ (s : Settings) (m : Machine) (j kind a : ℕ) (v : ℤ) where
       by l (some o) e = absurd (not-refused (call-busy s m j kind a v l e))
       by l none e = accepted l e (operationOf kind a v) refl
 
-      go : Dec (j < s .workers) → CallParts s m j kind a v
-      go (yes l) = by l (m .workers j .operation) refl
-      go (no l) = absurd (not-refused (call-stranger s m j kind a v (omega arith)))
-
 -- ---- one entry
 
 -- the answer that an entry gives worker j
@@ -102,17 +95,14 @@ answerTo s m (stepping i) j = if eqb j i then answerIn (step s m i .1) else none
 answerTo s m (showing x y) j = none
 answerTo s m (reopening n b M lent r e) j = none
 
--- Who takes effect at entry e of machine m with the plain table t, and what stands afterwards.
+-- who takes effect at entry e of machine m with the plain table t, and what stands afterwards
+abbrev pub ExplainedEntry : Settings → Machine → Entry → Table → Type 0
+ExplainedEntry s m e t = Explained s (m .cells) (next s m e .cells) (tasksOf s m) (tasksOf s (next s m e)) (answerTo s m e) t
+
 pub record Advance (s : Settings) (m : Machine) (e : Entry) (t : Table) : Type 0 where
-  -- the workers whose operations take effect, in their order
-  pub effects : List ℕ
-  pub distinct : Distinct effects
-  -- only an accepted step has any
-  pub moving : (j : ℕ) → Member j effects → (w : ℕ) × (stepsOf s m e w ≡ true)
-  pub waiting : (j : ℕ) → Member j effects → (j < s .workers) × (status (m .cells) j (tasksOf s m j) ≡ none) × ((o : Operation) × (m .workers j .operation ≡ some o))
-  pub parts : Parts (next s m e .cells) (feed s (tasksOf s m) t effects)
-  pub gained : (j : ℕ) (r : Answer) → Member (j, r) (answersOf s (tasksOf s m) t effects) → outcome (answerTo s m e j) (next s m e .cells) j (tasksOf s (next s m e) j) ≡ some r
-  pub others : (j : ℕ) → j < s .workers → (Member j effects → ⊥) → outcome (answerTo s m e j) (next s m e .cells) j (tasksOf s (next s m e) j) ≡ status (m .cells) j (tasksOf s m j)
+  pub explained : ExplainedEntry s m e t
+  -- only an accepted step has any effects
+  pub moving : (j : ℕ) → Member j (explained .effects) → (w : ℕ) × (stepsOf s m e w ≡ true)
 
 -- ---- the entries one by one
 
@@ -126,20 +116,31 @@ answer-done : (m : Machine) (j : ℕ) (f : Effect Cells) → answerIn (done m j 
 unfolding done
 answer-done m j f = answer-reported _ (f .answer)
 
-module _ (s : Settings) (range : inRange (s .workers) (s .capacity) (s .depth) ≡ true) (m : Machine) (t : Table) (good : Good s m) (parts : Parts (m .cells) t) where
+-- an idle worker waits for nothing
+pub idle-status : (s : Settings) (m : Machine) (j : ℕ) → m .workers j .operation ≡ none → status (m .cells) j (tasksOf s m j) ≡ none
+idle-status s m j e = ap (λ (o : Option Operation). statusAt (placeOf (s .workers) o (m .workers j .steps)) (m .cells) j (tasksOf s m j)) e
+
+pub begun-other : (m : Machine) (j i : ℕ) (o : Operation) → i ≢ j → begun m j o .workers i ≡ m .workers i
+unfolding begun
+begun-other m j i o d = assign-other (m .workers) j _ i d
+
+module _ (s : Settings) (range : inRange (s .workers) (s .capacity) (s .depth) ≡ true) (m : Machine) (t : Table)
+    (good : Good s m) (parts : Parts (m .cells) t) where
   -- nothing takes effect where every worker stands as before
   quiet :
       (e : Entry) (m′ : Machine) → next s m e ≡ m′ → m′ .cells ≡ m .cells
       → ((j : ℕ) → outcome (answerTo s m e j) (m′ .cells) j (tasksOf s m′ j) ≡ status (m .cells) j (tasksOf s m j)) → Advance s m e t
   unfolding feed answersOf
   quiet e m′ n q o = record {
-    effects = [];
-    distinct = tt;
+    explained = record {
+      effects = [];
+      distinct = tt;
+      waiting = λ j h. absurd h;
+      parts = rw (n, q) parts;
+      gained = λ j r h. absurd h;
+      others = λ j jn h. rw n (o j);
+    };
     moving = λ j h. absurd h;
-    waiting = λ j h. absurd h;
-    parts = rw (n, q) parts;
-    gained = λ j r h. absurd h;
-    others = λ j jn h. rw n (o j);
   }
 
   -- an entry that changes nothing
@@ -151,16 +152,12 @@ module _ (s : Settings) (range : inRange (s .workers) (s .capacity) (s .depth) �
   unfolding begun
   begun-waits p j = ap (λ (w : Worker). status (m .cells) j (taskOf (s .workers) w)) (assign-at (m .workers) j _ j refl) ∙ by p
     where
-      by : (p : Operation) → status (m .cells) j (taskOf (s .workers) (record { last = ticketFor (m .workers j) p; operation = some p; steps = 0; reads = m .workers j .reads })) ≡ none
+      new : Operation → Worker
+      new p = record { last = ticketFor (m .workers j) p; operation = some p; steps = 0; reads = m .workers j .reads }
+
+      by : (p : Operation) → status (m .cells) j (taskOf (s .workers) (new p)) ≡ none
       by (lookup a) = refl
       by (update u) = rw (counter-start (s .workers)) refl
-
-  idle-waits : (j : ℕ) → m .workers j .operation ≡ none → status (m .cells) j (tasksOf s m j) ≡ none
-  idle-waits j e = ap (λ (o : Option Operation). statusAt (placeOf (s .workers) o (m .workers j .steps)) (m .cells) j (tasksOf s m j)) e
-
-  begun-others : (p : Operation) (j i : ℕ) → i ≢ j → tasksOf s (begun m j p) i ≡ tasksOf s m i
-  unfolding begun
-  begun-others p j i d = ap (taskOf (s .workers)) (assign-other (m .workers) j _ i d)
 
   called : (j kind a : ℕ) (v : ℤ) → CallParts s m j kind a v → Advance s m (calling j kind a v) t
   unfolding next begun
@@ -168,8 +165,8 @@ module _ (s : Settings) (range : inRange (s .workers) (s .capacity) (s .depth) �
       quiet (calling j kind a v) (begun m j (c .operation)) (ap (λ (x : Machine × Called). x .0) (c .is)) refl (λ i. by i (ℕ-discrete i j))
     where
       by : (i : ℕ) → Dec (i ≡ j) → status (m .cells) i (tasksOf s (begun m j (c .operation)) i) ≡ status (m .cells) i (tasksOf s m i)
-      by i (yes e) = rw e (begun-waits (c .operation) j ∙ sym (idle-waits j (c .idle)))
-      by i (no d) = ap (status (m .cells) i) (begun-others (c .operation) j i d)
+      by i (yes e) = rw e (begun-waits (c .operation) j ∙ sym (idle-status s m j (c .idle)))
+      by i (no d) = ap (λ (w : Worker). status (m .cells) i (taskOf (s .workers) w)) (begun-other m j i (c .operation) d)
 
   -- a step: as it is explained
   stepped : (w : ℕ) → moves (step s m w .1) ≡ true → Advance s m (stepping w) t
@@ -177,16 +174,15 @@ module _ (s : Settings) (range : inRange (s .workers) (s .capacity) (s .depth) �
   stepped w h =
       let c = accepted-step s m w h in
       let x = step-explained s range m w (c .operation) t good parts (c .worker) (c .under-way) in
-      let a : answerIn (step s m w .1) ≡ effectOf s m w (c .operation) .answer = ap (λ (r : Machine × Stepped). answerIn (r .1)) (c .is) ∙ answer-done m w _ in
+      let a : answerIn (step s m w .1) ≡ effectOf s m w (c .operation) .answer =
+      ap (λ (r : Machine × Stepped). answerIn (r .1)) (c .is) ∙ answer-done m w _ in
       record {
-        effects = x .effects;
-        distinct = x .distinct;
+        explained = subst To (sym a) x;
         moving = λ j i. (w, and-true (eq-eqb w w refl) h);
-        waiting = x .waiting;
-        parts = x .parts;
-        gained = λ j r i. rw a (x .gained j r i);
-        others = λ j jn i. rw a (x .others j jn i);
       }
+    where
+      To : Option Answer → Type 0
+      To o = Explained s (m .cells) (step s m w .0 .cells) (tasksOf s m) (tasksOf s (step s m w .0)) (replyTo w o) t
 
   pub advance : (e : Entry) → Advance s m e t
   unfolding next

@@ -3,53 +3,30 @@
 use Prim.Native.Nat.{ℕ, suc, _≤_, _<_}
 use native.Mathlib.Omega.{arith}
 use mathlib.Core.Path.{_≡_, refl, ap, sym, subst, _∙_}
-use mathlib.Core.Logic.{_⊎_, inl, inr}
-use mathlib.Core.Bool.{Bool, true, false, not}
+use mathlib.Core.Logic.{inl, inr, ⊎-elim}
+use mathlib.Core.Bool.{Bool, true}
 use mathlib.Core.Option.{Option, none, some}
 use borrow.Author.Tests.{leb-true, leb-false, eqb-true, eq-eqb}
 use Rattle.interface.specs.declared.Settings.{Settings}
 use Rattle.interface.specs.declared.Answer.{Answer}
 use Rattle.interface.specs.declared.Answer.the-variants.{Crowded}
-use Rattle.machine.specs.Choice.{if_then_else_, assign}
+use Rattle.machine.specs.Choice.{assign}
 use Rattle.machine.specs.Sequential.{Update, update, lookup}
-use Rattle.machine.specs.Records.{Name, Body, State, Stamped, bucketOf, Slot, Cells, Reads}
+use Rattle.machine.specs.Records.{Name, Body, State, Stamped, Slot, Cells}
 use Rattle.machine.specs.BucketPass.{full, hopeless, settledAt, checked}
-use Rattle.machine.specs.DirectoryPass.{copyOf, leafOf}
+use Rattle.machine.specs.DirectoryPass.{copyOf}
 use Rattle.machine.specs.Steps.{withDirectory, withState, withToggle, withSlot}
-use Rattle.machine.proofs.Base.{no-both, if-elim, and-true, and-parts, assign-elim}
-use Rattle.machine.proofs.Counter.{Two, one, two, BStep, readS, readT, swap, slotB}
-use Rattle.machine.proofs.Counter.{PC, idle, announce, look₁, look₂, readD, flip, checkD, checkS, inB}
-use Rattle.machine.proofs.Copies.{nameAt, Coherent, within, name-at}
-use Rattle.machine.proofs.Inv.{Task, target, IsTwo, Outdated, Rounds, HasToggle, SawB, SawThere, Late, LateB, Known, Covered}
-use Rattle.machine.proofs.Inv.{leaf, body, leafBody, held, own, Fresh, Agree, Differ, ticketOf, Closed, ClosedSlot, Shut, Gone, Hold}
-use Rattle.machine.proofs.Inv.{SeenState, SeenAt, InRound, Due, DueHere, Announced, Own, View, Pair, Calm}
-use Rattle.machine.proofs.Keeping.{goes, saw-toggle, past-saw, Reading}
-use Rattle.machine.proofs.Transitions.{ended, afterB, afterC}
-
--- a bit that does not differ is the same
-same-bit : (x y : Bool) → (x ≡ not y → ⊥) → x ≡ y
-same-bit true true d = refl
-same-bit true false d = absurd (d refl)
-same-bit false true d = absurd (d refl)
-same-bit false false d = refl
-
--- ---- places
-
--- what has just been read is outdated in no round one
-outdated-now : (r : Two) (now : ℕ) → Outdated r now now → IsTwo r
-outdated-now one now h = absurd (h refl)
-outdated-now two now h = tt
-
-late-rounds : (i now : ℕ) (pc : PC) → Late i now pc → Rounds pc
-late-rounds i now (inB p r x) h = tt
-
-toggle-rounds : (pc : PC) → HasToggle pc → Rounds pc
-toggle-rounds (inB p r x) h = tt
-
-pub known-before : (p r : Two) (i now : ℕ) → Known i now (afterB p r) → Known i now (inB p r swap)
-known-before p one i now h = h
-known-before one two i now h = h
-known-before two two i now h = h
+use Rattle.machine.proofs.Base.{no-both, if-elim, and-true, and-parts, assign-elim, by-bit, none-some}
+use Rattle.machine.proofs.Copies.{nameAt, Coherent, grove-name, grove-of}
+use Rattle.machine.proofs.Counter.{Two, one, two, BStep, readS, readT, swap, slotB, afterB, afterC, PC, idle, announce, look₁, look₂, readD}
+use Rattle.machine.proofs.Counter.{flip, checkD, checkS, inB}
+use Rattle.machine.proofs.Whereabouts.{IsTwo, Rounds, HasToggle, SawB, SawThere, LateB, Known, Covered, saw-toggle, past-saw, outdated-now}
+use Rattle.machine.proofs.Whereabouts.{late-rounds, toggle-rounds, known-before}
+use Rattle.machine.proofs.Inv.{Task, target, HeldOrShut, SettledOrFull, FullOrShut, HeldOrGone, leaf, body, held, own, Fresh, Agree, Rush}
+use Rattle.machine.proofs.Inv.{ticketOf, Closed, ClosedSlot, Shut, Hold, SeenState, SeenAt, InRound, Due, DueHere, Announced, Own, View, Pair}
+use Rattle.machine.proofs.Inv.{Calm}
+use Rattle.machine.proofs.Keeping.{goes, Reading, announced-on, old-read}
+use Rattle.machine.proofs.Transitions.{ended}
 
 -- ---- tasks
 
@@ -61,20 +38,7 @@ seeing k pc x toggle slots = goes k pc (record { directory = k .reads .directory
 pub own-same : (c : Cells) (k q : Task) → held q ≡ held k → own c q ≡ own c k
 own-same c k q e = ap (c .buckets) e
 
--- an account's bucket has the account's first bits, and is no deeper than M
-module _ (s : Settings) (c : Cells) (current : Coherent (s .depth) (copyOf (c .directory .value))) (a : ℕ) where
-  pub leaf-named : leaf c a ≡ nameAt (leaf c a .depth) a
-  unfolding leafOf copyOf bucketOf
-  leaf-named = name-at current a
-
-  pub leaf-below : leaf c a .depth ≤ s .depth
-  unfolding leafOf copyOf bucketOf
-  leaf-below = omega (arith, within current a, current .bound)
-
 -- ---- what a check says of worker j's ticket t, of a bucket of depth d with body b
-
-no-answer : {r : Answer} → some r ≡ none → ⊥
-no-answer h = let z : _≡_ {A = ℕ} 0 1 = cc in omega arith
 
 module _ (s : Settings) (j t d : ℕ) (b : Body) where
   -- the answer is the settled ticket's, or crowded
@@ -94,7 +58,7 @@ module _ (s : Settings) (j t d : ℕ) (b : Body) where
 
   pub check-settled : (r : Answer) → checked s j t d b ≡ some r → Verdict r
   check-settled r = check-elim (λ o. o ≡ some r → Verdict r)
-      (λ l h. settled l (cc)) (λ l f e h. crowded l f e (cc)) (λ l f h. absurd (no-answer (sym h)))
+      (λ l h. settled l (cc)) (λ l f e h. crowded l f e (cc)) (λ l f h. absurd (none-some refl h))
 
   verdict-closed : {r : Answer} → Verdict r → Closed s j t d b
   verdict-closed (settled l e) = inl l
@@ -102,7 +66,7 @@ module _ (s : Settings) (j t d : ℕ) (b : Body) where
 
   -- what is closed is answered
   check-none : checked s j t d b ≡ none → Closed s j t d b → ⊥
-  check-none = check-elim (λ o. o ≡ none → Closed s j t d b → ⊥) (λ l h x. no-answer h) (λ l f e h x. no-answer h) (λ l f h. unsettled l f)
+  check-none = check-elim (λ o. o ≡ none → Closed s j t d b → ⊥) (λ l h x. none-some h refl) (λ l f e h x. none-some h refl) (λ l f h. unsettled l f)
     where
       unsettled : b .settled j .ticket < t → (full s b ≡ true → d ≡ s .depth → ⊥) → Closed s j t d b → ⊥
       unsettled l f (inl x) = omega arith
@@ -110,9 +74,6 @@ module _ (s : Settings) (j t d : ℕ) (b : Body) where
 
 module _ (s : Settings) (w : ℕ) (c : Cells) where
   -- ---- facts that a step carries on
-
-  announced-on : {k : Task} {pc : PC} {r : Reads} → Announced s c w k → Announced s c w (goes k pc r)
-  announced-on a = record { wanted = a .wanted; asks = a .asks; slot = a .slot }
 
   seen-on :
       {r : Two} {k : Task} {pc : PC} {toggle : ℕ → Bool} {slots : ℕ → Slot}
@@ -129,21 +90,15 @@ module _ (s : Settings) (w : ℕ) (c : Cells) where
   -- ---- three forms of such a step
 
   -- k′ has read no slot for the directory pass, and knows of it no more than k
-  abbrev Plain : Task → Task → Type 0
+  abbrev pub Plain : Task → Task → Type 0
   Plain k k′ =
       (k′ .reads .slots ≡ k .reads .slots) × ((j : ℕ) → SawThere (s .workers) j (k′ .pc) → ⊥)
       × (Covered (k′ .reads .directory .stamp) (c .directory .stamp) (k′ .pc) → ⊥)
       × (Known (k′ .reads .directory .stamp) (c .directory .stamp) (k′ .pc) → Known (k .reads .directory .stamp) (c .directory .stamp) (k .pc))
 
-  -- what the task q owes worker j with the task k at one bucket (the invariant's Pair)
-  abbrev Rush : ℕ → Task → Task → Type 0
-  Rush j k q =
-      Late (k .reads .state .stamp) (own c k .state .stamp) (k .pc) → Differ (own c k) j → held q ≡ held k → HasToggle (q .pc) → Fresh c q
-      → q .reads .toggle j ≡ own c k .toggle j
-
   -- To a place where no toggle has been read.
   blind :
-      (k k′ : Task) → Plain k k′ → (HasToggle (k′ .pc) → ⊥) → ((q : Task) → Pair s w c k q → Rush w k′ q)
+      (k k′ : Task) → Plain k k′ → (HasToggle (k′ .pc) → ⊥) → ((q : Task) → Pair s w c k q → Rush c w k′ q)
       → ((x : Name) → Own s c w k → Calm s w c k x → Calm s w c k′ x) → (Own s c w k → Own s c w k′) → Reading s w c k k′
   blind k k′ plain no-toggle rush calm me = record {
     own = λ o q. me o;
@@ -162,13 +117,10 @@ module _ (s : Settings) (w : ℕ) (c : Cells) where
   }
 
   -- Outside the rounds of the bucket pass.
-  aside : (k k′ : Task) → Plain k k′ → (Rounds (k .pc) → ⊥) → (Rounds (k′ .pc) → ⊥) → (Own s c w k → Own s c w k′) → Reading s w c k k′
+  pub aside : (k k′ : Task) → Plain k k′ → (Rounds (k .pc) → ⊥) → (Rounds (k′ .pc) → ⊥) → (Own s c w k → Own s c w k′) → Reading s w c k k′
   aside k k′ plain before after me = blind k k′ plain
-      (λ x. after (toggle-rounds (k′ .pc) x)) (λ q h l. absurd (after (late-rounds _ _ (k′ .pc) l))) (λ x o. calm x) me
-    where
-      calm : (x : Name) → Calm s w c k x → Calm s w c k′ x
-      calm x (inl h) = inl h
-      calm x (inr h) = absurd (before (h .0))
+      (λ x. after (toggle-rounds (k′ .pc) x)) (λ q h l. absurd (after (late-rounds _ _ (k′ .pc) l)))
+      (λ x o. ⊎-elim inl (λ h. absurd (before (h .0)))) me
 
   -- From a place in a round, past the state read, to one with a toggle and slots.
   onward :
@@ -176,7 +128,7 @@ module _ (s : Settings) (w : ℕ) (c : Cells) where
       → (SeenAt s r x c w (goes k (inB p r x) (k .reads)) → SeenAt s r x′ c w (seeing k (inB p r x′) (k .reads .state) toggle slots))
       → ((j : ℕ) → View s j c (goes k (inB p r x) (k .reads)) → View s j c (seeing k (inB p r x′) (k .reads .state) toggle slots))
       → (LateB r (k .reads .state .stamp) (own c k .state .stamp) x′ → LateB r (k .reads .state .stamp) (own c k .state .stamp) x)
-      → ((j : ℕ) (q : Task) → Pair s j c q (goes k (inB p r x) (k .reads)) → Rush j q (seeing k (inB p r x′) (k .reads .state) toggle slots))
+      → ((j : ℕ) (q : Task) → Pair s j c q (goes k (inB p r x) (k .reads)) → Rush c j q (seeing k (inB p r x′) (k .reads .state) toggle slots))
       → Reading s w c (goes k (inB p r x) (k .reads)) (seeing k (inB p r x′) (k .reads .state) toggle slots)
   onward k p r x x′ toggle slots seen view late rush = record {
     own = λ o q. record { ticket = o .ticket; slot = announced-on (o .slot); read = round-on (o .read) (seen (o .read .seen)) };
@@ -189,9 +141,7 @@ module _ (s : Settings) (w : ℕ) (c : Cells) where
   -- ---- past a swap
 
   -- after the second round of pass two: the bucket held is the account's, and has settled the update or is full
-  full-or-shut :
-      (k : Task) → (held k ≡ leaf c (target k)) ⊎ Shut s c w k
-      → (k .ticket ≤ body c (held k) .settled w .ticket) ⊎ (full s (body c (held k)) ≡ true) → (full s (leafBody c (target k)) ≡ true) ⊎ Shut s c w k
+  full-or-shut : (k : Task) → HeldOrShut s c w k → SettledOrFull s w (k .ticket) (body c (held k)) → FullOrShut s c w k
   full-or-shut k (inr h) x = inr h
   full-or-shut k (inl e) (inl x) = inr (inl (rw e at x))
   full-or-shut k (inl e) (inr x) = inl (rw e at x)
@@ -233,8 +183,7 @@ module _ (s : Settings) (w : ℕ) (c : Cells) where
 
     -- ---- a round of the bucket pass
 
-    pub readS-ok :
-        (p r : Two) → Reading s w c (goes k (inB p r readS) (k .reads)) (goes k (inB p r readT) (withState (k .reads) (own c k .state)))
+    pub readS-ok : (p r : Two) → Reading s w c (goes k (inB p r readS) (k .reads)) (goes k (inB p r readT) (withState (k .reads) (own c k .state)))
     unfolding withState
     readS-ok p r = blind _ _ (refl, λ j x. x, λ x. x, λ x. x) (λ x. x) (λ q h l. h .rush (outdated-now r (own c k .state .stamp) l)) (λ x o h. h)
         (λ o. record {
@@ -257,8 +206,7 @@ module _ (s : Settings) (w : ℕ) (c : Cells) where
       bit = λ y. v .bit tt;
       slot = λ y f d e. assign-elim (λ z. z ≡ c .slots j) (k .reads .slots) i (c .slots i) j
           (λ g. ap (c .slots) (sym g)) (λ g. v .slot (omega (arith, saw y)) f d e);
-      old = assign-elim (λ z. (z ≡ c .slots j) ⊎ ClosedSlot s c j z) (k .reads .slots) i (c .slots i) j
-          (λ g. inl (ap (c .slots) (sym g))) (λ g. v .old);
+      old = old-read s c j (k .reads .slots) i (v .old);
     }
 
     pub slotB-more :
@@ -277,7 +225,7 @@ module _ (s : Settings) (w : ℕ) (c : Cells) where
 
     -- in round two a swap fails only if the worker's bit has been taken up
     missed-up : (p r : Two) → (Fresh c k → ⊥) → Own s c w (goes k (inB p r swap) (k .reads)) → IsTwo r → Agree (own c k) w
-    missed-up p r d o x = same-bit _ _ (λ t. d (o .read .seen .second x t))
+    missed-up p r d o x = by-bit _ _ (λ e. e) (λ t. absurd (d (o .read .seen .second x t)))
 
     pub missed-ok : (p r : Two) → (Fresh c k → ⊥) → Reading s w c (goes k (inB p r swap) (k .reads)) (goes k (afterB p r) (k .reads))
     missed-ok p one d = blind _ _ (refl, λ j x. x, λ x. x, known-before p one 0 0) (λ x. x) (λ q h l. h .rush d)
@@ -317,7 +265,7 @@ module _ (s : Settings) (w : ℕ) (c : Cells) where
     module _ (current : Coherent (s .depth) (copyOf (c .directory .value))) where
       hold-now : (pc : PC) → Hold s c w (goes k pc (withDirectory (k .reads) (c .directory)))
       unfolding withDirectory
-      hold-now pc = record { named = leaf-named s c current (target k); depth = omega arith; is = inl refl }
+      hold-now pc = record { named = grove-name (grove-of _ current) (target k); depth = omega arith; is = inl refl }
 
       pub look₁-ok : Reading s w c (goes k look₁ (k .reads)) (goes k look₂ (withDirectory (k .reads) (c .directory)))
       unfolding withDirectory
@@ -341,14 +289,12 @@ module _ (s : Settings) (w : ℕ) (c : Cells) where
       closed-here : (pc : PC) → Hold s c w (goes k pc (k .reads)) → Closed s w (k .ticket) (held k .depth) (body c (held k)) → Shut s c w k
       closed-here pc o = go (o .is)
         where
-          go :
-              (held k ≡ leaf c (target k)) ⊎ Gone s w (k .ticket) (body c (held k)) (leafBody c (target k))
-              → Closed s w (k .ticket) (held k .depth) (body c (held k)) → Shut s c w k
+          go : HeldOrGone s c w k → Closed s w (k .ticket) (held k .depth) (body c (held k)) → Shut s c w k
           go (inl e) x = rw e at x
           go (inr g) (inl x) = inl (rw (g .settled x) x)
           go (inr g) (inr x) =
-              let d : held k .depth ≡ leaf c (target k) .depth = omega (arith, leaf-below s c current (target k)) in
-              let e : held k ≡ leaf c (target k) = o .named ∙ ap (λ z. nameAt z (target k)) d ∙ sym (leaf-named s c current (target k)) in
+              let d : held k .depth ≡ leaf c (target k) .depth = omega (arith, grove-of _ current .bound (target k)) in
+              let e : held k ≡ leaf c (target k) = o .named ∙ ap (λ z. nameAt z (target k)) d ∙ sym (grove-name (grove-of _ current) (target k)) in
               inr (rw e at x)
 
       -- an answer closes the update

@@ -3,7 +3,7 @@
 use Prim.Native.Nat.{ℕ, _≤_, _<_}
 use native.Mathlib.Omega.{arith}
 use mathlib.Core.Path.{_≡_, refl, ap, sym, _∙_, subst}
-use mathlib.Core.Logic.{_⊎_, inl, inr}
+use mathlib.Core.Logic.{_⊎_, inl, inr, ⊎-elim}
 use mathlib.Core.Bool.{true}
 use lib.Dec.{ltb}
 use Rattle.interface.specs.declared.Settings.{Settings}
@@ -14,76 +14,12 @@ use Rattle.machine.specs.DirectoryPass.{leafOf}
 use Rattle.machine.proofs.Base.{and-parts}
 use Rattle.machine.proofs.Counter.{Two, one, two, BStep, readS, readT, swap, slotB, DStep, copyD, swapD, slotD, state, PC, idle, announce}
 use Rattle.machine.proofs.Counter.{look₁, look₂, over, readD, flip, checkD, checkS, inB, inD}
-use Rattle.machine.proofs.Inv.{Task, target, IsTwo, BothTwo, Rounds, SawThere, Past, KnownD, Known, Covered, leaf, body, leafBody, held, own}
-use Rattle.machine.proofs.Inv.{DirectoryFresh, Fresh, Agree, Differ, ticketOf, IsMade, Closed, ClosedSlot, Shut, Gone, Hold, SeenState, SeenAt}
-use Rattle.machine.proofs.Inv.{Grown, Worked, SeenDirectory, ReadAt, RoundAt, Announced, Looking, SlotFacts, ReadFacts, Own, Pair}
+use Rattle.machine.proofs.Whereabouts.{IsTwo, Rounds, SawThere, Past, Known, Covered, Holds, Second, LastRound, known-two, second-rounds}
+use Rattle.machine.proofs.Inv.{Task, target, leaf, body, leafBody, held, own, SettledOrFull, FreshOrShut, HeldOrGone, HeldOrShut, FullOrShut}
+use Rattle.machine.proofs.Inv.{Rush, Old, DirectoryFresh, Fresh, Agree, Differ, ticketOf, IsMade, Closed, ClosedSlot, Shut, Gone, Hold}
+use Rattle.machine.proofs.Inv.{SeenState, SeenAt, Grown, Worked, SeenDirectory, ReadAt, RoundAt, Announced, Looking, SlotFacts, ReadFacts, Own}
+use Rattle.machine.proofs.Inv.{Pair}
 use Rattle.machine.proofs.Resolve.{Fate, stays, gets, fate-le, fate-keep}
-
--- ---- where a worker stands
-
--- it holds a bucket that it will still use
-abbrev pub Holds : PC → Type 0
-Holds idle = ⊥
-Holds announce = ⊥
-Holds look₁ = ⊥
-Holds look₂ = Unit {0}
-Holds over = ⊥
-Holds (readD p) = ⊥
-Holds (flip p) = Unit {0}
-Holds (checkD p c) = ⊥
-Holds (checkS p c) = Unit {0}
-Holds (inB p r x) = Unit {0}
-Holds (inD p r x) = ⊥
-
-abbrev pub PastState : BStep → Type 0
-PastState readS = ⊥
-PastState readT = Unit {0}
-PastState swap = Unit {0}
-PastState (slotB i) = Unit {0}
-
--- in the second round of the bucket pass, past its state read
-abbrev pub Second : PC → Type 0
-Second idle = ⊥
-Second announce = ⊥
-Second look₁ = ⊥
-Second look₂ = ⊥
-Second over = ⊥
-Second (readD p) = ⊥
-Second (flip p) = ⊥
-Second (checkD p c) = ⊥
-Second (checkS p c) = ⊥
-Second (inB p r x) = IsTwo r × PastState x
-Second (inD p r x) = ⊥
-
-abbrev pub PastCopy : DStep → Type 0
-PastCopy copyD = ⊥
-PastCopy swapD = Unit {0}
-PastCopy (slotD i) = Unit {0}
-PastCopy (state i) = Unit {0}
-
--- in the second round of pass two's directory pass, past the directory read
-abbrev pub LastRound : PC → Type 0
-LastRound idle = ⊥
-LastRound announce = ⊥
-LastRound look₁ = ⊥
-LastRound look₂ = ⊥
-LastRound over = ⊥
-LastRound (readD p) = ⊥
-LastRound (flip p) = ⊥
-LastRound (checkD p c) = ⊥
-LastRound (checkS p c) = ⊥
-LastRound (inB p r x) = ⊥
-LastRound (inD p r x) = BothTwo p r × PastCopy x
-
--- in pass two its update was announced long before
-known-two : (p r : Two) (i now : ℕ) (x : DStep) → IsTwo p → KnownD p r i now x
-known-two two r i now copyD h = tt
-known-two two r i now swapD h = tt
-known-two two r i now (slotD m) h = tt
-known-two two r i now (state m) h = tt
-
-second-rounds : (pc : PC) → Second pc → Rounds pc
-second-rounds (inB p r x) h = tt
 
 -- ---- a change
 
@@ -104,8 +40,7 @@ module _ (s : Settings) where
     pub later : x .state .stamp ≤ x′ .state .stamp
     pub same : x′ .state .stamp ≡ x .state .stamp → x′ .state .value ≡ x .state .value
     pub applied :
-        Rounds pc → (Agree x j → (t ≤ x .state .value .body .settled j .ticket) ⊎ (full s (x .state .value .body) ≡ true))
-        → Agree x′ j → (t ≤ x′ .state .value .body .settled j .ticket) ⊎ (full s (x′ .state .value .body) ≡ true)
+        Rounds pc → (Agree x j → SettledOrFull s j t (x .state .value .body)) → Agree x′ j → SettledOrFull s j t (x′ .state .value .body)
     pub second : Second pc → (Differ x j → i ≡ x .state .stamp) → Differ x′ j → i ≡ x′ .state .stamp
     pub settled : x .state .value .body .settled j .ticket ≤ x′ .state .value .body .settled j .ticket
 
@@ -140,7 +75,7 @@ module _ (s : Settings) where
 
     -- that its update is closed if it is past the last directory read and the directory was swapped
     abbrev pub Swaps : Type 0
-    Swaps = LastRound pc → DirectoryFresh c k ⊎ Shut s c j k → DirectoryFresh c′ k ⊎ Shut s c′ j k
+    Swaps = LastRound pc → FreshOrShut s c j k → FreshOrShut s c′ j k
 
   -- ---- one bucket
 
@@ -170,8 +105,7 @@ module _ (s : Settings) where
   closed-kept f l (inr h) = inr (rw (f (h .0)) (h .0), h .1)
 
   -- h is the body of the bucket that is gone, b that of the one in its place
-  gone-on :
-      {j t : ℕ} {x : Slot} {T : Type 0} {h h′ b b′ : Body} → ticketOf x ≤ t → Fate b b′ x T j → h′ ≡ h → Gone s j t h b → Gone s j t h′ b′
+  gone-on : {j t : ℕ} {x : Slot} {T : Type 0} {h h′ b b′ : Body} → ticketOf x ≤ t → Fate b b′ x T j → h′ ≡ h → Gone s j t h b → Gone s j t h′ b′
   gone-on l f e g = rw e (record {
     full = g .full;
     settled = λ le. let q = g .settled le in fate-keep f (rw q (omega arith)) ∙ q;
@@ -189,8 +123,7 @@ module _ (s : Settings) where
   saw-bounded n j p k c (inD _ r (slotD i)) x h = h .read .0 .bounded
   saw-bounded n j p k c (inD _ r (state i)) x h = h .read .0 .bounded
 
-  past-bounded :
-      (n j p : ℕ) (k : Task) (c : Cells) (pc : PC) → Past n j pc → ReadFacts s pc c p k → k .reads .directory .stamp ≤ c .directory .stamp
+  past-bounded : (n j p : ℕ) (k : Task) (c : Cells) (pc : PC) → Past n j pc → ReadFacts s pc c p k → k .reads .directory .stamp ≤ c .directory .stamp
   past-bounded n j p k c (inD _ r swapD) x h = h .read .0 .bounded
   past-bounded n j p k c (inD _ r (state i)) x h = h .read .0 .bounded
 
@@ -208,19 +141,11 @@ module _ (s : Settings) where
     -- ---- the directory
 
     stamp-up : c .directory .stamp ≤ c′ .directory .stamp
-    stamp-up = go (mv .turn)
-      where
-        go : Turn c c′ → c .directory .stamp ≤ c′ .directory .stamp
-        go (still e) = rw e (omega arith)
-        go (turned l) = omega arith
+    stamp-up = elim (mv .turn) [ still e ↦ rw e (omega arith) | turned l ↦ omega arith ]
 
     -- to a worker whose stamp is the new one the directory is as it was
     fresh-still : (k : Task) → k .reads .directory .stamp ≤ c .directory .stamp → DirectoryFresh c′ k → c′ .directory ≡ c .directory
-    fresh-still k l e = go (mv .turn)
-      where
-        go : Turn c c′ → c′ .directory ≡ c .directory
-        go (still f) = f
-        go (turned g) = absurd (omega arith)
+    fresh-still k l e = elim (mv .turn) [ still f ↦ f | turned g ↦ absurd (omega arith) ]
 
     seen-directory-move : (k : Task) → SeenDirectory s c k → SeenDirectory s c′ k
     seen-directory-move k h = record {
@@ -243,11 +168,7 @@ module _ (s : Settings) where
         go (grow l m d f) (inr z) = absurd (omega (arith, ap (λ x. x .depth) leaf-same))
 
     depth-up : (a : ℕ) → leaf c a .depth ≤ leaf c′ a .depth
-    depth-up a = go (mv .evolves a)
-      where
-        go : Leads c c′ a → leaf c a .depth ≤ leaf c′ a .depth
-        go (stay e f g) = rw e (omega arith)
-        go (grow l m d f) = omega arith
+    depth-up a = elim (mv .evolves a) [ stay e f g ↦ rw e (omega arith) | grow l m d f ↦ omega arith ]
 
     -- ---- worker j with task k
 
@@ -286,7 +207,7 @@ module _ (s : Settings) where
           gone : {T : Type 0} → Fate (leafBody c (target k)) (leafBody c′ (target k)) (c .slots j) T j → GoneIn c → GoneIn c′
           gone f g = gone-on l f (b .unchanged (g .full)) g
 
-          go : Leads c c′ (target k) → (held k ≡ leaf c (target k)) ⊎ GoneIn c → (held k ≡ leaf c′ (target k)) ⊎ GoneIn c′
+          go : Leads c c′ (target k) → HeldOrGone s c j k → HeldOrGone s c′ j k
           go (stay e f g) (inl z) = inl (z ∙ sym e)
           go (stay e f g) (inr z) = inr (gone (f j) z)
           go (grow e m d f) (inl z) = inr (gone (f j) (rw z (record { full = m; settled = λ l. refl })))
@@ -301,32 +222,28 @@ module _ (s : Settings) where
             → A → A′)
             → A ⊎ Shut s c j k → A′ ⊎ Shut s c′ j k
         unless-split {A} {A′} h (inr z) = inr (shut-moved j k z)
-        unless-split {A} {A′} h (inl z) = go (mv .evolves (target k))
-          where
-            go : Leads c c′ (target k) → A′ ⊎ Shut s c′ j k
-            go (stay e f g) = inl (h e g z)
-            go (grow l m d f) = inr (shut l)
+        unless-split {A} {A′} h (inl z) = elim (mv .evolves (target k)) [ stay e f g ↦ inl (h e g z) | grow l m d f ↦ inr (shut l) ]
 
-        leaf-move : (held k ≡ leaf c (target k)) ⊎ Shut s c j k → (held k ≡ leaf c′ (target k)) ⊎ Shut s c′ j k
+        leaf-move : HeldOrShut s c j k → HeldOrShut s c′ j k
         leaf-move = unless-split (λ e g z. z ∙ sym e)
 
-        full-move : (full s (leafBody c (target k)) ≡ true) ⊎ Shut s c j k → (full s (leafBody c′ (target k)) ≡ true) ⊎ Shut s c′ j k
+        full-move : FullOrShut s c j k → FullOrShut s c′ j k
         full-move = unless-split (λ e g z. ap (full s) (g z) ∙ z)
 
       -- ---- its rounds
 
-      seen-state-move : (p r : Two) (x : BStep) → PastState x → Kept c c′ j k (inB p r x) → SeenState s r c j k → SeenState s r c′ j k
-      seen-state-move p r x h b o = record {
+      seen-state-move : {pc : PC} (r : Two) → (IsTwo r → Second pc) → Kept c c′ j k pc → SeenState s r c j k → SeenState s r c′ j k
+      seen-state-move r h b o = record {
         bounded = omega (arith, b .later);
         same = λ e. let y : Fresh c k = omega (arith, b .later) in o .same y ∙ sym (b .same (sym e ∙ y));
-        second = λ t. b .second (t, h) (o .second t);
+        second = λ t. b .second (h t) (o .second t);
       }
 
       seen-at-move : (p r : Two) (x : BStep) → Kept c c′ j k (inB p r x) → SeenAt s r x c j k → SeenAt s r x c′ j k
       seen-at-move p r readS b o = tt
-      seen-at-move p r readT b o = seen-state-move p r readT tt b o
-      seen-at-move p r swap b o = seen-state-move p r swap tt b o
-      seen-at-move p r (slotB i) b o = seen-state-move p r (slotB i) tt b o
+      seen-at-move p r readT b o = seen-state-move r (λ t. (t, tt)) b o
+      seen-at-move p r swap b o = seen-state-move r (λ t. (t, tt)) b o
+      seen-at-move p r (slotB i) b o = seen-state-move r (λ t. (t, tt)) b o
 
       all-worked-move :
           SeenDirectory s c k × (DirectoryFresh c k → (a : ℕ) → Worked s c k a)
@@ -339,9 +256,7 @@ module _ (s : Settings) where
       read-at-move (slotD i) h = (seen-directory-move k (h .0), h .1)
       read-at-move (state i) h = all-worked-move h
 
-      round-at-move :
-          (p r : Two) (x : DStep) → (BothTwo p r × PastCopy x → DirectoryFresh c k ⊎ Shut s c j k → DirectoryFresh c′ k ⊎ Shut s c′ j k)
-          → RoundAt s p r x c j k → RoundAt s p r x c′ j k
+      round-at-move : (p r : Two) (x : DStep) → Swaps c c′ j k (inD p r x) → RoundAt s p r x c j k → RoundAt s p r x c′ j k
       round-at-move p r copyD last h = tt
       round-at-move p r swapD last h = λ b. last (b, tt) (h b)
       round-at-move p r (slotD i) last h = λ b. last (b, tt) (h b)
@@ -350,7 +265,8 @@ module _ (s : Settings) where
       -- ---- what it has read
 
       read-facts-move :
-          (pc : PC) → ticketOf (c .slots j) ≤ k .ticket → Keeps c c′ j k pc → Splits c c′ j k pc → Swaps c c′ j k pc → ReadFacts s pc c j k → ReadFacts s pc c′ j k
+          (pc : PC) → ticketOf (c .slots j) ≤ k .ticket → Keeps c c′ j k pc → Splits c c′ j k pc → Swaps c c′ j k pc → ReadFacts s pc c j k
+          → ReadFacts s pc c′ j k
       read-facts-move idle l kept shut last h = tt
       read-facts-move announce l kept shut last h = tt
       read-facts-move look₁ l kept shut last h = tt
@@ -363,8 +279,7 @@ module _ (s : Settings) where
       read-facts-move (checkD two two) l kept shut last h = shut-moved j k h
       read-facts-move (checkS one x) l kept shut last h = (hold-move l (kept tt) (h .0), tt)
       read-facts-move (checkS two one) l kept shut last h = (hold-move l (kept tt) (h .0), full-move (shut tt) (h .1))
-      read-facts-move (checkS two two) l kept shut last h =
-          (hold-move l (kept tt) (h .0), closed-kept (kept tt .unchanged) (kept tt .settled) (h .1))
+      read-facts-move (checkS two two) l kept shut last h = (hold-move l (kept tt) (h .0), closed-kept (kept tt .unchanged) (kept tt .settled) (h .1))
       read-facts-move (inB p r x) l kept shut last h = record {
         hold = hold-move l (kept tt) (h .hold);
         pass = λ t. leaf-move (shut t) (h .pass t);
@@ -401,28 +316,26 @@ module _ (s : Settings) where
     shut-move = shut-moved c c′ moved
 
     -- what worker j knows it still knows
-    pub own-move :
-        (j : ℕ) (k : Task) → Own s c j k → Keeps c c′ j k (k .pc) → Splits c c′ j k (k .pc) → Swaps c c′ j k (k .pc) → Own s c′ j k
+    pub own-move : (j : ℕ) (k : Task) → Own s c j k → Keeps c c′ j k (k .pc) → Splits c c′ j k (k .pc) → Swaps c c′ j k (k .pc) → Own s c′ j k
     own-move j k = own-moved c c′ moved j k (ap (λ f. f j) (ch .slots))
 
-    pub old-move :
-        (j : ℕ) (k : Task) → (k .reads .slots j ≡ c .slots j) ⊎ ClosedSlot s c j (k .reads .slots j)
-        → (k .reads .slots j ≡ c′ .slots j) ⊎ ClosedSlot s c′ j (k .reads .slots j)
-    old-move j k (inl e) = inl (rw (ch .slots) e)
-    old-move j k (inr h) = inr (closed-move j (k .reads .slots j) h)
+    pub old-move : (j : ℕ) (x : Slot) → Old s c j x → Old s c′ j x
+    old-move j x (inl e) = inl (rw (ch .slots) e)
+    old-move j x (inr h) = inr (closed-move j x h)
+
+    -- the directory left
+    pub still-swaps : c′ .directory ≡ c .directory → (j : ℕ) (k : Task) (pc : PC) → Swaps c c′ j k pc
+    still-swaps e j k pc l (inl h) = inl (rw e h)
+    still-swaps e j k pc l (inr h) = inr (shut-move j k h)
 
     -- no ticket is settled before it is announced
     pub tickets-move :
         ((a j : ℕ) → leafBody c a .settled j .ticket ≤ ticketOf (c .slots j)) → (a j : ℕ) → leafBody c′ a .settled j .ticket ≤ ticketOf (c′ .slots j)
-    tickets-move h a j = rw (ch .slots) (go (ch .evolves a))
+    tickets-move h a j = rw (ch .slots) (elim (ch .evolves a) [ stay e f g ↦ bound (f j) | grow l m d f ↦ bound (f j) ])
       where
         bound : Fate (leafBody c a) (leafBody c′ a) (c .slots j) (Unit {0}) j → leafBody c′ a .settled j .ticket ≤ ticketOf (c .slots j)
         bound (stays e) = rw e (h a j)
         bound (gets t l e) = omega arith
-
-        go : Leads c c′ a → leafBody c′ a .settled j .ticket ≤ ticketOf (c .slots j)
-        go (stay e f g) = bound (f j)
-        go (grow l m d f) = bound (f j)
 
     -- ---- the directory's part of a pair: worker j with task k, and q, which is worker p's
 
@@ -431,15 +344,17 @@ module _ (s : Settings) where
         → Known (k .reads .directory .stamp) (c′ .directory .stamp) (k .pc) → SawThere (s .workers) j (q .pc) → DirectoryFresh c′ q
         → q .reads .slots j ≡ c′ .slots j
     seen-move j p k q o h l x e =
-        let z = fresh-still c c′ moved q (saw-bounded (s .workers) j p q c (q .pc) x (o .read)) e in rw (ch .slots) (h .seen (rw z at l) x (rw z at e))
+        let z = fresh-still c c′ moved q (saw-bounded (s .workers) j p q c (q .pc) x (o .read)) e in
+        rw (ch .slots) (h .seen (rw z at l) x (rw z at e))
 
-    pub covers-move :
+    covers-move :
         (j p : ℕ) (k q : Task) → Own s c p q → Pair s j c k q
         → Covered (k .reads .directory .stamp) (c′ .directory .stamp) (k .pc) → Past (s .workers) j (q .pc) → DirectoryFresh c′ q
         → IsMade (leafOf (q .reads .copy) (target k)) ⊎ Shut s c′ j k
     covers-move j p k q o h l x e =
-        let z = fresh-still c c′ moved q (past-bounded (s .workers) j p q c (q .pc) x (o .read)) e in go (h .covers (rw z at l) x (rw z at e))
-      where
-        go : IsMade (leafOf (q .reads .copy) (target k)) ⊎ Shut s c j k → IsMade (leafOf (q .reads .copy) (target k)) ⊎ Shut s c′ j k
-        go (inl y) = inl y
-        go (inr y) = inr (shut-move j k y)
+        let z = fresh-still c c′ moved q (past-bounded (s .workers) j p q c (q .pc) x (o .read)) e in
+        ⊎-elim inl (λ y. inr (shut-move j k y)) (h .covers (rw z at l) x (rw z at e))
+
+    -- and what is still owed at one bucket
+    pub pair-move : (j p : ℕ) (k q : Task) → Own s c p q → Pair s j c k q → Rush c′ j k q → Pair s j c′ k q
+    pair-move j p k q o h r = record { rush = r; seen = seen-move j p k q o h; covers = covers-move j p k q o h }

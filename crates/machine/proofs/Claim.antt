@@ -2,13 +2,12 @@
 -- at each place the operations that take effect there, named by their calls. Rests on the advance of one entry and on a worker's calls.
 use Prim.Native.Nat.{ℕ, zero, suc, _+_, _*_, _≤_, _<_}
 use native.Mathlib.Omega.{arith}
-use native.Mathlib.Decide.{ℕ-discrete, decLt}
+use native.Mathlib.Decide.{ℕ-discrete}
 use mathlib.Core.Path.{_≡_, refl, sym, ap, _∙_, subst}
-use mathlib.Core.Logic.{_≢_, _⊎_, inl, inr, ⊎-elim}
-use mathlib.Core.Bool.{Bool, true, false}
+use mathlib.Core.Logic.{inl, inr}
+use mathlib.Core.Bool.{true, false}
 use mathlib.Core.List.{List, [], _∷_, map}
 use mathlib.Core.Option.{Option, none, some}
-use lib.Dec.{eqb}
 use lib.ListN.{length}
 use borrow.Author.Tests.{eq-eqb, eqb-true}
 use Rattle.interface.specs.Limits.{inRange, Range}
@@ -17,24 +16,26 @@ use Rattle.interface.specs.declared.Settings.{Settings}
 use Rattle.interface.specs.declared.Answer.{Answer}
 use Rattle.interface.specs.declared.Stepped.{Stepped}
 use Rattle.interface.specs.declared.Completion.{Completion}
-use Rattle.machine.specs.Choice.{if_then_else_, _and_}
 use Rattle.machine.specs.Sequential.{Table, firstBits, having, Operation, update, lookup, Update}
-use Rattle.machine.specs.Records.{Name, Leaf, Cells, Worker, Machine, newBucket, firstCells, opened}
+use Rattle.machine.specs.Records.{Leaf, Worker, Machine, newBucket, firstCells, opened}
 use Rattle.machine.specs.DirectoryPass.{copyOf, nameOf}
 use Rattle.machine.specs.Steps.{directoryReading, lookupAccess, access, perform, reported, done, step}
-use Rattle.machine.specs.Calls.{listing, listingOf, contents}
-use Rattle.machine.specs.History.{Entry, calling, stepping, showing, reopening, next, asked, moves, callsTo, stepsOf, Member, Distinct, fed, entryAt, machineAt, isCall, isStep, stepsBetween, IsOperation, Ended, answersTo, tableAfter, tableAt, Linearizable, Demand3}
-use Rattle.machine.proofs.Base.{no-both, if-true, and-true, and-parts}
-use Rattle.machine.proofs.Copies.{Coherent, within, name-at, leafOf-copyOf}
+use Rattle.machine.specs.Calls.{listing, listingOf}
+use Rattle.machine.specs.History.{Entry, calling, stepping, showing, reopening, next, asked, moves, callsTo, stepsOf, Member, Distinct, fed}
+use Rattle.machine.specs.History.{entryAt, machineAt, isCall, isStep, stepsBetween, IsOperation, Ended, answersTo, tableAfter, tableAt}
+use Rattle.machine.specs.History.{Linearizable, Demand3}
+use Rattle.machine.proofs.Base.{no-both, if-true, and-true, and-parts, none-some, neither-less}
+use Rattle.machine.proofs.Copies.{Coherent, within, leafOf-copyOf, grove-of}
 use Rattle.machine.proofs.Listing.{contents-is}
 use Rattle.machine.proofs.Openings.{step-made}
-use Rattle.machine.proofs.Inv.{Task, leaf, leafBody, Inv}
-use Rattle.machine.proofs.Transitions.{tasksOf, placeOf}
-use Rattle.machine.proofs.BucketSteps.{leaf-named}
+use Rattle.machine.proofs.Inv.{Task, leaf, leafBody}
+use Rattle.machine.proofs.Transitions.{tasksOf}
 use Rattle.machine.proofs.Tasks.{Good, opened-good, call-good, step-good, update-under-way, lookup-under-way}
-use Rattle.machine.proofs.Explain.{Parts, statusAt, status, outcome, feed, answersOf}
-use Rattle.machine.proofs.Advance.{Advance, advance, answerIn, answerTo, accepted-step, StepParts}
-use Rattle.machine.proofs.Places.{Leaves, begins, moves-on, ends, rests, step-within, at-next, lastCall, From, under-way, Fate, waits, answered, fate, ended-last, count-step, count-le, last-here, last-before}
+use Rattle.machine.proofs.Explain.{Parts, status, outcome, feed, answersOf}
+use Rattle.machine.proofs.Feed.{member-dec, member-answers}
+use Rattle.machine.proofs.Advance.{Advance, advance, answerIn, answerTo, accepted-step, ExplainedEntry, idle-status}
+use Rattle.machine.proofs.Places.{Leaves, begins, moves-on, ends, rests, step-within, at-next, lastCall, From, under-way, Fate, waits}
+use Rattle.machine.proofs.Places.{answered, fate, ended-last, count-step, count-le, last-here, last-before}
 
 -- ---- lists
 
@@ -43,25 +44,12 @@ member-map f y [] h = absurd h
 member-map f y (x ∷ l) (inl e) = (x, inl refl, e)
 member-map f y (x ∷ l) (inr h) = let r = member-map f y l h in (r .0, inr (r .1), r .2)
 
-map-member : {A B : Type 0} (f : A → B) (x : A) (l : List A) → Member x l → Member (f x) (map f l)
-map-member f x (y ∷ l) (inl e) = inl (ap f e)
-map-member f x (y ∷ l) (inr h) = inr (map-member f x l h)
-
 map-distinct : {A B : Type 0} (f : A → B) (l : List A) → ((x y : A) → Member x l → Member y l → f x ≡ f y → x ≡ y) → Distinct l → Distinct (map f l)
 map-distinct f [] h d = tt
 map-distinct f (x ∷ l) h d = (
   (λ m. let r = member-map f (f x) l m in d .0 (subst (λ z. Member z l) (sym (h x (r .0) (inl refl) (inr (r .1)) (r .2))) (r .1))),
   map-distinct f l (λ y z a b. h y z (inr a) (inr b)) (d .1),
 )
-
-member-dec : (j : ℕ) (l : List ℕ) → Dec (Member j l)
-member-dec j [] = no (λ h. h)
-member-dec j (x ∷ l) = go (ℕ-discrete j x) (member-dec j l)
-  where
-    go : Dec (j ≡ x) → Dec (Member j l) → Dec (Member j (x ∷ l))
-    go (yes e) d = yes (inl e)
-    go (no n) (yes h) = yes (inr h)
-    go (no n) (no h) = no (⊎-elim n h)
 
 -- ---- the plain table fed by places and by workers
 
@@ -77,19 +65,14 @@ module _ (s : Settings) (m : Machine) (t : Table) (es : List Entry) (tasks : ℕ
       ap (λ (o : Option Operation). tableAfter s m t es (fed s o p .1) (map f js)) (h j (inl refl))
       ∙ table-feed js (fed s (tasks j .operation) p .1) (λ i k. h i (inr k))
 
-  answers-feed : (js : List ℕ) (p : Table) → Names js → (j : ℕ) (r : Answer) → Member (j, r) (answersOf s tasks p js) → Member (f j, r) (answersTo s m t es p (map f js))
+  answers-feed : (js : List ℕ) (p : Table) → Names js → (j : ℕ) (r : Answer) → Member (j, r) (answersOf s tasks p js)
+      → Member (f j, r) (answersTo s m t es p (map f js))
   unfolding answersTo answersOf
   answers-feed (i ∷ js) p h j r (inl e) =
       inl (ap (λ (x : ℕ × Answer). (f (x .0), x .1)) e ∙ ap (λ (o : Option Operation). (f i, fed s o p .0)) (sym (h i (inl refl))))
   answers-feed (i ∷ js) p h j r (inr k) =
       inr (subst (λ (o : Option Operation). Member (f j, r) (answersTo s m t es (fed s o p .1) (map f js))) (sym (h i (inl refl)))
       (answers-feed js (fed s (tasks i .operation) p .1) (λ x y. h x (inr y)) j r k))
-
--- a member has an answer
-answer-of : (s : Settings) (tasks : ℕ → Task) (js : List ℕ) (p : Table) (j : ℕ) → Member j js → (r : Answer) × Member (j, r) (answersOf s tasks p js)
-unfolding answersOf
-answer-of s tasks (i ∷ js) p j (inl e) = (fed s (tasks i .operation) p .0, inl (ap (λ (x : ℕ). (x, fed s (tasks i .operation) p .0)) e))
-answer-of s tasks (i ∷ js) p j (inr h) = let r = answer-of s tasks js (fed s (tasks i .operation) p .1) j h in (r .0, inr (r .1))
 
 stepsIn : Stepped → ℕ
 stepsIn Stepped.Moved = 0
@@ -133,24 +116,27 @@ module _ (s : Settings) (range : inRange (s .workers) (s .capacity) (s .depth) �
   unfolding machineAt
   pointAt zero = record { table = t; holds = parts }
   pointAt (suc i) =
-      let a = advance s range (at i) (pointAt i .table) (good-at i) (pointAt i .holds) (entry i) in
+      let a = advance s range (at i) (pointAt i .table) (good-at i) (pointAt i .holds) (entry i) .explained in
       record { table = feed s (tasksOf s (at i)) (pointAt i .table) (a .effects); holds = a .parts }
 
-  adv : (i : ℕ) → Advance s (at i) (entry i) (pointAt i .table)
-  adv i = advance s range (at i) (pointAt i .table) (good-at i) (pointAt i .holds) (entry i)
+  entered : (i : ℕ) → Advance s (at i) (entry i) (pointAt i .table)
+  entered i = advance s range (at i) (pointAt i .table) (good-at i) (pointAt i .holds) (entry i)
+
+  abbrev adv : (i : ℕ) → ExplainedEntry s (at i) (entry i) (pointAt i .table)
+  adv i = entered i .explained
 
   -- the choice of moments
   moments : ℕ → List ℕ
   moments i = map (call i) (adv i .effects)
 
   point-next : (i : ℕ) → pointAt (suc i) .table ≡ feed s (tasksOf s (at i)) (pointAt i .table) (adv i .effects)
-  unfolding pointAt adv
+  unfolding pointAt entered
   point-next i = refl
 
   -- ---- who takes effect at a place
 
   effect-within : (i j : ℕ) → Member j (adv i .effects) → i < length es
-  effect-within i j h = let x = adv i .moving j h in step-within s m t es i (x .0) (x .1)
+  effect-within i j h = let x = entered i .moving j h in step-within s m t es i (x .0) (x .1)
 
   -- the operation that takes effect, and the call it came from
   effect-from : (i j : ℕ) → Member j (adv i .effects) → (o : Operation) × (at i .workers j .operation ≡ some o) × From s m t es (call i j) i j o
@@ -165,10 +151,6 @@ module _ (s : Settings) (range : inRange (s .workers) (s .capacity) (s .depth) �
   unfolding moments
   moment-of i c h = member-map (call i) c (adv i .effects) h
 
-  moment-is : (i j : ℕ) → Member j (adv i .effects) → Member (call i j) (moments i)
-  unfolding moments
-  moment-is i j h = map-member (call i) j (adv i .effects) h
-
   -- one place has one call, to one worker
   one-worker : (c i j : ℕ) → isCall s m t es c i ≡ true → isCall s m t es c j ≡ true → i ≡ j
   unfolding callsTo
@@ -180,8 +162,8 @@ module _ (s : Settings) (range : inRange (s .workers) (s .capacity) (s .depth) �
       go (showing x y) p q = absurd (no-both p refl)
       go (reopening n b M lent r e) p q = absurd (no-both p refl)
 
-  call-one : (p i j c : ℕ) (o q : Operation) → From s m t es (call p i) p i o → From s m t es (call p j) p j q → call p i ≡ call p j → i ≡ j
-  call-one p i j c o q u v e = one-worker (call p i) i j (u .called .accepted) (subst (λ (x : ℕ). isCall s m t es x j ≡ true) (sym e) (v .called .accepted))
+  call-one : (p i j : ℕ) {o q : Operation} → From s m t es (call p i) p i o → From s m t es (call p j) p j q → call p i ≡ call p j → i ≡ j
+  call-one p i j u v e = one-worker (call p i) i j (u .called .accepted) (subst (λ (x : ℕ). isCall s m t es x j ≡ true) (sym e) (v .called .accepted))
 
   -- the plain table of the claim is the one of the points
   table-is : (i : ℕ) → tableAt s m t es moments i ≡ pointAt i .table
@@ -195,7 +177,11 @@ module _ (s : Settings) (range : inRange (s .workers) (s .capacity) (s .depth) �
   abbrev served : ℕ → List (ℕ × Answer)
   served i = answersTo s m t es (tableAt s m t es moments i) (moments i)
 
-  gain : (i j : ℕ) (r : Answer) → Member (j, r) (answersOf s (tasksOf s (at i)) (pointAt i .table) (adv i .effects)) → Member (call i j, r) (served i)
+  -- and by worker
+  abbrev answersAt : ℕ → List (ℕ × Answer)
+  answersAt i = answersOf s (tasksOf s (at i)) (pointAt i .table) (adv i .effects)
+
+  gain : (i j : ℕ) (r : Answer) → Member (j, r) (answersAt i) → Member (call i j, r) (served i)
   unfolding moments
   gain i j r h = subst (λ (p : Table). Member (call i j, r) (answersTo s m t es p (map (call i) (adv i .effects)))) (sym (table-is i))
       (answers-feed s m t es (tasksOf s (at i)) (call i) (adv i .effects) (pointAt i .table) (effect-asked i) j r h)
@@ -210,31 +196,26 @@ module _ (s : Settings) (range : inRange (s .workers) (s .capacity) (s .depth) �
     before : stand i j ≡ none → (k : ℕ) → k < i → Member c (moments k) → ⊥
     after : (r : Answer) → stand i j ≡ some r → (k : ℕ) × (k < i) × Member (c, r) (served k)
 
-  idle-stand : (i j : ℕ) → at i .workers j .operation ≡ none → stand i j ≡ none
-  idle-stand i j e = ap (λ (o : Option Operation). statusAt (placeOf (s .workers) o (at i .workers j .steps)) (at i .cells) j (tasksOf s (at i) j)) e
-
-  no-answer : (r : Answer) {x : Option Answer} → x ≡ some r → x ≡ none → ⊥
-  no-answer r p q = let z : _≡_ {A = ℕ} 0 1 = cc in omega arith
+  -- with the answer that the entry at place i gives worker j, or else as it stands afterwards
+  abbrev ending : ℕ → ℕ → Option Answer → Option Answer
+  ending i j a = outcome a (next s (at i) (entry i) .cells) j (tasksOf s (next s (at i) (entry i)) j)
 
   -- after an entry that gives worker j no answer
-  gained-stand : (i j : ℕ) (r : Answer) → answerTo s (at i) (entry i) j ≡ none → Member (j, r) (answersOf s (tasksOf s (at i)) (pointAt i .table) (adv i .effects)) → stand (suc i) j ≡ some r
+  gained-stand : (i j : ℕ) (r : Answer) → answerTo s (at i) (entry i) j ≡ none → Member (j, r) (answersAt i) → stand (suc i) j ≡ some r
   unfolding machineAt
-  gained-stand i j r a h = subst (λ (x : Option Answer). outcome x (at (suc i) .cells) j (tasksOf s (at (suc i)) j) ≡ some r) a (adv i .gained j r h)
+  gained-stand i j r a h = subst (λ (x : Option Answer). ending i j x ≡ some r) a (adv i .gained j r h)
 
   other-stand : (i j : ℕ) → j < s .workers → answerTo s (at i) (entry i) j ≡ none → (Member j (adv i .effects) → ⊥) → stand (suc i) j ≡ stand i j
   unfolding machineAt
-  other-stand i j l a h = subst (λ (x : Option Answer). outcome x (at (suc i) .cells) j (tasksOf s (at (suc i)) j) ≡ stand i j) a (adv i .others j l h)
+  other-stand i j l a h = subst (λ (x : Option Answer). ending i j x ≡ stand i j) a (adv i .others j l h)
 
   module _ (i j : ℕ) (o : Operation) (l : i < length es) (jn : j < s .workers) where
     -- the call has just been made
     standing-new : isCall s m t es i j ≡ true → at i .workers j .operation ≡ none → answerTo s (at i) (entry i) j ≡ none → Standing i (suc i) j
     standing-new c b a = record {
       before = λ e k p h. let x = moment-of k i h in omega (arith, effect-from k (x .0) (x .1) .2 .before, x .2);
-      after = λ r e. absurd (no-answer r e (other-stand i j jn a (λ h. let x = adv i .waiting j h .2 in no-operation (x .0) (x .1)) ∙ idle-stand i j b));
+      after = λ r e. absurd (none-some (other-stand i j jn a (λ h. none-some b (adv i .waiting j h .2 .1)) ∙ idle-status s (at i) j b) e);
     }
-      where
-        no-operation : (p : Operation) → at i .workers j .operation ≡ some p → ⊥
-        no-operation p e = let z : _≡_ {A = ℕ} 0 1 = cc in omega arith
 
     -- it was under way, and still is
     standing-on : at i .workers j .operation ≡ some o → answerTo s (at i) (entry i) j ≡ none → Standing (call i j) i j → Standing (call i j) (suc i) j
@@ -248,15 +229,16 @@ module _ (s : Settings) (range : inRange (s .workers) (s .capacity) (s .depth) �
         other h k p (yes d) q x =
             let y = moment-of i (call i j) (subst (λ (z : ℕ). Member (call i j) (moments z)) d x) in
             let v = effect-from i (y .0) (y .1) in
-            h (subst (λ (z : ℕ). Member z (adv i .effects)) (sym (call-one i j (y .0) 0 o (v .0) u (v .2) (y .2))) (y .1))
+            h (subst (λ (z : ℕ). Member z (adv i .effects)) (sym (call-one i j (y .0) u (v .2) (y .2))) (y .1))
 
         go : Dec (Member j (adv i .effects)) → Standing (call i j) (suc i) j
         go (yes h) =
-            let x = answer-of s (tasksOf s (at i)) (adv i .effects) (pointAt i .table) j h in
+            let x = member-answers s (tasksOf s (at i)) (pointAt i .table) (adv i .effects) j h in
             let g : stand (suc i) j ≡ some (x .0) = gained-stand i j (x .0) a (x .1) in
             record {
-              before = λ q. absurd (no-answer (x .0) g q);
-              after = λ r q. (i, omega arith, subst (λ (y : Answer). Member (call i j, y) (served i)) (same-answer (sym g ∙ q)) (gain i j (x .0) (x .1)));
+              before = λ q. absurd (none-some q g);
+              after = λ r q.
+                  (i, omega arith, subst (λ (y : Answer). Member (call i j, y) (served i)) (same-answer (sym g ∙ q)) (gain i j (x .0) (x .1)));
             }
         go (no h) =
             let g : stand (suc i) j ≡ stand i j = other-stand i j jn a h in
@@ -267,16 +249,18 @@ module _ (s : Settings) (range : inRange (s .workers) (s .capacity) (s .depth) �
 
   standing : (i j : ℕ) (o : Operation) → i ≤ length es → j < s .workers → at i .workers j .operation ≡ some o → Standing (call i j) i j
   unfolding machineAt
-  standing zero j o l jn e = absurd (let z : _≡_ {A = ℕ} 0 1 = cc (idle j) in omega arith)
+  standing zero j o l jn e = absurd (none-some (idle j) e)
   standing (suc i) j o l jn e = go (standing i j o (omega arith) jn) (at-next s m t es i j)
     where
-      same : isCall s m t es i j ≡ false → at i .workers j .operation ≡ some o → answerTo s (at i) (entry i) j ≡ none → Standing (call i j) i j → Standing (call (suc i) j) (suc i) j
+      same : isCall s m t es i j ≡ false → at i .workers j .operation ≡ some o → answerTo s (at i) (entry i) j ≡ none → Standing (call i j) i j
+          → Standing (call (suc i) j) (suc i) j
       same f q a st = subst (λ (c : ℕ). Standing c (suc i) j) (sym (last-before s m t es i j f)) (standing-on i j o (omega arith) jn q a st)
 
-      go : (at i .workers j .operation ≡ some o → Standing (call i j) i j) → Leaves s (at i) (entry i) j (at (suc i) .workers j) → Standing (call (suc i) j) (suc i) j
+      go : (at i .workers j .operation ≡ some o → Standing (call i j) i j) → Leaves s (at i) (entry i) j (at (suc i) .workers j)
+          → Standing (call (suc i) j) (suc i) j
       go h (begins c b q z a) = subst (λ (c : ℕ). Standing c (suc i) j) (sym (last-here s m t es i j c)) (standing-new i j o (omega arith) jn c b a)
       go h (moves-on c st q z a) = same c (sym q ∙ e) a (h (sym q ∙ e))
-      go h (ends x a r c st q z) = absurd (let y : _≡_ {A = ℕ} 0 1 = cc in omega arith)
+      go h (ends x a r c st q z) = absurd (none-some q e)
       go h (rests c st q a) = let p = ap (λ (w : Worker). w .operation) (sym q) ∙ e in same c p a (h p)
 
   -- ---- the claim, part by part
@@ -284,7 +268,7 @@ module _ (s : Settings) (range : inRange (s .workers) (s .capacity) (s .depth) �
   distinct-at : (i : ℕ) → Distinct (moments i)
   unfolding moments
   distinct-at i = map-distinct (call i) (adv i .effects)
-      (λ x y a b e. let u = effect-from i x a in let v = effect-from i y b in call-one i x y 0 (u .0) (v .0) (u .2) (v .2) e) (adv i .distinct)
+      (λ x y a b e. let u = effect-from i x a in let v = effect-from i y b in call-one i x y (u .2) (v .2) e) (adv i .distinct)
 
   -- no operation takes effect at an earlier place too
   earlier : (i k c : ℕ) → i < k → Member c (moments i) → Member c (moments k) → ⊥
@@ -296,12 +280,7 @@ module _ (s : Settings) (range : inRange (s .workers) (s .capacity) (s .depth) �
       (subst (λ (y : ℕ). Member y (moments i)) (x .2) p)
 
   once-at : (i k c : ℕ) → Member c (moments i) → Member c (moments k) → i ≡ k
-  once-at i k c p q = go (decLt i k) (decLt k i)
-    where
-      go : Dec (i < k) → Dec (k < i) → i ≡ k
-      go (yes l) r = absurd (earlier i k c l p q)
-      go (no l) (yes r) = absurd (earlier k i c r q p)
-      go (no l) (no r) = omega arith
+  once-at i k c p q = neither-less i k (λ l. earlier i k c l p q) (λ l. earlier k i c l q p)
 
   -- the step that ends an operation gives the answer that the plain table gave
   module _ (c i j : ℕ) (o : Operation) (r : Completion) (e : Ended s m t es c i j o r) where
@@ -322,11 +301,12 @@ module _ (s : Settings) (range : inRange (s .workers) (s .capacity) (s .depth) �
       where
         go : Dec (Member j (adv i .effects)) → (k : ℕ) × (k ≤ i) × Member (call i j, r .answer) (served k)
         go (yes h) =
-            let x = answer-of s (tasksOf s (at i)) (adv i .effects) (pointAt i .table) j h in
-            let g : some (r .answer) ≡ some (x .0) = subst (λ (y : Option Answer). outcome y (next s (at i) (entry i) .cells) j (tasksOf s (next s (at i) (entry i)) j) ≡ some (x .0)) given (adv i .gained j (x .0) (x .1)) in
+            let x = member-answers s (tasksOf s (at i)) (pointAt i .table) (adv i .effects) j h in
+            let g : some (r .answer) ≡ some (x .0) =
+            subst (λ (y : Option Answer). ending i j y ≡ some (x .0)) given (adv i .gained j (x .0) (x .1)) in
             (i, omega arith, subst (λ (y : Answer). Member (call i j, y) (served i)) (sym (same-answer g)) (gain i j (x .0) (x .1)))
         go (no h) =
-            let g : some (r .answer) ≡ stand i j = subst (λ (y : Option Answer). outcome y (next s (at i) (entry i) .cells) j (tasksOf s (next s (at i) (entry i)) j) ≡ stand i j) given (adv i .others j known h) in
+            let g : some (r .answer) ≡ stand i j = subst (λ (y : Option Answer). ending i j y ≡ stand i j) given (adv i .others j known h) in
             let x = standing i j o (omega (arith, e .within)) known (last .0) .after (r .answer) (sym g) in
             (x .0, omega (arith, x .1), x .2)
 
@@ -336,9 +316,9 @@ module _ (s : Settings) (range : inRange (s .workers) (s .capacity) (s .depth) �
     steps-at = go (at-next s m t es i j)
       where
         go : Leaves s (at i) (entry i) j (at (suc i) .workers j) → r .steps ≡ suc (stepsBetween s m t es j c i)
-        go (begins f b q z a) = absurd (no-answer (r .answer) given a)
-        go (moves-on f st q z a) = absurd (no-answer (r .answer) given a)
-        go (rests f st q a) = absurd (no-answer (r .answer) given a)
+        go (begins f b q z a) = absurd (none-some a given)
+        go (moves-on f st q z a) = absurd (none-some a given)
+        go (rests f st q a) = absurd (none-some a given)
         go (ends a x q f st z y) = ap stepsIn (sym (e .answered) ∙ q) ∙ ap suc (last .2 .steps)
 
     ended-step : isStep s m t es i j ≡ true
@@ -350,7 +330,8 @@ module _ (s : Settings) (range : inRange (s .workers) (s .capacity) (s .depth) �
   listing-at : (p x y : ℕ) → listing (at p) x y ≡ listingOf (tableAt s m t es moments p) x y
   unfolding listing copyOf
   listing-at p x y = ap (λ (z : Table). listingOf z x y)
-      (contents-is (at p) (pointAt p .table) (omega (arith, coherent .bound, limits .greatest-depth)) names part (pointAt p .holds .ascending) ∙ sym (table-is p))
+      (contents-is (at p) (pointAt p .table) (omega (arith, coherent .bound, limits .greatest-depth)) names part (pointAt p .holds .ascending)
+      ∙ sym (table-is p))
     where
       limits : Range (s .workers) (s .capacity) (s .depth)
       limits = range-of (s .workers) (s .capacity) (s .depth) range
@@ -359,9 +340,10 @@ module _ (s : Settings) (range : inRange (s .workers) (s .capacity) (s .depth) �
       coherent = good-at p .directory
 
       prefix : (a : ℕ) → leaf (at p .cells) a .prefix ≡ firstBits (leaf (at p .cells) a .depth) a
-      prefix a = ap (λ (x : Name). x .prefix) (leaf-named s (at p .cells) coherent a)
+      prefix a = sym (grove-of _ coherent .named a)
 
-      names : (a : ℕ) → (leaf (at p .cells) a .depth ≤ at p .cells .directory .value .depth) × (leaf (at p .cells) a .prefix ≡ firstBits (leaf (at p .cells) a .depth) a)
+      names : (a : ℕ) → (leaf (at p .cells) a .depth ≤ at p .cells .directory .value .depth)
+          × (leaf (at p .cells) a .prefix ≡ firstBits (leaf (at p .cells) a .depth) a)
       names a = (subst (λ (l : Leaf). nameOf l .depth ≤ at p .cells .directory .value .depth) (leafOf-copyOf _ a) (within coherent a), prefix a)
 
       part : (a : ℕ) → leafBody (at p .cells) a .items ≡ having (leaf (at p .cells) a .depth) (leaf (at p .cells) a .prefix) (pointAt p .table)
@@ -375,25 +357,30 @@ module _ (s : Settings) (range : inRange (s .workers) (s .capacity) (s .depth) �
   step-worker i j = go (entry i)
     where
       go : (e : Entry) → stepsOf s (at i) e j ≡ true → j < s .workers
-      go (stepping k) h = subst (λ (x : ℕ). x < s .workers) (eqb-true k j (and-parts _ _ h .0)) (accepted-step s (at i) k (and-parts _ _ h .1) .worker)
+      go (stepping k) h = let z = and-parts _ _ h in rw (← eqb-true k j (z .0)) (accepted-step s (at i) k (z .1) .worker)
       go (calling k kind a v) h = absurd (no-both h refl)
       go (showing x y) h = absurd (no-both h refl)
       go (reopening n b M lent r e) h = absurd (no-both h refl)
 
-  update-bound : (c i j : ℕ) (u : Update) → IsOperation s m t es c j (update u) → c < i → i < length es → isStep s m t es i j ≡ true → stepsBetween s m t es j c i ≡ 12 * s .workers + 32
+  update-bound : (c i j : ℕ) (u : Update) → IsOperation s m t es c j (update u) → c < i → i < length es → isStep s m t es i j ≡ true
+      → stepsBetween s m t es j c i ≡ 12 * s .workers + 32
       → (k : ℕ) × (k ≤ i) × ((r : Completion) × Ended s m t es c k j (update u) r)
   update-bound c i j u h l b st n = go (fate s m t es idle c j (update u) h (suc i) (omega arith) b)
     where
       go : Fate s m t es idle c (suc i) j (update u) → (k : ℕ) × (k ≤ i) × ((r : Completion) × Ended s m t es c k j (update u) r)
       go (answered k r p e q z) = (k, omega arith, (r, e))
-      go (waits q v) = absurd (omega (arith, update-under-way s range (at (suc i)) j u (step-worker i j st) (good-at (suc i)) q, v .steps, count-step s m t es j c i l st))
+      go (waits q v) =
+          let few = update-under-way s range (at (suc i)) j u (step-worker i j st) (good-at (suc i)) q in
+          absurd (omega (arith, few, v .steps, count-step s m t es j c i l st))
 
   -- a lookup's first step gives no answer
-  first-step : (x : Machine) (j a : ℕ) → j < s .workers → x .workers j .operation ≡ some (lookup a) → x .workers j .steps ≡ 0 → step s x j .1 ≡ Stepped.Moved
+  first-step : (x : Machine) (j a : ℕ) → j < s .workers → x .workers j .operation ≡ some (lookup a) → x .workers j .steps ≡ 0
+      → step s x j .1 ≡ Stepped.Moved
   unfolding done reported access lookupAccess directoryReading perform
   first-step x j a l e z = ap (λ (r : Machine × Stepped). r .1) (step-made s x j l e) ∙ rw z refl
 
-  lookup-bound : (c i j a : ℕ) → IsOperation s m t es c j (lookup a) → c < i → i < length es → isStep s m t es i j ≡ true → stepsBetween s m t es j c i ≡ 1
+  lookup-bound : (c i j a : ℕ) → IsOperation s m t es c j (lookup a) → c < i → i < length es → isStep s m t es i j ≡ true
+      → stepsBetween s m t es j c i ≡ 1
       → (r : Completion) × Ended s m t es c i j (lookup a) r
   lookup-bound c i j a h l b st n = go (fate s m t es idle c j (lookup a) h (suc i) (omega arith) b)
     where
@@ -405,24 +392,27 @@ module _ (s : Settings) (range : inRange (s .workers) (s .capacity) (s .depth) �
           let w : Stepped.Moved ≡ Stepped.Answered r = sym (first-step (at k) j a (known c k j (lookup a) r e) (q .0) n′) ∙ e .answered in
           let y : _≡_ {A = ℕ} 0 1 = cc in omega arith
 
-      same : (k : ℕ) (r : Completion) → Ended s m t es c k j (lookup a) r → k < suc i → Dec (k ≡ i) → (r : Completion) × Ended s m t es c i j (lookup a) r
+      same : (k : ℕ) (r : Completion) → Ended s m t es c k j (lookup a) r → k < suc i → Dec (k ≡ i)
+          → (r : Completion) × Ended s m t es c i j (lookup a) r
       same k r e p (yes q) = (r, subst (λ (x : ℕ). Ended s m t es c x j (lookup a) r) q e)
       same k r e p (no d) = absurd (early k r (omega arith) e)
 
       go : Fate s m t es idle c (suc i) j (lookup a) → (r : Completion) × Ended s m t es c i j (lookup a) r
       go (answered k r p e q z) = same k r e p (ℕ-discrete k i)
-      go (waits q v) = absurd (omega (arith, lookup-under-way s range (at (suc i)) j a (step-worker i j st) (good-at (suc i)) q, v .steps, count-step s m t es j c i l st))
+      go (waits q v) =
+          let few = lookup-under-way s range (at (suc i)) j a (step-worker i j st) (good-at (suc i)) q in
+          absurd (omega (arith, few, v .steps, count-step s m t es j c i l st))
 
   -- ---- the theorem, from any such machine
 
   pub linearizable : Linearizable s m t es
   linearizable = record {
     moments = moments;
-    at-steps = λ i c h. let x = moment-of i c h in (effect-within i (x .0) (x .1), adv i .moving (x .0) (x .1));
+    at-steps = λ i c h. let x = moment-of i c h in (effect-within i (x .0) (x .1), entered i .moving (x .0) (x .1));
     of-operations = λ i c h.
         let x = moment-of i c h in
         let u = effect-from i (x .0) (x .1) in
-        (subst (λ (y : ℕ). y < i) (sym (x .2)) (u .2 .before), (x .0, (u .0, subst (λ (y : ℕ). IsOperation s m t es y (x .0) (u .0)) (sym (x .2)) (u .2 .called))));
+        rw (x .2) (u .2 .before, (x .0, (u .0, u .2 .called)));
     once = once-at;
     distinct = distinct-at;
     answers = answer-at;

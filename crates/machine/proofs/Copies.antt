@@ -4,20 +4,20 @@ use Prim.Native.Nat.{ℕ, zero, suc, _+_, _-_, _*_, _/_, _^_, _≤_, _<_}
 use native.Mathlib.Omega.{arith}
 use native.Mathlib.Decide.{ℕ-discrete}
 use mathlib.Core.Path.{_≡_, refl, ap, sym, _∙_, subst}
-use mathlib.Core.Logic.{_≢_, _⊎_, inl, inr}
+use mathlib.Core.Logic.{_≢_}
 use mathlib.Core.Bool.{Bool, true, false, not}
 use mathlib.Core.Option.{Option, none, some}
 use lib.Dec.{ltb, eqb}
-use borrow.Author.Tests.{eq-eqb, eqb-true, ltb-true, ltb-false, not-true}
+use borrow.Author.Tests.{eqb-true, ltb-true, ltb-false, not-true}
 use Rattle.interface.specs.declared.Settings.{Settings}
 use Rattle.machine.specs.Choice.{if_then_else_, _and_}
 use Rattle.machine.specs.Sequential.{Update, account, firstBits}
 use Rattle.machine.specs.Records.{Name, same, Body, Directory, bucketOf, Leaf, kept, made, Copy, Slot, empty, announced, firstDirectory}
 use Rattle.machine.specs.BucketPass.{holdsBack, splittable, settledAt, carryOut}
-use Rattle.machine.specs.DirectoryPass.{copyOf, leafOf, nameOf, plant, doubled, deepened, child, half, plantHalf, split}
-use Rattle.machine.specs.DirectoryPass.{splitLeaf, splitWhile, carryLeaf, takeUpdate, takeSlot, takeSlots, resize}
-use Rattle.machine.specs.DirectoryPass.{directoryOf, bodyIf, bodyMade}
-use Rattle.machine.proofs.Base.{if-elim, if-true, if-false, if-eq, if-ne, eq-elim, and-true, and-parts}
+use Rattle.machine.specs.DirectoryPass.{copyOf, leafOf, nameOf, plant, doubled, deepened, child, half, plantHalf, split, splitLeaf, splitWhile}
+use Rattle.machine.specs.DirectoryPass.{carryLeaf, takeUpdate, takeSlot, takeSlots, directoryOf, bodyIf, bodyMade}
+use Rattle.machine.proofs.Base.{if-elim, if-true, if-eq, if-ne, eq-elim, and-parts, none-some, if-elim₂}
+use Rattle.machine.proofs.Cells.{same-true, eq-same, name-path}
 use Rattle.machine.proofs.Bits.{bits-zero, bits-below, bits-shorter, bits-mono, bits-half, representative, first-entry, bits-representative}
 
 -- the bucket of depth d that an account would be in
@@ -58,8 +58,7 @@ deepened-from d c = if-elim (λ (v : Copy). c .depth ≤ v .depth) (ltb (c .dept
 
 pub deepened-to : (d : ℕ) (c : Copy) → d ≤ suc (c .depth) → d ≤ deepened d c .depth
 unfolding deepened doubled
-deepened-to d c h =
-    if-elim (λ (v : Copy). d ≤ v .depth) (ltb (c .depth) d) (doubled c) c (λ e. h) (λ e. ltb-false (c .depth) d e)
+deepened-to d c h = if-elim (λ (v : Copy). d ≤ v .depth) (ltb (c .depth) d) (doubled c) c (λ e. h) (λ e. ltb-false (c .depth) d e)
 
 pub deepened-below : (d k : ℕ) (c : Copy) → c .depth ≤ k → d ≤ k → deepened d c .depth ≤ k
 unfolding deepened doubled
@@ -162,7 +161,7 @@ made-depth x (made y b) m = m
 
 -- the bucket x where account a is
 module _ {k : ℕ} {c : Copy} (h : Coherent k c) (a : ℕ) (x : Name) (at : nameOf (leafOf c a) ≡ x) where
-  depth-x : x .depth ≤ c .depth
+  pub depth-x : x .depth ≤ c .depth
   depth-x = subst (λ (y : Name). y .depth ≤ c .depth) at (within h a)
 
   -- the bucket is one leaf
@@ -277,6 +276,19 @@ refined-within {k} {x} {y} {c} {c′} {c″} small p a i b at q = record {
 
 -- ---- what taking updates keeps
 
+-- what outlives one split of account a's bucket outlives any number
+pub splitWhile-keeps :
+    (s : Settings) (P : Copy → Type 0) (a : ℕ)
+    → ((c : Copy) (y : Name) (b : Body) → leafOf c a ≡ made y b → splittable s (y .depth) b ≡ true → P c → P (split y b c))
+    → (f : ℕ) (c : Copy) → P c → P (splitWhile s f a c)
+unfolding splitWhile splitLeaf
+splitWhile-keeps s P a h zero c p = p
+splitWhile-keeps s P a h (suc f) c p = splitWhile-keeps s P a h f (splitLeaf s c (leafOf c a)) (once (leafOf c a) refl)
+  where
+    once : (l : Leaf) → leafOf c a ≡ l → P (splitLeaf s c l)
+    once (kept y) at = p
+    once (made y b) at = if-elim P (splittable s (y .depth) b) (split y b c) c (λ e. h c y b at e p) (λ e. p)
+
 -- P outlives the changes that taking an update makes: worker j's update u with ticket t, of those that U admits.
 pub record Closed (s : Settings) (U : ℕ → Update → ℕ → Type 0) (P : Copy → Type 0) : Type 0 where
   pub splits :
@@ -293,24 +305,38 @@ pub record Due (x : Name) (b : Body) (slots : ℕ → Slot) (n : ℕ) (j : ℕ) 
   pub inside : Inside x (account u)
   pub unsettled : settledAt b j t ≡ false
 
+-- worker i's announced update belongs to bucket x, and is not settled in its body b
+abbrev pub due : Name → Body → ℕ → Slot → Bool
+due x b i empty = false
+due x b i (announced u t) = eqb (firstBits (x .depth) (account u)) (x .prefix) and not (settledAt b i t)
+
+-- worker j's slot, taken or not, in two copies
+pub slot-elim :
+    (s : Settings) (x : Name) (b : Body) (slots : ℕ → Slot) (R : Copy → Copy → Type 0) (c c′ : Copy) (j : ℕ) (w : Slot) → slots j ≡ w → R c c′
+    → ((u : Update) (t : ℕ) → Due x b slots (suc j) j u t → R (takeUpdate s j u t c) (takeUpdate s j u t c′))
+    → R (takeSlot s x b j w c) (takeSlot s x b j w c′)
+unfolding takeSlot
+slot-elim s x b slots R c c′ j empty at p f = p
+slot-elim s x b slots R c c′ j (announced u t) at p f =
+    if-elim₂ R (due x b j (announced u t)) _ _ _ _
+    (λ e. f u t (record {
+      below = omega arith;
+      slot = at;
+      inside = eqb-true _ _ (and-parts _ _ e .0);
+      unsettled = not-true _ (and-parts _ _ e .1);
+    }))
+    (λ e. p)
+
 -- the test of resize
 abbrev pub resizes : Settings → ℕ → ℕ → Name → Body → Bool
 resizes s i t x b = splittable s (x .depth) b and not (settledAt b i t)
 
 module _ {s : Settings} {U : ℕ → Update → ℕ → Type 0} {P : Copy → Type 0} (z : Closed s U P) where
   module _ (j : ℕ) (u : Update) (t : ℕ) (taken : U j u t) where
-    closed-splitLeaf : (c : Copy) (l : Leaf) → leafOf c (account u) ≡ l → P c → P (splitLeaf s c l)
-    unfolding splitLeaf
-    closed-splitLeaf c (kept y) at p = p
-    closed-splitLeaf c (made y b) at p =
-        if-elim P (splittable s (y .depth) b) (split y b c) c (λ e. z .splits j u t taken c y b at e p) (λ e. p)
+    closed-splitWhile : (f : ℕ) (c : Copy) → P c → P (splitWhile s f (account u) c)
+    closed-splitWhile = splitWhile-keeps s P (account u) (z .splits j u t taken)
 
-    pub closed-splitWhile : (f : ℕ) (c : Copy) → P c → P (splitWhile s f (account u) c)
-    unfolding splitWhile
-    closed-splitWhile zero c p = p
-    closed-splitWhile (suc f) c p = closed-splitWhile f (splitLeaf s c (leafOf c (account u))) (closed-splitLeaf c (leafOf c (account u)) refl p)
-
-    pub closed-carryLeaf : (c : Copy) (l : Leaf) → leafOf c (account u) ≡ l → P c → P (carryLeaf s j u t c l)
+    closed-carryLeaf : (c : Copy) (l : Leaf) → leafOf c (account u) ≡ l → P c → P (carryLeaf s j u t c l)
     unfolding carryLeaf
     closed-carryLeaf c (kept y) at p = p
     closed-carryLeaf c (made y b) at p =
@@ -322,45 +348,22 @@ module _ {s : Settings} {U : ℕ → Update → ℕ → Type 0} {P : Copy → Ty
         let c′ : Copy = splitWhile s (s .depth) (account u) c in
         closed-carryLeaf c′ (leafOf c′ (account u)) refl (closed-splitWhile (s .depth) c p)
 
-  module _ (x : Name) (b : Body) (slots : ℕ → Slot) where
-    closed-takeSlot : (n : ℕ) → ((j : ℕ) (u : Update) (t : ℕ) → Due x b slots n j u t → U j u t)
-        → (j : ℕ) → j < n → (o : Slot) → slots j ≡ o → (c : Copy) → P c → P (takeSlot s x b j o c)
-    unfolding takeSlot
-    closed-takeSlot n due j l empty at c p = p
-    closed-takeSlot n due j l (announced u t) at c p =
-        if-elim P (eqb (firstBits (x .depth) (account u)) (x .prefix) and not (settledAt b j t)) (takeUpdate s j u t c) c
-        (λ e. take (and-parts _ _ e)) (λ e. p)
-      where
-        take : (eqb (firstBits (x .depth) (account u)) (x .prefix) ≡ true) × (not (settledAt b j t) ≡ true) → P (takeUpdate s j u t c)
-        take e =
-            closed-takeUpdate j u t
-            (due j u t (record { below = l; slot = at; inside = eqb-true _ _ (e .0); unsettled = not-true _ (e .1) })) c p
-
-    pub closed-takeSlots :
-        (n : ℕ) → ((j : ℕ) (u : Update) (t : ℕ) → Due x b slots n j u t → U j u t) → (c : Copy) → P c → P (takeSlots s x b slots n c)
-    unfolding takeSlots
-    closed-takeSlots zero due c p = p
-    closed-takeSlots (suc n) due c p =
-        closed-takeSlot (suc n) due n (omega arith) (slots n) refl (takeSlots s x b slots n c)
-        (closed-takeSlots n (λ j u t d. due j u t (earlier d)) c p)
-      where
-        earlier : {j : ℕ} {u : Update} {t : ℕ} → Due x b slots n j u t → Due x b slots (suc n) j u t
-        earlier d = record { below = omega (arith, d .below); slot = d .slot; inside = d .inside; unsettled = d .unsettled }
+  pub closed-takeSlots :
+      (x : Name) (b : Body) (slots : ℕ → Slot) (n : ℕ) → ((j : ℕ) (u : Update) (t : ℕ) → Due x b slots n j u t → U j u t)
+      → (c : Copy) → P c → P (takeSlots s x b slots n c)
+  unfolding takeSlots
+  closed-takeSlots x b slots zero due c p = p
+  closed-takeSlots x b slots (suc n) due c p =
+      let before : Copy = takeSlots s x b slots n c in
+      let q : P before = closed-takeSlots x b slots n (λ j u t d. due j u t (earlier d)) c p in
+      slot-elim s x b slots (λ d d′. P d) before before n (slots n) refl q (λ u t d. closed-takeUpdate n u t (due n u t d) before q)
+    where
+      earlier : {j : ℕ} {u : Update} {t : ℕ} → Due x b slots n j u t → Due x b slots (suc n) j u t
+      earlier d = record { below = omega (arith, d .below); slot = d .slot; inside = d .inside; unsettled = d .unsettled }
 
 pub splittable-below : (s : Settings) (d : ℕ) (b : Body) → splittable s d b ≡ true → d < s .depth
 unfolding splittable
 splittable-below s d b e = ltb-true d (s .depth) (and-parts _ _ e .1)
-
-pub resize-taken :
-    (s : Settings) (slots : ℕ → Slot) (i t : ℕ) (x : Name) (b : Body) (c : Copy) → resizes s i t x b ≡ true
-    → resize s slots i t x b c ≡ takeSlots s x b slots (s .workers) (plant x (made x b) c)
-unfolding resize
-resize-taken s slots i t x b c e = if-true _ c e
-
-pub resize-idle :
-    (s : Settings) (slots : ℕ → Slot) (i t : ℕ) (x : Name) (b : Body) (c : Copy) → resizes s i t x b ≡ false → resize s slots i t x b c ≡ c
-unfolding resize
-resize-idle s slots i t x b c e = if-false _ c e
 
 module _ {k : ℕ} (small : k ≤ 32) (s : Settings) (within : s .depth ≤ k) where
   pub refined-closed : (x : Name) (c : Copy) → Closed s (λ j u t. Inside x (account u)) (Refined k x c)
@@ -377,31 +380,13 @@ module _ {k : ℕ} (small : k ≤ 32) (s : Settings) (within : s .depth ≤ k) w
     refined-takeSlots n =
         closed-takeSlots (refined-closed x c) x b slots n (λ j u t d. d .inside) (plant x (made x b) c) (refined-plant h a x (ap nameOf at) small b)
 
-    pub refined-resize : (i t : ℕ) → resizes s i t x b ≡ true → Refined k x c (resize s slots i t x b c)
-    refined-resize i t e = rw (resize-taken s slots i t x b c e) (refined-takeSlots (s .workers))
-
-    pub coherent-resize : (i t : ℕ) → Coherent k (resize s slots i t x b c)
-    unfolding resize
-    coherent-resize i t = if-elim (Coherent k) (resizes s i t x b) _ c (λ e. refined-takeSlots (s .workers) .coherent) (λ e. h)
-
 -- ---- the swap
 
-pub same-true : (x y : Name) → same x y ≡ true → x ≡ y
-unfolding same
-same-true x y e =
-    let d : x .depth ≡ y .depth = eqb-true _ _ (and-parts _ _ e .0) in
-    let q : x .prefix ≡ y .prefix = eqb-true _ _ (and-parts _ _ e .1) in
-    λ i. record { depth = d i; prefix = q i }
-
-pub same-refl : (x : Name) → same x x ≡ true
-unfolding same
-same-refl x = and-true (eq-eqb (x .depth) (x .depth) refl) (eq-eqb (x .prefix) (x .prefix) refl)
-
 bodyIf-some : (x : Name) (l : Leaf) (b : Body) → bodyIf x l ≡ some b → l ≡ made x b
-bodyIf-some x (kept y) b = λ e. let z : _≡_ {A = ℕ} 0 1 = cc in absurd (omega arith)
+bodyIf-some x (kept y) b = λ e. absurd (none-some refl e)
 bodyIf-some x (made y v) b =
     if-elim (λ (o : Option Body). o ≡ some b → made y v ≡ made x b) (same y x) (some v) none
-    (λ f e. let g : y ≡ x = same-true y x f in cc) (λ f e. let z : _≡_ {A = ℕ} 0 1 = cc in absurd (omega arith))
+    (λ f e. let g : y ≡ x = same-true y x f in cc) (λ f e. absurd (none-some refl e))
 
 module _ {k : ℕ} (small : k ≤ 32) {c : Copy} (h : Coherent k c) where
   -- the first entry of a bucket is the entry of an account of the bucket
@@ -423,7 +408,7 @@ module _ {k : ℕ} (small : k ≤ 32) {c : Copy} (h : Coherent k c) where
       ap (bodyIf x) (r .2 ∙ same-leaf h a x at (r .0) (r .1))
 
   pub bodyMade-made : (a : ℕ) (x : Name) (b : Body) → leafOf c a ≡ made x b → bodyMade c x ≡ some b
-  bodyMade-made a x b at = body-at a x (ap nameOf at) ∙ ap (bodyIf x) at ∙ if-true _ _ (same-refl x)
+  bodyMade-made a x b at = body-at a x (ap nameOf at) ∙ ap (bodyIf x) at ∙ if-true _ _ (eq-same x x refl)
 
   pub bodyMade-kept : (a : ℕ) (x : Name) → leafOf c a ≡ kept x → bodyMade c x ≡ none
   bodyMade-kept a x at = body-at a x (ap nameOf at) ∙ ap (bodyIf x) at
@@ -438,14 +423,6 @@ module _ {k : ℕ} (small : k ≤ 32) {c : Copy} (h : Coherent k c) where
       let z : leafOf c (r .0) ≡ made x b = sym (r .2) ∙ l in
       same-leaf h (r .0) x (ap nameOf z) a i ∙ z
 
-  pub bodyMade-cases : (x : Name) (a : ℕ) → Inside x a
-      → (bodyMade c x ≡ none) ⊎ ((b : Body) × (bodyMade c x ≡ some b) × (leafOf c a ≡ made x b))
-  bodyMade-cases x a i = go (bodyMade c x) refl
-    where
-      go : (o : Option Body) → bodyMade c x ≡ o → (bodyMade c x ≡ none) ⊎ ((b : Body) × (bodyMade c x ≡ some b) × (leafOf c a ≡ made x b))
-      go none e = inl e
-      go (some b) e = inr (b, e, bodyMade-some x b e a i)
-
 -- ---- copies of directories
 
 pub leafOf-copyOf : (d : Directory) (a : ℕ) → leafOf (copyOf d) a ≡ kept (bucketOf d a)
@@ -455,6 +432,20 @@ leafOf-copyOf d a = refl
 pub bucketOf-directoryOf : (c : Copy) (a : ℕ) → bucketOf (directoryOf c) a ≡ nameOf (leafOf c a)
 unfolding leafOf directoryOf bucketOf
 bucketOf-directoryOf c a = refl
+
+-- each account's bucket has the account, and is one for all that it has
+pub record Grove (k : ℕ) (names : ℕ → Name) : Type 0 where
+  pub bound : (a : ℕ) → names a .depth ≤ k
+  pub named : (a : ℕ) → Inside (names a) a
+  pub shared : (a e : ℕ) → Inside (names a) e → names e ≡ names a
+
+pub grove-name : {k : ℕ} {names : ℕ → Name} → Grove k names → (a : ℕ) → names a ≡ nameAt (names a .depth) a
+grove-name g a = name-path refl (sym (g .named a))
+
+-- the buckets of a directory
+pub grove-of : {k : ℕ} (d : Directory) → Coherent k (copyOf d) → Grove k (bucketOf d)
+unfolding leafOf copyOf bucketOf
+grove-of d h = record { bound = λ a. omega (arith, within h a, h .bound); named = h .named; shared = λ a e i. ap nameOf (h .shared a e i) }
 
 -- what becomes current is coherent
 pub coherent-directoryOf : {k : ℕ} (c : Copy) → Coherent k c → Coherent k (copyOf (directoryOf c))

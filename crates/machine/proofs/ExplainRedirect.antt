@@ -2,41 +2,36 @@
 -- it carries out, in worker order. Rests on what a round makes of a full bucket, on a copy for each bucket, and on the invariant.
 use Prim.Native.Nat.{ℕ, zero, suc, _≤_, _<_}
 use native.Mathlib.Omega.{arith}
-use mathlib.Core.Path.{_≡_, refl, ap, sym, _∙_, subst, fun-ext}
+use mathlib.Core.Path.{_≡_, refl, ap, sym, _∙_, subst}
 use mathlib.Core.Logic.{_⊎_, inl, inr}
 use mathlib.Core.Bool.{Bool, true, false}
-use mathlib.Core.List.{[]}
 use mathlib.Core.Option.{none, some}
 use borrow.Author.Tests.{eqb-true, not-true}
 use Rattle.interface.specs.declared.Settings.{Settings}
-use Rattle.machine.specs.Choice.{if_then_else_, _and_, assign}
+use Rattle.machine.specs.Choice.{if_then_else_, _and_}
 use Rattle.machine.specs.Sequential.{Table, Update, account, update}
-use Rattle.machine.specs.Records.{Name, Body, bucketOf, Leaf, kept, made, Copy, Slot, empty, announced, Cells}
-use Rattle.machine.specs.DirectoryPass.{copyOf, leafOf, nameOf, takeUpdate, takeSlot, takeSlots}
+use Rattle.machine.specs.Records.{Name, Body, Leaf, kept, made, Copy, Slot, empty, announced, Cells}
+use Rattle.machine.specs.DirectoryPass.{leafOf, nameOf, takeUpdate, takeSlot, takeSlots}
 use Rattle.machine.specs.History.{Member}
 use Rattle.machine.proofs.Base.{no-both, if-elim, if-true, if-false, if-same, if-eq, and-true, and-parts}
-use Rattle.machine.proofs.Counter.{Two, one, two, PC, look₂, swapD, inD}
 use Rattle.machine.proofs.Cells.{same-elim}
-use Rattle.machine.proofs.Copies.{nameAt, Inside, leaf-plant, Coherent, splittable-below}
-use Rattle.machine.proofs.Inv.{Task, target, uniform, resolved, leaf, body, leafBody, own, DirectoryFresh, ClosedSlot, Hold, Grown}
-use Rattle.machine.proofs.Inv.{Worked, InDirectory, Announced, Looking, SlotFacts, ReadFacts, Inv}
-use Rattle.machine.proofs.Keeping.{goes}
-use Rattle.machine.proofs.Transitions.{afterD, redirectedCells}
-use Rattle.machine.proofs.Splitting.{due-unsettled}
+use Rattle.machine.proofs.Copies.{Inside, leaf-plant, Coherent, splittable-below, Grove, grove-of, grove-name}
+use Rattle.machine.proofs.Counter.{Two, one, PC, look₂, swapD, inD, afterD, UnderWay, by-place}
+use Rattle.machine.proofs.Whereabouts.{under-afterD}
+use Rattle.machine.proofs.Inv.{Task, target, uniform, resolved, leaf, body, leafBody, own, DirectoryFresh, ClosedSlot, Hold, Grown, Worked}
+use Rattle.machine.proofs.Inv.{Announced, Looking, SlotFacts, ReadFacts, Inv}
+use Rattle.machine.proofs.Keeping.{goes, under-announced}
 use Rattle.machine.proofs.Resolve.{due, bodyOf, Made, resolved-ok}
 use Rattle.machine.proofs.Change.{Leads}
-use Rattle.machine.proofs.SwapDirectory.{worked, remade-ok, leaf-old, leaf-new, taken-real, changed, own-same}
-use Rattle.machine.proofs.Explain.{Parts, lookupStatus, statusAt, status, Explained}
-use Rattle.machine.proofs.Statuses.{UnderWay, by-place, under-announced, outcome-goes, Grove, coherent-grove, Waits, waits-status}
-use Rattle.machine.proofs.Statuses.{told-none, told-parts, told-gained, told-others}
-use Rattle.machine.proofs.Woods.{leaves, graft, Wood, Stage, later, taking}
+use Rattle.machine.proofs.Transitions.{redirectedCells}
+use Rattle.machine.proofs.SwapDirectory.{worked, remade-ok, leaf-old, leaf-new, taken-real, changed, own-same, copy-coherent, due-open}
+use Rattle.machine.proofs.Explain.{Parts, lookupStatus, statusAt, status, ExplainedStep}
+use Rattle.machine.proofs.Statuses.{Waits, waits-status, Told, told-same, told-later, explained-goes, told-none, told-parts, told-gained}
+use Rattle.machine.proofs.Statuses.{told-others}
+use Rattle.machine.proofs.Woods.{leaves, graft, Wood, taking}
 use Rattle.machine.proofs.Overtaken.{looked-up, Passed, tale}
 
 -- ---- places, leaves and slots
-
-after-under : (p r : Two) → UnderWay (afterD p r)
-after-under p one = tt
-after-under p two = tt
 
 -- made in the round
 abbrev isMade : Leaf → Bool
@@ -65,14 +60,11 @@ module _
     abbrev c′ : Cells
     c′ = redirectedCells c k
 
-    grove : Grove s (leaf c)
-    unfolding leafOf copyOf bucketOf
-    grove = coherent-grove (i .directory)
+    grove : Grove (s .depth) (leaf c)
+    grove = grove-of _ (i .directory)
 
     coherent : Coherent (s .depth) copy
-    coherent =
-        let mine : InDirectory s p r swapD c w k = subst (λ (pc : PC). ReadFacts s pc c w k) here (i .own w wn .read) in
-        mine .read .0 .coherent
+    coherent = copy-coherent s small w wn c tasks i p r here fresh
 
     works : (a : ℕ) → Worked s c k a
     works = worked s small w wn c tasks i p r here fresh
@@ -86,9 +78,7 @@ module _
     wood j a = resolved s (leaf c a) (leafBody c a) slots (if splits a then j else 0)
 
     wood-made : (j a : ℕ) → Made s (leaf c a) (leafBody c a) slots (if splits a then j else 0) (wood j a)
-    wood-made j a =
-        let named : leaf c a ≡ nameAt (leaf c a .depth) a = λ q. record { depth = leaf c a .depth; prefix = sym (grove .named a) q } in
-        resolved-ok s small (leaf c a) a named (grove .bound a) (leafBody c a) slots _
+    wood-made j a = resolved-ok s small (leaf c a) a (grove-name grove a) (grove .bound a) (leafBody c a) slots _
 
     -- ---- the buckets that are split
 
@@ -143,13 +133,10 @@ module _
 
     -- the updates of the workers below j have been taken
     abbrev At : ℕ → Type 0
-    At j = Stage s c tasks t (leaves (wood j)) j
-
-    stage-to : {F : ℕ → Leaf} {j : ℕ} (H : ℕ → Copy) → ((a : ℕ) → leaves H a ≡ F a) → Stage s c tasks t F j → Stage s c tasks t (leaves H) j
-    stage-to {j = j} H q = subst (λ (f : ℕ → Leaf). Stage s c tasks t f j) (fun-ext (λ a. sym (q a)))
+    At j = Told s c tasks t (leaves (wood j)) j
 
     idle : (j : ℕ) → ((a : ℕ) → takes j a ≡ true → ⊥) → At j → At (suc j)
-    idle j n q = stage-to (wood (suc j)) (λ a. ap (λ (C : Copy). leafOf C a) (wood-idle j a (n a))) (later q)
+    idle j n q = told-same s c tasks (λ a. ap (λ (C : Copy). leafOf C a) (wood-idle j a (n a))) (told-later s c tasks q)
 
     -- worker j's update u is taken
     module _ (j : ℕ) (jn : j < s .workers) (u : Update) (tk : ℕ) (at : slots j ≡ announced u tk) (x : takes j (account u) ≡ true) where
@@ -166,10 +153,7 @@ module _
       real = sym (taken-real s small w wn c tasks i p r here fresh (account u) j low jn (and-parts _ _ x .1)) ∙ at
 
       unclosed : ClosedSlot s c j (c .slots j) → ⊥
-      unclosed h = elim (subst (ClosedSlot s c j) real h) [
-        | inl y ↦ omega (arith, due-unsettled (leaf c (account u)) (leafBody c (account u)) j (announced u tk) owed)
-        | inr y ↦ omega (arith, y .1, low)
-      ]
+      unclosed h = due-open s small w wn c tasks i p r here fresh (account u) j low (announced u tk) owed (subst (ClosedSlot s c j) real h)
 
       under : UnderWay (tasks j .pc)
       under = by-place (λ (pc : PC). SlotFacts s pc c j (tasks j) → UnderWay pc)
@@ -196,7 +180,7 @@ module _
 
       busy : At j → At (suc j)
       unfolding takeSlot waits
-      busy q = stage-to (wood (suc j)) (λ a. ap (λ (C : Copy). leafOf C a) (next a)) (taking s small c tasks t grove (wood j) (wood-ok j) j waits q)
+      busy q = told-same s c tasks (λ a. ap (λ (C : Copy). leafOf C a) (next a)) (taking s small c tasks t grove (wood j) (wood-ok j) j waits q)
         where
           C : Copy
           C = takeUpdate s j u (tasks j .ticket) (wood j (account u))
@@ -220,8 +204,7 @@ module _
         leaf-plant (leaf c a) _ (uniform (leaf c a .depth)) a (omega arith) (omega (arith, grove .bound a)) ∙ if-eq _ _ _ _ (grove .named a)
 
     stages : (j : ℕ) → j ≤ s .workers → At j
-    stages zero l = stage-to {F = λ a. made (leaf c a) (leafBody c a)} (wood 0) (λ a. rw (if-same {A = ℕ} (splits a) 0) (first-leaf a))
-        (record { effects = []; below = λ j m. absurd m; told = told-none s c tasks t parts })
+    stages zero l = told-same s c tasks (λ a. rw (if-same {A = ℕ} (splits a) 0) (first-leaf a)) (told-none s c tasks t parts)
     stages (suc j) l = step j (omega arith) (slots j) refl (stages j (omega arith))
 
     -- the cells after the swap hold what it has made
@@ -239,12 +222,11 @@ module _
     updates = stages (s .workers) (omega arith)
 
     -- a worker whose update is not carried out has had what it had, or is a lookup that is overtaken
-    verdict : (j : ℕ) → j < s .workers → (Member j (updates .effects) → ⊥)
-        → Passed s c c′ tasks t j ⊎ (status c′ j (tasks j) ≡ status c j (tasks j))
+    verdict : (j : ℕ) → j < s .workers → (Member j (updates .effects) → ⊥) → Passed s c c′ tasks t j ⊎ (status c′ j (tasks j) ≡ status c j (tasks j))
     verdict j jn n = by-place
         (λ (pc : PC). tasks j .pc ≡ pc → Passed s c c′ tasks t j ⊎ (statusAt pc c′ j (tasks j) ≡ statusAt pc c j (tasks j)))
         (λ z. inr refl) (λ z. inr refl) (λ z. inr refl) looks (λ z. inr refl)
-        (λ pc u z. inr (told-others s c tasks (updates .told) c′ (λ a. holds a .1) j pc u n)) (tasks j .pc) refl
+        (λ pc u z. inr (told-others s c tasks updates c′ (λ a. holds a .1) j pc u n)) (tasks j .pc) refl
       where
         looks : tasks j .pc ≡ look₂ → Passed s c c′ tasks t j ⊎ (lookupStatus c′ (tasks j) ≡ lookupStatus c (tasks j))
         looks z =
@@ -257,25 +239,14 @@ module _
               | inr x ↦ inl (record { asked = look .wanted; asks = look .asks; waits = rw z (x .0); answered = rw z (x .1) })
             ]
 
-    pub explained-redirect :
-        Explained s w c (redirectedCells c (tasks w)) tasks (assign tasks w (goes (tasks w) (afterD p r) (tasks w .reads))) none t
-    explained-redirect =
-        let d = updates .told in
-        let q = tale s c c′ tasks t (updates .effects) verdict (record {
+    pub explained-redirect : ExplainedStep s w c tasks t (redirectedCells c (tasks w)) (goes (tasks w) (afterD p r) (tasks w .reads)) none
+    explained-redirect = explained-goes s w (afterD p r) (k .reads) (rw here tt) (under-afterD p r)
+        (tale s c c′ tasks t (updates .effects) verdict (record {
           effects = updates .effects;
           keeps = λ j m. m;
-          distinct = d .distinct;
-          waiting = λ j m. waits-status s c tasks (d .waits j m);
-          parts = told-parts s c tasks d c′ (λ a. holds a .1) (λ a. holds a .0);
-          gained = told-gained s c tasks d c′ (λ a. holds a .1);
+          distinct = updates .distinct;
+          waiting = λ j m. waits-status s c tasks (updates .waits j m);
+          parts = told-parts s c tasks updates c′ (λ a. holds a .1) (λ a. holds a .0);
+          gained = told-gained s c tasks updates c′ (λ a. holds a .1);
           others = λ j l. absurd (omega arith);
-        }) (s .workers) (omega arith) in
-        let stays = outcome-goes c′ tasks w (afterD p r) (k .reads) (rw here tt) (after-under p r) in
-        record {
-          effects = q .effects;
-          distinct = q .distinct;
-          waiting = q .waiting;
-          parts = q .parts;
-          gained = λ j a m. stays j ∙ q .gained j a m;
-          others = λ j jn n. stays j ∙ q .others j jn n;
-        }
+        }))

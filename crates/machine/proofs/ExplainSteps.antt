@@ -4,11 +4,10 @@ use Prim.Native.Nat.{ℕ, _≤_, _<_}
 use native.Mathlib.Omega.{arith}
 use native.Mathlib.Decide.{ℕ-discrete}
 use mathlib.Core.Path.{_≡_, refl, ap, sym, _∙_, subst}
-use mathlib.Core.Logic.{_≢_, _⊎_, inl, inr}
+use mathlib.Core.Logic.{_≢_, inl, inr, by-cases}
 use mathlib.Core.Bool.{Bool, true, false}
 use mathlib.Core.List.{[], _∷_}
 use mathlib.Core.Option.{Option, none, some}
-use lib.Dec.{eqb}
 use borrow.Author.Tests.{le-leb, lt-leb}
 use Rattle.interface.specs.declared.Settings.{Settings}
 use Rattle.interface.specs.declared.Answer.{Answer}
@@ -20,26 +19,18 @@ use Rattle.machine.specs.Steps.{withDirectory, assignSlot, assignBucket,
 use Rattle.machine.specs.History.{Member, fed}
 use Rattle.machine.proofs.Base.{if-true, if-false, if-eq, if-ne, assign-at, assign-other}
 use Rattle.machine.proofs.Cells.{same-true, eq-same, bucket-elim}
-use Rattle.machine.proofs.Counter.{Two, one, two, readS, PC, announce, look₁, look₂, readD, flip, checkS, inB}
-use Rattle.machine.proofs.Copies.{nameAt}
+use Rattle.machine.proofs.Copies.{nameAt, grove-name, grove-of}
 use Rattle.machine.proofs.Tables.{find-having-in, crowds-full}
-use Rattle.machine.proofs.Inv.{Task, about, target, leaf, body, leafBody, held, Gone, Hold, Announced, Own, Pair, Inv}
+use Rattle.machine.proofs.Counter.{Two, one, two, readS, PC, announce, look₁, look₂, readD, flip, checkS, inB, afterC, UnderWay, by-place}
+use Rattle.machine.proofs.Inv.{Task, about, target, leaf, body, leafBody, held, Hold, Announced, Own, Pair, Inv, HeldOrGone}
 use Rattle.machine.proofs.Keeping.{goes}
-use Rattle.machine.proofs.Transitions.{ended, afterB, afterC, afterD, flippedCells}
-use Rattle.machine.proofs.BucketSteps.{leaf-named, leaf-below, Verdict, settled, crowded, check-settled, unanswered-ok}
-use Rattle.machine.proofs.Explain.{Parts, statusAt, status, outcome, feed, answersOf, Explained}
+use Rattle.machine.proofs.Transitions.{ended, flippedCells}
+use Rattle.machine.proofs.BucketSteps.{Verdict, settled, crowded, check-settled, unanswered-ok}
+use Rattle.machine.proofs.Explain.{Parts, statusAt, status, outcome, feed, answersOf, replyTo, ExplainedStep}
 use Rattle.machine.proofs.Feed.{fed-lookup, fed-crowded}
-use Rattle.machine.proofs.Statuses.{UnderWay, by-place, entryStatus, status-entry}
+use Rattle.machine.proofs.Statuses.{entryStatus, status-entry}
 
 -- ---- the status of an operation
-
-pub under-afterB : (p r : Two) → UnderWay (afterB p r)
-under-afterB p one = tt
-under-afterB p two = tt
-
-pub under-afterD : (p r : Two) → UnderWay (afterD p r)
-under-afterD p one = tt
-under-afterD p two = tt
 
 -- an announced update that has had its moment, and one that has not
 entry-settled : (t : ℕ) (e : Settled) → t ≤ e .ticket → entryStatus t e ≡ some (e .answer)
@@ -52,12 +43,10 @@ entry-unsettled t e l = if-false _ none (lt-leb t _ l)
 outcome-elim :
     (P : ℕ → Option Answer → Type 0) (w : ℕ) (c : Cells) (tasks : ℕ → Task) (k : Task) (reply : Option Answer)
     → P w (outcome reply c w k) → ((j : ℕ) → j ≢ w → P j (status c j (tasks j)))
-    → (j : ℕ) → P j (outcome (if eqb j w then reply else none) c j (assign tasks w k j))
-outcome-elim P w c tasks k reply me others j = go (ℕ-discrete j w)
-  where
-    go : Dec (j ≡ w) → P j (outcome (if eqb j w then reply else none) c j (assign tasks w k j))
-    go (yes e) = rw (if-eq j w reply none e, assign-at tasks w k j e, e) me
-    go (no n) = rw (if-ne j w reply none n, assign-other tasks w k j n) (others j n)
+    → (j : ℕ) → P j (outcome (replyTo w reply j) c j (assign tasks w k j))
+outcome-elim P w c tasks k reply me others j = by-cases (ℕ-discrete j w)
+    (λ e. rw (if-eq j w reply none e, assign-at tasks w k j e, e) me)
+    (λ n. rw (if-ne j w reply none n, assign-other tasks w k j n) (others j n))
 
 -- ---- cells that differ in slots and toggles at most
 
@@ -92,6 +81,10 @@ module _ (c c′ : Cells) (h : Alike c c′) where
 -- ---- the steps of worker w
 
 module _ (s : Settings) (w : ℕ) (wn : w < s .workers) (c : Cells) (tasks : ℕ → Task) (i : Inv s c tasks) (t : Table) (parts : Parts c t) where
+  -- its step to cells c′ and task k, with the answer a
+  abbrev To : Cells → Task → Option Answer → Type 0
+  To = ExplainedStep s w c tasks t
+
   status-at : {pc : PC} → tasks w .pc ≡ pc → status c w (tasks w) ≡ statusAt pc c w (tasks w)
   status-at at = ap (λ pc. statusAt pc c w (tasks w)) at
 
@@ -107,9 +100,7 @@ module _ (s : Settings) (w : ℕ) (wn : w < s .workers) (c : Cells) (tasks : ℕ
   own-at at = subst (Own s c w) (task-at at) (i .own w wn)
 
   -- nothing takes effect
-  silent :
-      (c′ : Cells) → Alike c c′ → (k : Task) (reply : Option Answer) → outcome reply c′ w k ≡ status c w (tasks w)
-      → Explained s w c c′ tasks (assign tasks w k) reply t
+  silent : (c′ : Cells) → Alike c c′ → (k : Task) (reply : Option Answer) → outcome reply c′ w k ≡ status c w (tasks w) → To c′ k reply
   unfolding feed answersOf
   silent c′ h k reply e = record {
     effects = [];
@@ -124,7 +115,7 @@ module _ (s : Settings) (w : ℕ) (wn : w < s .workers) (c : Cells) (tasks : ℕ
   -- the worker's operation takes effect and is answered; it leaves the table as it is
   served :
       (k : Task) (r : Answer) (o : Operation) → tasks w .operation ≡ some o → status c w (tasks w) ≡ none → fed s (some o) t ≡ (r, t)
-      → Explained s w c c tasks (assign tasks w k) (some r) t
+      → To c k (some r)
   unfolding feed answersOf
   served k r o asks waits e = record {
     effects = w ∷ [];
@@ -146,19 +137,16 @@ module _ (s : Settings) (w : ℕ) (wn : w < s .workers) (c : Cells) (tasks : ℕ
   -- ---- steps without an answer
 
   -- only the worker's task changes
-  pub explained-quiet : (k : Task) → status c w k ≡ status c w (tasks w) → Explained s w c c tasks (assign tasks w k) none t
+  pub explained-quiet : (k : Task) → status c w k ≡ status c w (tasks w) → To c k none
   explained-quiet k e = silent c (alike-refl c) k none e
 
-  pub explained-under-way :
-      (pc pc′ : PC) (r : Reads) → tasks w .pc ≡ pc → UnderWay pc → UnderWay pc′
-      → Explained s w c c tasks (assign tasks w (goes (tasks w) pc′ r)) none t
-  explained-under-way pc pc′ r at u u′ =
-      explained-quiet (goes (tasks w) pc′ r) (status-entry c w (goes (tasks w) pc′ r) pc′ u′ ∙ sym (entry-at at u))
+  pub explained-under-way : (pc pc′ : PC) (r : Reads) → tasks w .pc ≡ pc → UnderWay pc → UnderWay pc′ → To c (goes (tasks w) pc′ r) none
+  explained-under-way pc pc′ r at u u′ = explained-quiet (goes (tasks w) pc′ r) (status-entry c w (goes (tasks w) pc′ r) pc′ u′ ∙ sym (entry-at at u))
 
   -- a check without an answer; the last one always has one
   pub explained-pass :
       (p x : Two) → tasks w .pc ≡ checkS p x → checked s w (tasks w .ticket) (held (tasks w) .depth) (body c (held (tasks w))) ≡ none
-      → Explained s w c c tasks (assign tasks w (goes (tasks w) (afterC p x) (tasks w .reads))) none t
+      → To c (goes (tasks w) (afterC p x) (tasks w .reads)) none
   explained-pass p x at e =
       let pair = subst (λ k. Pair s w c k k) (task-at at) (i .pair w w wn wn) in
       explained-under-way (checkS p x) (afterC p x) (tasks w .reads) at tt (go p x (unanswered-ok s w c (tasks w) p x e .own (own-at at) pair))
@@ -169,8 +157,7 @@ module _ (s : Settings) (w : ℕ) (wn : w < s .workers) (c : Cells) (tasks : ℕ
       go two two o = absurd (o .slot)
 
   -- a lookup reads the directory: the bucket it then holds is its account's
-  pub explained-look :
-      tasks w .pc ≡ look₁ → Explained s w c c tasks (assign tasks w (goes (tasks w) look₂ (withDirectory (tasks w .reads) (c .directory)))) none t
+  pub explained-look : tasks w .pc ≡ look₁ → To c (goes (tasks w) look₂ (withDirectory (tasks w .reads) (c .directory))) none
   unfolding withDirectory
   explained-look at = explained-quiet (goes (tasks w) look₂ (withDirectory (tasks w .reads) (c .directory)))
       (if-true none _ (eq-same (leaf c (target (tasks w))) _ refl) ∙ sym (status-at at))
@@ -178,7 +165,7 @@ module _ (s : Settings) (w : ℕ) (wn : w < s .workers) (c : Cells) (tasks : ℕ
   -- an update is announced: its ticket is newer than any that is settled
   pub explained-announce :
       (u : Update) → tasks w .pc ≡ announce → tasks w .operation ≡ some (update u)
-      → Explained s w c (assignSlot c w (announced u (tasks w .ticket))) tasks (assign tasks w (goes (tasks w) (readD one) (tasks w .reads))) none t
+      → To (assignSlot c w (announced u (tasks w .ticket))) (goes (tasks w) (readD one) (tasks w .reads)) none
   unfolding assignSlot
   explained-announce u at asks =
       silent told alike (goes (tasks w) (readD one) (tasks w .reads)) none
@@ -194,9 +181,7 @@ module _ (s : Settings) (w : ℕ) (wn : w < s .workers) (c : Cells) (tasks : ℕ
       alike : Alike c told
       alike = record { directory = refl; bodies = λ x. refl }
 
-  pub explained-flip :
-      (p : Two) → tasks w .pc ≡ flip p
-      → Explained s w c (flippedCells w c (tasks w)) tasks (assign tasks w (goes (tasks w) (inB p one readS) (tasks w .reads))) none t
+  pub explained-flip : (p : Two) → tasks w .pc ≡ flip p → To (flippedCells w c (tasks w)) (goes (tasks w) (inB p one readS) (tasks w .reads)) none
   unfolding assignToggle assignBucket
   explained-flip p at = silent flipped alike (goes (tasks w) (inB p one readS) (tasks w .reads)) none
       (status-alike c flipped alike w (tasks w) (inB p one readS) ∙ sym (status-at at))
@@ -214,9 +199,7 @@ module _ (s : Settings) (w : ℕ) (wn : w < s .workers) (c : Cells) (tasks : ℕ
 
   -- Where the bucket held is the account's, the lookup takes effect now. Where it is not, the lookup has had this answer.
   pub explained-find :
-      tasks w .pc ≡ look₂
-      → Explained s w c c tasks (assign tasks w (ended (tasks w) (tasks w .reads)))
-      (some (looked (find (body c (held (tasks w)) .items) (target (tasks w))))) t
+      tasks w .pc ≡ look₂ → To c (ended (tasks w) (tasks w .reads)) (some (looked (find (body c (held (tasks w)) .items) (target (tasks w)))))
   explained-find at = go (same x (leaf c a)) refl
     where
       a : ℕ
@@ -236,8 +219,7 @@ module _ (s : Settings) (w : ℕ) (wn : w < s .workers) (c : Cells) (tasks : ℕ
           ap (λ y. find (body c y .items) a) e ∙ ap (λ l. find l a) (parts .part a) ∙ find-having-in (leaf c a .depth) _ t a refl
           ∙ ap (λ o. find t (about o)) asks
 
-      go : (b : Bool) → same x (leaf c a) ≡ b
-          → Explained s w c c tasks (assign tasks w (ended (tasks w) (tasks w .reads))) (some (looked (find (body c x .items) a))) t
+      go : (b : Bool) → same x (leaf c a) ≡ b → To c (ended (tasks w) (tasks w .reads)) (some (looked (find (body c x .items) a)))
       go true e = served _ _ (lookup wanted) asks (status-at at ∙ if-true none _ e)
           (fed-lookup s wanted t ∙ ap (λ v. (looked v, t)) (sym (found (same-true _ _ e))))
       go false e = silent c (alike-refl c) _ _ (sym (status-at at ∙ if-false none _ e))
@@ -246,7 +228,7 @@ module _ (s : Settings) (w : ℕ) (wn : w < s .workers) (c : Cells) (tasks : ℕ
   pub explained-answer :
       (p x : Two) (r : Answer) → tasks w .pc ≡ checkS p x
       → checked s w (tasks w .ticket) (held (tasks w) .depth) (body c (held (tasks w))) ≡ some r
-      → Explained s w c c tasks (assign tasks w (ended (tasks w) (tasks w .reads))) (some r) t
+      → To c (ended (tasks w) (tasks w .reads)) (some r)
   explained-answer p x r at e = go (check-settled s w (k .ticket) (held k .depth) (body c (held k)) r e)
     where
       k : Task
@@ -261,19 +243,17 @@ module _ (s : Settings) (w : ℕ) (wn : w < s .workers) (c : Cells) (tasks : ℕ
       call : Announced s c w k
       call = own-at at .slot
 
-      entry :
-          (held k ≡ leaf c a) ⊎ Gone s w (k .ticket) (body c (held k)) (leafBody c a) → k .ticket ≤ body c (held k) .settled w .ticket
-          → leafBody c a .settled w ≡ body c (held k) .settled w
+      entry : HeldOrGone s c w k → k .ticket ≤ body c (held k) .settled w .ticket → leafBody c a .settled w ≡ body c (held k) .settled w
       entry (inl n) l = ap (λ y. body c y .settled w) (sym n)
       entry (inr g) l = g .settled l
 
-      go : Verdict s w (k .ticket) (held k .depth) (body c (held k)) r → Explained s w c c tasks (assign tasks w (ended k (k .reads))) (some r) t
+      go : Verdict s w (k .ticket) (held k .depth) (body c (held k)) r → To c (ended k (k .reads)) (some r)
       go (settled l f) =
           silent c (alike-refl c) _ (some r)
           (sym (entry-at at tt ∙ ap (entryStatus (k .ticket)) (entry (hold .is) l) ∙ entry-settled _ _ l ∙ ap some (sym f)))
       go (crowded l f d g) =
-          let deep : leaf c a .depth ≡ s .depth = omega (arith, hold .depth, leaf-below s c (i .directory) a) in
-          let here : held k ≡ leaf c a = hold .named ∙ ap (λ z. nameAt z a) (d ∙ sym deep) ∙ sym (leaf-named s c (i .directory) a) in
+          let deep : leaf c a .depth ≡ s .depth = omega (arith, hold .depth, grove-of _ (i .directory) .bound a) in
+          let here : held k ≡ leaf c a = hold .named ∙ ap (λ z. nameAt z a) (d ∙ sym deep) ∙ sym (grove-name (grove-of _ (i .directory)) a) in
           let part : body c (held k) .items ≡ having (s .depth) (firstBits (s .depth) a) t = rw (here, ← deep) (parts .part a) in
           let full : crowds (s .capacity) (s .depth) a t ≡ true = crowds-full s a t (body c (held k)) part ∙ f in
           served _ r (update (call .wanted)) (call .asks)

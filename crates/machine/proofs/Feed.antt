@@ -4,7 +4,7 @@ use Prim.Native.Nat.{ℕ, _≤_, _<_}
 use native.Mathlib.Omega.{arith}
 use native.Mathlib.Decide.{ℕ-discrete}
 use mathlib.Core.Path.{_≡_, refl, ap, sym, _∙_}
-use mathlib.Core.Logic.{_≢_, _⊎_, inl, inr}
+use mathlib.Core.Logic.{_⊎_, inl, inr, ⊎-elim}
 use mathlib.Core.Bool.{true, false}
 use mathlib.Core.List.{List, [], _∷_, _++_}
 use mathlib.Core.Option.{some}
@@ -17,7 +17,7 @@ use Rattle.machine.specs.Sequential.{Table, Update, update, lookup, acco
 use Rattle.machine.specs.Records.{Body}
 use Rattle.machine.specs.BucketPass.{full, carryOut}
 use Rattle.machine.specs.History.{Member, Distinct, fed}
-use Rattle.machine.proofs.Base.{assign-at, assign-other}
+use Rattle.machine.proofs.Base.{assign-at}
 use Rattle.machine.proofs.Tables.{Ascending, length-having-le, having-changed, result-having, serve-crowded, serve-update}
 use Rattle.machine.proofs.Inv.{Task}
 use Rattle.machine.proofs.Explain.{feed, answersOf}
@@ -35,19 +35,12 @@ member-last y (z ∷ l) = inr (member-last y l)
 pub member-snoc : {A : Type 0} (x y : A) (l : List A) → Member x (l ++ y ∷ []) → Member x l ⊎ (x ≡ y)
 member-snoc x y [] (inl e) = inr e
 member-snoc x y (z ∷ l) (inl e) = inl (inl e)
-member-snoc x y (z ∷ l) (inr m) = go (member-snoc x y l m)
-  where
-    go : Member x l ⊎ (x ≡ y) → Member x (z ∷ l) ⊎ (x ≡ y)
-    go (inl h) = inl (inr h)
-    go (inr e) = inr e
+member-snoc x y (z ∷ l) (inr m) = ⊎-elim (λ h. inl (inr h)) inr (member-snoc x y l m)
 
 pub distinct-snoc : (l : List ℕ) (y : ℕ) → Distinct l → (Member y l → ⊥) → Distinct (l ++ y ∷ [])
 distinct-snoc [] y d n = (λ m. m, tt)
-distinct-snoc (x ∷ l) y d n = (λ m. go (member-snoc x y l m), distinct-snoc l y (d .1) (λ m. n (inr m)))
-  where
-    go : Member x l ⊎ (x ≡ y) → ⊥
-    go (inl m) = d .0 m
-    go (inr e) = n (inl (sym e))
+distinct-snoc (x ∷ l) y d n =
+    (λ m. ⊎-elim (d .0) (λ e. n (inl (sym e))) (member-snoc x y l m), distinct-snoc l y (d .1) (λ m. n (inr m)))
 
 pub member-dec : (i : ℕ) (l : List ℕ) → Dec (Member i l)
 member-dec i [] = no (λ m. m)
@@ -105,8 +98,7 @@ module _ (s : Settings) where
   unfolding fed
   fed-update u t e = serve-update (s .capacity) (s .depth) u t e
 
-  pub fed-crowded : (u : Update) (t : Table) → crowds (s .capacity) (s .depth) (account u) t ≡ true
-      → fed s (some (update u)) t ≡ (Crowded, t)
+  pub fed-crowded : (u : Update) (t : Table) → crowds (s .capacity) (s .depth) (account u) t ≡ true → fed s (some (update u)) t ≡ (Crowded, t)
   unfolding fed
   fed-crowded u t e = serve-crowded (s .capacity) (s .depth) u t e
 
@@ -131,7 +123,3 @@ module _ (u : Update) (t : Table) (d : ℕ) (b : Body) (part : b .items ≡ havi
   carried-answer j tk =
       assign-at (b .settled) j _ j refl
       ∙ ap (λ r. record { ticket = tk; answer = r }) (ap (result u) part ∙ result-having d u t)
-
-pub carried-other : (j : ℕ) (u : Update) (tk : ℕ) (b : Body) (i : ℕ) → i ≢ j → carryOut j u tk b .settled i ≡ b .settled i
-unfolding carryOut
-carried-other j u tk b i n = assign-other (b .settled) j _ i n

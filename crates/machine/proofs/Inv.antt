@@ -1,17 +1,19 @@
 -- The invariant of the machine (no histories in it): what each worker knows, what one worker has seen of another, and what any two
--- workers owe each other. Rests on the program counter and on working copies by account.
-use Prim.Native.Nat.{ℕ, zero, suc, _≤_, _<_}
+-- workers owe each other. Rests on where a worker stands and on working copies by account.
+use Prim.Native.Nat.{ℕ, _≤_, _<_}
 use mathlib.Core.Path.{_≡_}
-use mathlib.Core.Logic.{_≢_, _⊎_}
-use mathlib.Core.Bool.{Bool, true, false, not}
+use mathlib.Core.Logic.{_⊎_}
+use mathlib.Core.Bool.{true, not}
 use mathlib.Core.Option.{Option, none, some}
 use Rattle.interface.specs.declared.Settings.{Settings}
 use Rattle.machine.specs.Sequential.{Update, account, Operation, update, lookup}
-use Rattle.machine.specs.Records.{Name, Settled, Body, State, Stamped, Bucket, Directory, bucketOf, Leaf, kept, made, Copy, Slot, empty, announced, Cells, Reads}
+use Rattle.machine.specs.Records.{Name, Body, Bucket, bucketOf, Leaf, kept, made, Copy, Slot, empty, announced, Cells, Reads}
 use Rattle.machine.specs.BucketPass.{full, splittable}
 use Rattle.machine.specs.DirectoryPass.{copyOf, leafOf, nameOf, plant, takeSlots}
-use Rattle.machine.proofs.Counter.{Two, one, two, BStep, readS, readT, swap, slotB, DStep, copyD, swapD, slotD, state, PC, idle, announce, look₁, look₂, over, readD, flip, checkD, checkS, inB, inD}
 use Rattle.machine.proofs.Copies.{nameAt, Coherent}
+use Rattle.machine.proofs.Counter.{Two, one, two, BStep, DStep, copyD, swapD, slotD, state, PC, idle, announce, look₁, look₂, over, readD}
+use Rattle.machine.proofs.Counter.{flip, checkD, checkS, inB, inD, by-place}
+use Rattle.machine.proofs.Whereabouts.{IsTwo, BothTwo, sinceState, sinceCopy, Rounds, HasToggle, Saw, SawThere, Past, Late, Known, Covered}
 
 -- A worker as the proof sees it: the step to come, its operation, its last ticket and what it has read.
 pub record Task : Type 0 where
@@ -28,189 +30,6 @@ about (some (lookup a)) = a
 
 abbrev pub target : Task → ℕ
 target k = about (k .operation)
-
--- ---- pass and round
-
-abbrev pub IsTwo : Two → Type 0
-IsTwo one = ⊥
-IsTwo two = Unit {0}
-
-abbrev pub EitherTwo : Two → Two → Type 0
-EitherTwo one r = IsTwo r
-EitherTwo two r = Unit {0}
-
-abbrev pub BothTwo : Two → Two → Type 0
-BothTwo one r = ⊥
-BothTwo two r = IsTwo r
-
--- in round one: what was read, with stamp i, has been swapped since
-abbrev pub Outdated : Two → ℕ → ℕ → Type 0
-Outdated one i now = i ≢ now
-Outdated two i now = Unit {0}
-
--- ---- where a worker stands
-
--- in the rounds of the bucket pass, its toggle bit flipped
-abbrev pub Rounds : PC → Type 0
-Rounds idle = ⊥
-Rounds announce = ⊥
-Rounds look₁ = ⊥
-Rounds look₂ = ⊥
-Rounds over = ⊥
-Rounds (readD p) = ⊥
-Rounds (flip p) = ⊥
-Rounds (checkD p c) = ⊥
-Rounds (checkS p c) = ⊥
-Rounds (inB p r x) = Unit {0}
-Rounds (inD p r x) = ⊥
-
-abbrev pub TogB : BStep → Type 0
-TogB readS = ⊥
-TogB readT = ⊥
-TogB swap = Unit {0}
-TogB (slotB i) = Unit {0}
-
--- it has read a toggle
-abbrev pub HasToggle : PC → Type 0
-HasToggle idle = ⊥
-HasToggle announce = ⊥
-HasToggle look₁ = ⊥
-HasToggle look₂ = ⊥
-HasToggle over = ⊥
-HasToggle (readD p) = ⊥
-HasToggle (flip p) = ⊥
-HasToggle (checkD p c) = ⊥
-HasToggle (checkS p c) = ⊥
-HasToggle (inB p r x) = TogB x
-HasToggle (inD p r x) = ⊥
-
-abbrev pub SawB : ℕ → ℕ → BStep → Type 0
-SawB n j readS = ⊥
-SawB n j readT = ⊥
-SawB n j swap = j < n
-SawB n j (slotB i) = j < i
-
--- in a round of the bucket pass it has read slot j
-abbrev pub Saw : ℕ → ℕ → PC → Type 0
-Saw n j idle = ⊥
-Saw n j announce = ⊥
-Saw n j look₁ = ⊥
-Saw n j look₂ = ⊥
-Saw n j over = ⊥
-Saw n j (readD p) = ⊥
-Saw n j (flip p) = ⊥
-Saw n j (checkD p c) = ⊥
-Saw n j (checkS p c) = ⊥
-Saw n j (inB p r x) = SawB n j x
-Saw n j (inD p r x) = ⊥
-
-abbrev pub SawD : ℕ → ℕ → DStep → Type 0
-SawD n j copyD = ⊥
-SawD n j swapD = j < n
-SawD n j (slotD i) = j < i
-SawD n j (state i) = j < n
-
--- in a round of the directory pass it has read slot j
-abbrev pub SawThere : ℕ → ℕ → PC → Type 0
-SawThere n j idle = ⊥
-SawThere n j announce = ⊥
-SawThere n j look₁ = ⊥
-SawThere n j look₂ = ⊥
-SawThere n j over = ⊥
-SawThere n j (readD p) = ⊥
-SawThere n j (flip p) = ⊥
-SawThere n j (checkD p c) = ⊥
-SawThere n j (checkS p c) = ⊥
-SawThere n j (inB p r x) = ⊥
-SawThere n j (inD p r x) = SawD n j x
-
-abbrev pub PastD : ℕ → ℕ → DStep → Type 0
-PastD n j copyD = ⊥
-PastD n j swapD = j < n
-PastD n j (slotD i) = ⊥
-PastD n j (state i) = j < i
-
--- it is past its state step for worker j there
-abbrev pub Past : ℕ → ℕ → PC → Type 0
-Past n j idle = ⊥
-Past n j announce = ⊥
-Past n j look₁ = ⊥
-Past n j look₂ = ⊥
-Past n j over = ⊥
-Past n j (readD p) = ⊥
-Past n j (flip p) = ⊥
-Past n j (checkD p c) = ⊥
-Past n j (checkS p c) = ⊥
-Past n j (inB p r x) = ⊥
-Past n j (inD p r x) = PastD n j x
-
-abbrev pub LateB : Two → ℕ → ℕ → BStep → Type 0
-LateB r i now readS = IsTwo r
-LateB r i now readT = Outdated r i now
-LateB r i now swap = Outdated r i now
-LateB r i now (slotB k) = Outdated r i now
-
--- so far in the bucket pass that whoever can still swap at its bucket has seen its flip; i: the stamp it has read, now: the bucket's
-abbrev pub Late : ℕ → ℕ → PC → Type 0
-Late i now idle = ⊥
-Late i now announce = ⊥
-Late i now look₁ = ⊥
-Late i now look₂ = ⊥
-Late i now over = ⊥
-Late i now (readD p) = ⊥
-Late i now (flip p) = ⊥
-Late i now (checkD p c) = ⊥
-Late i now (checkS p c) = ⊥
-Late i now (inB p r x) = LateB r i now x
-Late i now (inD p r x) = ⊥
-
-abbrev pub AnnouncedBefore : Two → Two → ℕ → ℕ → Type 0
-AnnouncedBefore one r i now = Outdated r i now
-AnnouncedBefore two r i now = Unit {0}
-
-abbrev pub KnownD : Two → Two → ℕ → ℕ → DStep → Type 0
-KnownD p r i now copyD = EitherTwo p r
-KnownD p r i now swapD = AnnouncedBefore p r i now
-KnownD p r i now (slotD k) = AnnouncedBefore p r i now
-KnownD p r i now (state k) = AnnouncedBefore p r i now
-
--- so far that whoever can still swap the directory, and has read its slot, has read its update; i, now: the directory's stamps
-abbrev pub Known : ℕ → ℕ → PC → Type 0
-Known i now idle = ⊥
-Known i now announce = ⊥
-Known i now look₁ = ⊥
-Known i now look₂ = ⊥
-Known i now over = ⊥
-Known i now (readD p) = IsTwo p
-Known i now (flip p) = IsTwo p
-Known i now (checkD p c) = EitherTwo p c
-Known i now (checkS p c) = EitherTwo p c
-Known i now (inB p r x) = IsTwo p
-Known i now (inD p r x) = KnownD p r i now x
-
-abbrev pub FullBefore : Two → Two → ℕ → ℕ → Type 0
-FullBefore one r i now = ⊥
-FullBefore two r i now = Outdated r i now
-
-abbrev pub CoveredD : Two → Two → ℕ → ℕ → DStep → Type 0
-CoveredD p r i now copyD = BothTwo p r
-CoveredD p r i now swapD = FullBefore p r i now
-CoveredD p r i now (slotD k) = FullBefore p r i now
-CoveredD p r i now (state k) = FullBefore p r i now
-
--- in pass two's directory pass, so far that whoever can still swap the directory splits its bucket
-abbrev pub Covered : ℕ → ℕ → PC → Type 0
-Covered i now idle = ⊥
-Covered i now announce = ⊥
-Covered i now look₁ = ⊥
-Covered i now look₂ = ⊥
-Covered i now over = ⊥
-Covered i now (readD p) = ⊥
-Covered i now (flip p) = ⊥
-Covered i now (checkD p c) = ⊥
-Covered i now (checkS p c) = ⊥
-Covered i now (inB p r x) = ⊥
-Covered i now (inD p r x) = CoveredD p r i now x
 
 -- ---- resolving a bucket
 
@@ -264,6 +83,12 @@ abbrev pub IsMade : Leaf → Type 0
 IsMade (kept x) = ⊥
 IsMade (made x b) = Unit {0}
 
+-- what the task q owes worker j with the task k at one bucket: whoever can still swap there has seen its flip
+abbrev pub Rush : Cells → ℕ → Task → Task → Type 0
+Rush c j k q =
+    Late (k .reads .state .stamp) (own c k .state .stamp) (k .pc) → Differ (own c k) j
+    → held q ≡ held k → HasToggle (q .pc) → Fresh c q → q .reads .toggle j ≡ own c k .toggle j
+
 module _ (s : Settings) where
   -- Worker j's update with ticket t, whose bucket has depth d and body b: settled there, or crowded for good.
   abbrev pub Closed : ℕ → ℕ → ℕ → Body → Type 0
@@ -280,24 +105,45 @@ module _ (s : Settings) where
   abbrev pub Shut : Cells → ℕ → Task → Type 0
   Shut c j k = ClosedIn c j (k .ticket) (target k)
 
+  -- worker j's slot, once read as x, is still that, or its update is closed
+  abbrev pub Old : Cells → ℕ → Slot → Type 0
+  Old c j x = (x ≡ c .slots j) ⊎ ClosedSlot c j x
+
+  -- worker j's ticket t is settled in the body b, or the bucket is full
+  abbrev pub SettledOrFull : ℕ → ℕ → Body → Type 0
+  SettledOrFull j t b = (t ≤ b .settled j .ticket) ⊎ (full s b ≡ true)
+
   -- A bucket of body b stood where one of body b′ stands now.
   pub record Gone (j t : ℕ) (b b′ : Body) : Type 0 where
     pub full : full s b ≡ true
     pub settled : t ≤ b .settled j .ticket → b′ .settled j ≡ b .settled j
 
+  abbrev pub HeldOrGone : Cells → ℕ → Task → Type 0
+  HeldOrGone c j k = (held k ≡ leaf c (target k)) ⊎ Gone j (k .ticket) (body c (held k)) (leafBody c (target k))
+
   -- The bucket held is the account's, or one that is gone.
   pub record Hold (c : Cells) (j : ℕ) (k : Task) : Type 0 where
     pub named : held k ≡ nameAt (held k .depth) (target k)
     pub depth : held k .depth ≤ leaf c (target k) .depth
-    pub is : (held k ≡ leaf c (target k)) ⊎ Gone j (k .ticket) (body c (held k)) (leafBody c (target k))
+    pub is : HeldOrGone c j k
 
-  -- In pass two the account's bucket is held, or the update is closed.
+  -- The update is closed, or the account's bucket is held; or it is full; or the directory that was read is current.
+  abbrev pub HeldOrShut : Cells → ℕ → Task → Type 0
+  HeldOrShut c j k = (held k ≡ leaf c (target k)) ⊎ Shut c j k
+
+  abbrev pub FullOrShut : Cells → ℕ → Task → Type 0
+  FullOrShut c j k = (full s (leafBody c (target k)) ≡ true) ⊎ Shut c j k
+
+  abbrev pub FreshOrShut : Cells → ℕ → Task → Type 0
+  FreshOrShut c j k = DirectoryFresh c k ⊎ Shut c j k
+
+  -- in pass two
   abbrev pub HoldsLeaf : Two → Cells → ℕ → Task → Type 0
-  HoldsLeaf p c j k = IsTwo p → (held k ≡ leaf c (target k)) ⊎ Shut c j k
+  HoldsLeaf p c j k = IsTwo p → HeldOrShut c j k
 
-  -- Past pass two's bucket pass the account's bucket is full, or the update is closed.
+  -- past pass two's bucket pass
   abbrev pub FullLeaf : Two → Cells → ℕ → Task → Type 0
-  FullLeaf p c j k = IsTwo p → (full s (leafBody c (target k)) ≡ true) ⊎ Shut c j k
+  FullLeaf p c j k = IsTwo p → FullOrShut c j k
 
   -- ---- the bucket pass
 
@@ -308,15 +154,12 @@ module _ (s : Settings) where
     pub second : IsTwo r → Differ (own c k) j → Fresh c k
 
   abbrev pub SeenAt : Two → BStep → Cells → ℕ → Task → Type 0
-  SeenAt r readS c j k = Unit {0}
-  SeenAt r readT c j k = SeenState r c j k
-  SeenAt r swap c j k = SeenState r c j k
-  SeenAt r (slotB i) c j k = SeenState r c j k
+  SeenAt r x c j k = sinceState (Unit {0}) (SeenState r c j k) x
 
   pub record InRound (p r : Two) (x : BStep) (c : Cells) (j : ℕ) (k : Task) : Type 0 where
     pub hold : Hold c j k
     pub pass : HoldsLeaf p c j k
-    pub applied : Agree (own c k) j → (k .ticket ≤ body c (held k) .settled j .ticket) ⊎ (full s (body c (held k)) ≡ true)
+    pub applied : Agree (own c k) j → SettledOrFull j (k .ticket) (body c (held k))
     pub seen : SeenAt r x c j k
 
   -- ---- the directory pass
@@ -345,10 +188,7 @@ module _ (s : Settings) where
   ReadAt swapD c k = SeenDirectory c k × (DirectoryFresh c k → (a : ℕ) → Worked c k a)
 
   abbrev pub RoundAt : Two → Two → DStep → Cells → ℕ → Task → Type 0
-  RoundAt p r copyD c j k = Unit {0}
-  RoundAt p r (slotD i) c j k = BothTwo p r → DirectoryFresh c k ⊎ Shut c j k
-  RoundAt p r (state i) c j k = BothTwo p r → DirectoryFresh c k ⊎ Shut c j k
-  RoundAt p r swapD c j k = BothTwo p r → DirectoryFresh c k ⊎ Shut c j k
+  RoundAt p r x c j k = sinceCopy (Unit {0}) (BothTwo p r → FreshOrShut c j k) x
 
   pub record InDirectory (p r : Two) (x : DStep) (c : Cells) (j : ℕ) (k : Task) : Type 0 where
     pub full : FullLeaf p c j k
@@ -360,13 +200,13 @@ module _ (s : Settings) where
   -- before the check of pass p's bucket pass (one) or directory pass (two)
   abbrev pub Due : Two → Two → Cells → ℕ → Task → Type 0
   Due one x c j k = Unit {0}
-  Due two one c j k = (full s (leafBody c (target k)) ≡ true) ⊎ Shut c j k
+  Due two one c j k = FullOrShut c j k
   Due two two c j k = Shut c j k
 
   -- in it, the bucket held
   abbrev pub DueHere : Two → Two → Cells → ℕ → Task → Type 0
   DueHere one x c j k = Unit {0}
-  DueHere two one c j k = (full s (leafBody c (target k)) ≡ true) ⊎ Shut c j k
+  DueHere two one c j k = FullOrShut c j k
   DueHere two two c j k = Closed j (k .ticket) (held k .depth) (body c (held k))
 
   -- ---- what worker j knows
@@ -392,17 +232,8 @@ module _ (s : Settings) where
 
   -- of its slot
   abbrev pub SlotFacts : PC → Cells → ℕ → Task → Type 0
-  SlotFacts idle c j k = (k .operation ≡ none) × ClosedSlot c j (c .slots j)
-  SlotFacts announce c j k = Calling c j k
-  SlotFacts look₁ c j k = Looking c j k
-  SlotFacts look₂ c j k = Looking c j k
-  SlotFacts over c j k = ⊥
-  SlotFacts (readD p) c j k = Announced c j k
-  SlotFacts (flip p) c j k = Announced c j k
-  SlotFacts (checkD p x) c j k = Announced c j k
-  SlotFacts (checkS p x) c j k = Announced c j k
-  SlotFacts (inB p r x) c j k = Announced c j k
-  SlotFacts (inD p r x) c j k = Announced c j k
+  SlotFacts pc c j k = by-place (λ x. Type 0)
+      ((k .operation ≡ none) × ClosedSlot c j (c .slots j)) (Calling c j k) (Looking c j k) (Looking c j k) ⊥ (λ x u. Announced c j k) pc
 
   -- of the bucket or the directory that it has read
   abbrev pub ReadFacts : PC → Cells → ℕ → Task → Type 0
@@ -431,15 +262,12 @@ module _ (s : Settings) where
     -- the slot of a bit seen to differ was read as it is
     pub slot : Saw (s .workers) j (k .pc) → Fresh c k → Differ (own c k) j → k .reads .toggle j ≡ own c k .toggle j → k .reads .slots j ≡ c .slots j
     -- a slot that was read is the slot, or its update is closed
-    pub old : (k .reads .slots j ≡ c .slots j) ⊎ ClosedSlot c j (k .reads .slots j)
+    pub old : Old c j (k .reads .slots j)
 
   -- ---- what a worker with task q owes worker j with task k
 
   pub record Pair (j : ℕ) (c : Cells) (k q : Task) : Type 0 where
-    -- whoever can still swap at j's bucket has seen its flip
-    pub rush :
-        Late (k .reads .state .stamp) (own c k .state .stamp) (k .pc) → Differ (own c k) j
-        → held q ≡ held k → HasToggle (q .pc) → Fresh c q → q .reads .toggle j ≡ own c k .toggle j
+    pub rush : Rush c j k q
     -- whoever can still swap the directory has read j's update
     pub seen :
         Known (k .reads .directory .stamp) (c .directory .stamp) (k .pc)

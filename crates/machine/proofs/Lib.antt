@@ -8,6 +8,7 @@ pub mod Openings
 pub mod WordsLimit
 pub mod Cases
 pub mod Cells
+pub mod Whereabouts
 pub mod Inv
 pub mod Keeping
 pub mod Transitions

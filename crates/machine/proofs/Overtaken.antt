@@ -9,17 +9,15 @@ use mathlib.Core.List.{List, _∷_}
 use mathlib.Core.Option.{none, some}
 use Rattle.interface.specs.declared.Settings.{Settings}
 use Rattle.interface.specs.declared.Answer.{Answer}
-use Rattle.machine.specs.Sequential.{Table, Operation, lookup, find, looked}
+use Rattle.machine.specs.Sequential.{Table, lookup, find, looked}
 use Rattle.machine.specs.Records.{same, Bucket, Cells}
 use Rattle.machine.specs.History.{Member, Distinct, fed}
-use Rattle.machine.proofs.Base.{if-true, if-false}
-use Rattle.machine.proofs.Cells.{same-false}
-use Rattle.machine.proofs.Copies.{same-true}
+use Rattle.machine.proofs.Base.{if-true, if-false, below-suc}
+use Rattle.machine.proofs.Cells.{same-false, same-true}
 use Rattle.machine.proofs.Tables.{find-having-in}
 use Rattle.machine.proofs.Inv.{Task, target, leaf, body, held, own, Hold}
-use Rattle.machine.proofs.Splitting.{below-suc}
 use Rattle.machine.proofs.Change.{stay, grow, Leads}
-use Rattle.machine.proofs.Explain.{Parts, lookupStatus, status, feed, answersOf}
+use Rattle.machine.proofs.Explain.{Parts, lookupStatus, status, feed, answersOf, Unserved, Explained}
 use Rattle.machine.proofs.Feed.{member-dec, fed-lookup}
 
 -- A lookup, k, that holds a bucket which the change does not touch: it has had what it had, or it has just had the plain table's answer.
@@ -56,16 +54,12 @@ module _ (s : Settings) (c c′ : Cells) (tasks : ℕ → Task) (t : Table) wher
     pub waits : status c j (tasks j) ≡ none
     pub answered : status c′ j (tasks j) ≡ some (looked (find t (target (tasks j))))
 
-  -- it has an operation under way, which had not had its moment
-  abbrev Unserved : ℕ → Type 0
-  Unserved j = (j < s .workers) × (status c j (tasks j) ≡ none) × ((o : Operation) × (tasks j .operation ≡ some o))
-
   -- The change as explained for the workers below m, and for the workers js, whose updates it carries out.
   pub record Tale (js : List ℕ) (m : ℕ) : Type 0 where
     pub effects : List ℕ
     pub keeps : (j : ℕ) → Member j js → Member j effects
     pub distinct : Distinct effects
-    pub waiting : (j : ℕ) → Member j effects → Unserved j
+    pub waiting : (j : ℕ) → Member j effects → Unserved s c tasks j
     pub parts : Parts c′ (feed s tasks t effects)
     pub gained : (j : ℕ) (r : Answer) → Member (j, r) (answersOf s tasks t effects) → status c′ j (tasks j) ≡ some r
     pub others : (j : ℕ) → j < m → (Member j effects → ⊥) → status c′ j (tasks j) ≡ status c j (tasks j)
@@ -86,7 +80,7 @@ module _ (s : Settings) (c c′ : Cells) (tasks : ℕ → Task) (t : Table) wher
         e : fed s (tasks m .operation) t ≡ (looked (find t (target (tasks m))), t)
         e = rw (h .asks) (fed-lookup s (h .asked) t)
 
-        waiting : (j : ℕ) → Member j (m ∷ q .effects) → Unserved j
+        waiting : (j : ℕ) → Member j (m ∷ q .effects) → Unserved s c tasks j
         waiting j (inl x) = rw x (mn, h .waits, (lookup (h .asked), h .asks))
         waiting j (inr x) = q .waiting j x
 
@@ -106,13 +100,19 @@ module _ (s : Settings) (c c′ : Cells) (tasks : ℕ → Task) (t : Table) wher
     }
 
   -- each worker that is not among js has had what it had, or is a lookup that is overtaken
-  pub tale : (js : List ℕ) → ((j : ℕ) → j < s .workers → (Member j js → ⊥) → Passed j ⊎ (status c′ j (tasks j) ≡ status c j (tasks j)))
-      → Tale js 0 → (m : ℕ) → m ≤ s .workers → Tale js m
-  tale js v q zero l = q
-  tale js v q (suc m) l = go (tale js v q m (omega arith))
-    where
-      go : Tale js m → Tale js (suc m)
-      go y = elim (member-dec m (y .effects)) [
-        | yes x ↦ stays y (λ n. absurd (n x))
-        | no n ↦ elim (v m (omega arith) (λ x. n (y .keeps m x))) [ inl h ↦ passes y (omega arith) h n | inr e ↦ stays y (λ x. e) ]
-      ]
+  module _ (js : List ℕ) (v : (j : ℕ) → j < s .workers → (Member j js → ⊥) → Passed j ⊎ (status c′ j (tasks j) ≡ status c j (tasks j)))
+      (q : Tale js 0) where
+    tales : (m : ℕ) → m ≤ s .workers → Tale js m
+    tales zero l = q
+    tales (suc m) l = go (tales m (omega arith))
+      where
+        go : Tale js m → Tale js (suc m)
+        go y = elim (member-dec m (y .effects)) [
+          | yes x ↦ stays y (λ n. absurd (n x))
+          | no n ↦ elim (v m (omega arith) (λ x. n (y .keeps m x))) [ inl h ↦ passes y (omega arith) h n | inr e ↦ stays y (λ x. e) ]
+        ]
+
+    pub tale : Explained s c c′ tasks tasks (λ j. none) t
+    tale =
+        let x = tales (s .workers) (omega arith) in
+        record { effects = x .effects; distinct = x .distinct; waiting = x .waiting; parts = x .parts; gained = x .gained; others = x .others }

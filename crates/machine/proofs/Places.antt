@@ -3,36 +3,39 @@ use Prim.Native.Nat.{ℕ, zero, suc, _≤_, _<_}
 use native.Mathlib.Omega.{arith}
 use native.Mathlib.Decide.{ℕ-discrete, decLt}
 use mathlib.Core.Path.{_≡_, refl, sym, ap, _∙_, subst}
-use mathlib.Core.Logic.{_≢_, _⊎_, inl, inr}
+use mathlib.Core.Logic.{_≢_, by-cases}
 use mathlib.Core.Bool.{Bool, true, false}
-use mathlib.Core.List.{List, [], _∷_}
+use mathlib.Core.List.{List}
 use mathlib.Core.Option.{Option, none, some}
 use lib.Dec.{ltb, eqb}
 use lib.IntN.{ℤ}
-use lib.ListN.{length, getD, List·getD-eq-default}
-use borrow.Author.Tests.{eq-eqb, ne-eqb, eqb-true, eqb-false, lt-ltb, le-ltb}
+use lib.ListN.{length, List·getD-eq-default}
+use borrow.Author.Tests.{eq-eqb, ne-eqb, lt-ltb, le-ltb}
 use Rattle.interface.specs.declared.Settings.{Settings}
 use Rattle.interface.specs.declared.Answer.{Answer}
 use Rattle.interface.specs.declared.Stepped.{Stepped}
 use Rattle.interface.specs.declared.Completion.{Completion}
 use Rattle.interface.specs.declared.Called.{Called}
-use Rattle.machine.specs.Choice.{if_then_else_, _and_, assign}
-use Rattle.machine.specs.Sequential.{Table, Operation, update, lookup}
-use Rattle.machine.specs.Records.{Cells, Reads, Worker, Machine}
+use Rattle.machine.specs.Choice.{if_then_else_, _and_}
+use Rattle.machine.specs.Sequential.{Table, Operation}
+use Rattle.machine.specs.Records.{Cells, Worker, Machine}
 use Rattle.machine.specs.Steps.{Effect, step, done, counted, reported}
-use Rattle.machine.specs.Calls.{call, begun, operationOf, ticketFor}
-use Rattle.machine.specs.History.{Entry, calling, stepping, showing, reopening, next, asked, accepts, moves, callsTo, stepsOf, entryAt, machineAt, isCall, isStep, stepsBetween, IsOperation, Ended}
-use Rattle.machine.proofs.Base.{no-both, if-elim, if-true, if-false, and-true, and-parts, and-left-false, and-right-false, assign-at, assign-other}
+use Rattle.machine.specs.Calls.{call, begun}
+use Rattle.machine.specs.History.{Entry, calling, stepping, showing, reopening, next, asked, accepts, moves, callsTo, stepsOf, entryAt}
+use Rattle.machine.specs.History.{machineAt, isCall, isStep, stepsBetween, IsOperation, Ended}
+use Rattle.machine.proofs.Base.{no-both, if-elim, if-true, if-false, and-true, and-left-false, and-right-false, assign-at, assign-other}
+use Rattle.machine.proofs.Base.{neither-less, none-some}
 use Rattle.machine.proofs.Openings.{call-refused, step-refused}
-use Rattle.machine.proofs.Steplink.{effectOf, workerAfter}
-use Rattle.machine.proofs.Advance.{StepParts, accepted-step, CallParts, accepted-call, answerIn, answerTo}
+use Rattle.machine.proofs.Steplink.{effectOf}
+use Rattle.machine.proofs.Advance.{StepParts, accepted-step, accepted-call, answerIn, answerTo, begun-other}
 
 -- ---- one entry
 
 -- What an entry leaves of worker j, w before it and w′ after it.
 pub data Leaves (s : Settings) (m : Machine) (e : Entry) (j : ℕ) (w′ : Worker) : Type 0 where
   -- an accepted call to it
-  begins : callsTo s m e j ≡ true → m .workers j .operation ≡ none → w′ .operation ≡ asked e → w′ .steps ≡ 0 → answerTo s m e j ≡ none → Leaves s m e j w′
+  begins : callsTo s m e j ≡ true → m .workers j .operation ≡ none → w′ .operation ≡ asked e → w′ .steps ≡ 0 → answerTo s m e j ≡ none
+      → Leaves s m e j w′
   -- an accepted step of it without an answer
   moves-on :
       callsTo s m e j ≡ false → stepsOf s m e j ≡ true → w′ .operation ≡ m .workers j .operation → w′ .steps ≡ suc (m .workers j .steps)
@@ -57,10 +60,6 @@ done-reply : (m : Machine) (j : ℕ) (f : Effect Cells) → done m j f .1 ≡ re
 unfolding done
 done-reply m j f = refl
 
-begun-other : (m : Machine) (j i : ℕ) (o : Operation) → i ≢ j → begun m j o .workers i ≡ m .workers i
-unfolding begun
-begun-other m j i o d = assign-other (m .workers) j _ i d
-
 module _ (s : Settings) (m : Machine) (j : ℕ) where
   -- a step of worker j itself
   own-step : moves (step s m j .1) ≡ true → Leaves s m (stepping j) j (step s m j .0 .workers j)
@@ -73,9 +72,11 @@ module _ (s : Settings) (m : Machine) (j : ℕ) where
       given : stepsOf s m (stepping j) j ≡ true
       given = and-true (eq-eqb j j refl) h
 
-      after : (a : Option Answer) → effectOf s m j (c .operation) .answer ≡ a → step s m j .0 .workers j ≡ counted (m .workers j) (effectOf s m j (c .operation) .reads) a
+      after : (a : Option Answer) → effectOf s m j (c .operation) .answer ≡ a
+          → step s m j .0 .workers j ≡ counted (m .workers j) (effectOf s m j (c .operation) .reads) a
       after a e =
-          ap (λ (r : Machine × Stepped). r .0 .workers j) (c .is) ∙ done-worker m j _ ∙ ap (counted (m .workers j) (effectOf s m j (c .operation) .reads)) e
+          ap (λ (r : Machine × Stepped). r .0 .workers j) (c .is) ∙ done-worker m j _
+          ∙ ap (counted (m .workers j) (effectOf s m j (c .operation) .reads)) e
 
       reply : (a : Option Answer) → effectOf s m j (c .operation) .answer ≡ a → step s m j .1 ≡ reported (suc (m .workers j .steps)) a
       reply a e = ap (λ (r : Machine × Stepped). r .1) (c .is) ∙ done-reply m j _ ∙ ap (reported (suc (m .workers j .steps))) e
@@ -101,17 +102,14 @@ module _ (s : Settings) (m : Machine) (j : ℕ) where
 
   stepping-leaves : (i : ℕ) → Leaves s m (stepping i) j (step s m i .0 .workers j)
   unfolding callsTo stepsOf
-  stepping-leaves i = go (ℕ-discrete j i)
+  stepping-leaves i = by-cases (ℕ-discrete j i)
+      (λ e. subst (λ (i : ℕ). Leaves s m (stepping i) j (step s m i .0 .workers j)) e (by (step s m j .1) refl)) (other-step i)
     where
       by : (r : Stepped) → step s m j .1 ≡ r → Leaves s m (stepping j) j (step s m j .0 .workers j)
       by Stepped.Moved e = own-step (ap moves e)
       by (Stepped.Answered a) e = own-step (ap moves e)
       by (Stepped.Refused r) e = rests refl (ap (λ (x : Bool). eqb j j and x) (ap moves e) ∙ and-right-false _)
           (ap (λ (x : Machine). x .workers j) (step-refused s m j e)) (if-true _ _ (eq-eqb j j refl) ∙ ap answerIn e)
-
-      go : Dec (j ≡ i) → Leaves s m (stepping i) j (step s m i .0 .workers j)
-      go (yes e) = subst (λ (i : ℕ). Leaves s m (stepping i) j (step s m i .0 .workers j)) e (by (step s m j .1) refl)
-      go (no d) = other-step i d
 
   calling-leaves : (i kind a : ℕ) (v : ℤ) → Leaves s m (calling i kind a v) j (call s m i kind a v .0 .workers j)
   unfolding callsTo stepsOf asked begun
@@ -122,7 +120,8 @@ module _ (s : Settings) (m : Machine) (j : ℕ) where
       untouched f e = rests f refl e refl
 
       by : (r : Called) → call s m i kind a v .1 ≡ r → Dec (j ≡ i) → Leaves s m (calling i kind a v) j (call s m i kind a v .0 .workers j)
-      by (Called.Refused r) e d = untouched (ap (λ (x : Called). eqb i j and accepts x) e ∙ and-right-false _) (ap (λ (x : Machine). x .workers j) (call-refused s m i kind a v e))
+      by (Called.Refused r) e d = untouched (ap (λ (x : Called). eqb i j and accepts x) e ∙ and-right-false _)
+          (ap (λ (x : Machine). x .workers j) (call-refused s m i kind a v e))
       by Called.Accepted e (no d) =
           let c = accepted-call s m i kind a v (ap accepts e) in
           untouched (and-left-false _ (ne-eqb i j (λ x. d (sym x)))) (ap (λ (r : Machine × Called). r .0 .workers j) (c .is) ∙ begun-other m i j _ d)
@@ -154,11 +153,8 @@ module _ (s : Settings) (m : Machine) (t : Table) (es : List Entry) where
   -- past the end nothing happens
   pub step-within : (i j : ℕ) → isStep s m t es i j ≡ true → i < length es
   unfolding stepsOf entryAt
-  step-within i j h = go (decLt i (length es))
-    where
-      go : Dec (i < length es) → i < length es
-      go (yes l) = l
-      go (no l) = absurd (no-both h (ap (λ (e : Entry). stepsOf s (at i) e j) (List·getD-eq-default es (showing 0 0) (omega arith))))
+  step-within i j h = by-cases (decLt i (length es)) (λ l. l)
+      (λ l. absurd (no-both h (ap (λ (e : Entry). stepsOf s (at i) e j) (List·getD-eq-default es (showing 0 0) (omega arith)))))
 
   pub at-next : (i j : ℕ) → Leaves s (at i) (entry i) j (worker (suc i) j)
   unfolding machineAt
@@ -201,11 +197,8 @@ module _ (s : Settings) (m : Machine) (t : Table) (es : List Entry) where
 
   pub count-le : (j c i k : ℕ) → i ≤ k → count j c i ≤ count j c k
   count-le j c i zero l = omega (arith, count-none j c i (omega arith))
-  count-le j c i (suc k) l = go (count-le j c i k) (ℕ-discrete i (suc k))
-    where
-      go : (i ≤ k → count j c i ≤ count j c k) → Dec (i ≡ suc k) → count j c i ≤ count j c (suc k)
-      go h (yes e) = rw e (omega arith)
-      go h (no e) = omega (arith, h (omega arith), count-up j c k)
+  count-le j c i (suc k) l =
+      by-cases (ℕ-discrete i (suc k)) (λ e. rw e (omega arith)) (λ e. omega (arith, count-le j c i k (omega arith), count-up j c k))
 
   -- ---- the operation under way
 
@@ -216,7 +209,8 @@ module _ (s : Settings) (m : Machine) (t : Table) (es : List Entry) where
     pub latest : (k : ℕ) → c < k → k < i → isCall s m t es k j ≡ false
     pub steps : worker i j .steps ≡ count j c i
 
-  from-call : (i j : ℕ) (o : Operation) → i < length es → isCall s m t es i j ≡ true → asked (entry i) ≡ some o → worker (suc i) j .steps ≡ 0 → From i (suc i) j o
+  from-call : (i j : ℕ) (o : Operation) → i < length es → isCall s m t es i j ≡ true → asked (entry i) ≡ some o → worker (suc i) j .steps ≡ 0
+      → From i (suc i) j o
   from-call i j o l c q z = record {
     called = record { within = l; accepted = c; operation = q };
     before = omega arith;
@@ -224,32 +218,31 @@ module _ (s : Settings) (m : Machine) (t : Table) (es : List Entry) where
     steps = z ∙ sym (count-none j i (suc i) (omega arith));
   }
 
-  from-next : (c i j : ℕ) (o : Operation) → isCall s m t es i j ≡ false → worker (suc i) j .steps ≡ count j c (suc i) → From c i j o → From c (suc i) j o
+  from-next : (c i j : ℕ) (o : Operation) → isCall s m t es i j ≡ false → worker (suc i) j .steps ≡ count j c (suc i) → From c i j o
+      → From c (suc i) j o
   from-next c i j o f q u = record {
     called = u .called;
     before = omega (arith, u .before);
-    latest = λ k a b. later k a b (ℕ-discrete k i);
+    latest = λ k a b. by-cases (ℕ-discrete k i) (λ x. rw x f) (λ x. u .latest k a (omega arith));
     steps = q;
   }
-    where
-      later : (k : ℕ) → c < k → k < suc i → Dec (k ≡ i) → isCall s m t es k j ≡ false
-      later k a b (yes x) = rw x f
-      later k a b (no x) = u .latest k a (omega arith)
 
   module _ (idle : (j : ℕ) → m .workers j .operation ≡ none) where
     -- an operation under way came from its worker's last call
     pub under-way : (i j : ℕ) (o : Operation) → i ≤ length es → worker i j .operation ≡ some o → From (lastCall i j) i j o
     unfolding machineAt
-    under-way zero j o l e = absurd (let z : _≡_ {A = ℕ} 0 1 = cc (idle j) in omega arith)
+    under-way zero j o l e = absurd (none-some (idle j) e)
     under-way (suc i) j o l e = go (under-way i j o (omega arith)) (at-next i j)
       where
-        same : isCall s m t es i j ≡ false → worker (suc i) j .steps ≡ count j (lastCall i j) (suc i) → From (lastCall i j) i j o → From (lastCall (suc i) j) (suc i) j o
+        same : isCall s m t es i j ≡ false → worker (suc i) j .steps ≡ count j (lastCall i j) (suc i) → From (lastCall i j) i j o
+            → From (lastCall (suc i) j) (suc i) j o
         same f q u = subst (λ (c : ℕ). From c (suc i) j o) (sym (last-before i j f)) (from-next (lastCall i j) i j o f q u)
 
-        go : (worker i j .operation ≡ some o → From (lastCall i j) i j o) → Leaves s (at i) (entry i) j (worker (suc i) j) → From (lastCall (suc i) j) (suc i) j o
+        go : (worker i j .operation ≡ some o → From (lastCall i j) i j o) → Leaves s (at i) (entry i) j (worker (suc i) j)
+            → From (lastCall (suc i) j) (suc i) j o
         go h (begins c b q z a) = subst (λ (c : ℕ). From c (suc i) j o) (sym (last-here i j c)) (from-call i j o (omega arith) c (sym q ∙ e) z)
         go h (moves-on c st q z a) = let u = h (sym q ∙ e) in same c (z ∙ ap suc (u .steps) ∙ sym (count-step j _ i (u .before) st)) u
-        go h (ends x a r c st q z) = absurd (let y : _≡_ {A = ℕ} 0 1 = cc in omega arith)
+        go h (ends x a r c st q z) = absurd (none-some q e)
         go h (rests c st q a) =
             let u = h (ap (λ (w : Worker). w .operation) (sym q) ∙ e) in
             same c (ap (λ (w : Worker). w .steps) q ∙ u .steps ∙ sym (count-rest j _ i st)) u
@@ -259,7 +252,8 @@ module _ (s : Settings) (m : Machine) (t : Table) (es : List Entry) where
     -- before place i the operation o of the call at place c is under way, or it has been answered
     pub data Fate (c i j : ℕ) (o : Operation) : Type 0 where
       waits : worker i j .operation ≡ some o → From c i j o → Fate c i j o
-      answered : (k : ℕ) (r : Completion) → k < i → Ended s m t es c k j o r → r .steps ≡ suc (count j c k) → worker (suc k) j .operation ≡ none → Fate c i j o
+      answered : (k : ℕ) (r : Completion) → k < i → Ended s m t es c k j o r → r .steps ≡ suc (count j c k) → worker (suc k) j .operation ≡ none
+          → Fate c i j o
 
     fate-here : (c j : ℕ) (o : Operation) → IsOperation s m t es c j o → Fate c (suc c) j o
     fate-here c j o h = go (at-next c j)
@@ -275,48 +269,42 @@ module _ (s : Settings) (m : Machine) (t : Table) (es : List Entry) where
     fate-next c i j o l (waits e u) = go (at-next i j)
       where
         go : Leaves s (at i) (entry i) j (worker (suc i) j) → Fate c (suc i) j o
-        go (begins f b q z a) = absurd (let y : _≡_ {A = ℕ} 0 1 = cc in omega arith)
+        go (begins f b q z a) = absurd (none-some b e)
         go (moves-on f st q z a) = waits (q ∙ e) (from-next c i j o f (z ∙ ap suc (u .steps) ∙ sym (count-step j c i (u .before) st)) u)
-        go (rests f st q a) = waits (ap (λ (w : Worker). w .operation) q ∙ e) (from-next c i j o f (ap (λ (w : Worker). w .steps) q ∙ u .steps ∙ sym (count-rest j c i st)) u)
+        go (rests f st q a) = waits (ap (λ (w : Worker). w .operation) q ∙ e)
+            (from-next c i j o f (ap (λ (w : Worker). w .steps) q ∙ u .steps ∙ sym (count-rest j c i st)) u)
         go (ends a x r f st q z) = answered i (record { answer = a; steps = suc (worker i j .steps) }) (omega arith)
             (record { called = u .called; later = u .before; within = l; entry = x; answered = r; latest = u .latest })
             (ap suc (u .steps)) q
 
     pub fate : (c j : ℕ) (o : Operation) → IsOperation s m t es c j o → (i : ℕ) → c < i → i ≤ length es → Fate c i j o
     fate c j o h zero l b = absurd (omega arith)
-    fate c j o h (suc i) l b = go (fate c j o h i) (ℕ-discrete c i)
-      where
-        go : (c < i → i ≤ length es → Fate c i j o) → Dec (c ≡ i) → Fate c (suc i) j o
-        go f (yes e) = subst (λ (k : ℕ). Fate c (suc k) j o) e (fate-here c j o h)
-        go f (no d) = fate-next c i j o (omega arith) (f (omega arith) (omega arith))
+    fate c j o h (suc i) l b = by-cases (ℕ-discrete c i)
+        (λ e. subst (λ (k : ℕ). Fate c (suc k) j o) e (fate-here c j o h))
+        (λ d. fate-next c i j o (omega arith) (fate c j o h i (omega arith) (omega arith)))
 
     -- a worker without operation stays so until it is called
-    stays-idle : (k i j : ℕ) → k ≤ i → worker k j .operation ≡ none → ((p : ℕ) → k ≤ p → p < i → isCall s m t es p j ≡ false) → worker i j .operation ≡ none
+    stays-idle : (k i j : ℕ) → k ≤ i → worker k j .operation ≡ none → ((p : ℕ) → k ≤ p → p < i → isCall s m t es p j ≡ false)
+        → worker i j .operation ≡ none
     stays-idle k zero j l e h = subst (λ (p : ℕ). worker p j .operation ≡ none) (omega arith) e
-    stays-idle k (suc i) j l e h = go (stays-idle k i j) (ℕ-discrete k (suc i))
+    stays-idle k (suc i) j l e h = by-cases (ℕ-discrete k (suc i)) (λ x. subst (λ (p : ℕ). worker p j .operation ≡ none) x e)
+        (λ d. next-idle (h i (omega arith) (omega arith)) (stays-idle k i j (omega arith) e (λ p a b. h p a (omega arith))) (at-next i j))
       where
-        next-idle : isCall s m t es i j ≡ false → worker i j .operation ≡ none → Leaves s (at i) (entry i) j (worker (suc i) j) → worker (suc i) j .operation ≡ none
+        next-idle : isCall s m t es i j ≡ false → worker i j .operation ≡ none → Leaves s (at i) (entry i) j (worker (suc i) j)
+            → worker (suc i) j .operation ≡ none
         next-idle f q (begins c b x z a) = absurd (no-both c f)
         next-idle f q (moves-on c st x z a) = x ∙ q
         next-idle f q (ends a x r c st z y) = z
         next-idle f q (rests c st x a) = ap (λ (w : Worker). w .operation) x ∙ q
 
-        go : (k ≤ i → worker k j .operation ≡ none → ((p : ℕ) → k ≤ p → p < i → isCall s m t es p j ≡ false) → worker i j .operation ≡ none)
-            → Dec (k ≡ suc i) → worker (suc i) j .operation ≡ none
-        go f (yes x) = subst (λ (p : ℕ). worker p j .operation ≡ none) x e
-        go f (no d) = next-idle (h i (omega arith) (omega arith)) (f (omega arith) e (λ p a b. h p a (omega arith))) (at-next i j)
-
     -- the two calls that an operation under way came from are one
     from-one : (c d i j : ℕ) (o p : Operation) → From c i j o → From d i j p → c ≡ d
-    from-one c d i j o p u v = go (decLt c d) (decLt d c)
-      where
-        go : Dec (c < d) → Dec (d < c) → c ≡ d
-        go (yes l) q = absurd (no-both (v .called .accepted) (u .latest d l (v .before)))
-        go (no l) (yes q) = absurd (no-both (u .called .accepted) (v .latest c q (u .before)))
-        go (no l) (no q) = omega arith
+    from-one c d i j o p u v = neither-less c d
+        (λ l. no-both (v .called .accepted) (u .latest d l (v .before))) (λ l. no-both (u .called .accepted) (v .latest c l (u .before)))
 
     -- what ended at place i was its worker's operation under way, from its last call
-    pub ended-last : (c i j : ℕ) (o : Operation) (r : Completion) → Ended s m t es c i j o r → (worker i j .operation ≡ some o) × (lastCall i j ≡ c) × From c i j o
+    pub ended-last : (c i j : ℕ) (o : Operation) (r : Completion) → Ended s m t es c i j o r
+        → (worker i j .operation ≡ some o) × (lastCall i j ≡ c) × From c i j o
     ended-last c i j o r e = go (fate c j o (e .called) i (e .later) (omega (arith, e .within)))
       where
         accepted : StepParts s (at i) j
@@ -324,6 +312,5 @@ module _ (s : Settings) (m : Machine) (t : Table) (es : List Entry) where
 
         go : Fate c i j o → (worker i j .operation ≡ some o) × (lastCall i j ≡ c) × From c i j o
         go (waits q u) = (q, from-one (lastCall i j) c i j o o (under-way i j o (omega (arith, e .within)) q) u, u)
-        go (answered k x b f q z) = absurd (
-            let y : worker i j .operation ≡ none = stays-idle (suc k) i j b z (λ p l h. e .latest p (omega (arith, f .later)) h) in
-            let n : _≡_ {A = ℕ} 0 1 = cc (accepted .under-way) in omega arith)
+        go (answered k x b f q z) =
+            absurd (none-some (stays-idle (suc k) i j b z (λ p l h. e .latest p (omega (arith, f .later)) h)) (accepted .under-way))

@@ -13,13 +13,13 @@ use Rattle.machine.specs.Sequential.{Update, account}
 use Rattle.machine.specs.Records.{Name, Settled, Body, State, Leaf, kept, made, Copy, Slot, empty, announced}
 use Rattle.machine.specs.BucketPass.{full, holdsBack, splittable, carryOut, pending, help, helped}
 use Rattle.machine.specs.DirectoryPass.{leafOf, nameOf, plant, takeSlots}
-use Rattle.machine.proofs.Base.{no-both, if-elim, and-parts, and-right}
+use Rattle.machine.proofs.Base.{no-both, if-elim, and-parts, and-right, is-false, below-suc}
 use Rattle.machine.proofs.Copies.{nameAt, Coherent, MadeIn, Refined, name-at, refined-takeSlots, splittable-below}
 use Rattle.machine.proofs.Inv.{ticketOf, uniform, resolved}
-use Rattle.machine.proofs.Splitting.{below-suc, unsettled, due-unsettled, carry-own, carry-other, Entry, Moved, Taken}
-use Rattle.machine.proofs.Splitting.{after, start-leaf, taken, served, inside-same}
-pub use Rattle.machine.proofs.Copies.{Inside, depthAt}
-pub use Rattle.machine.proofs.Splitting.{due, bodyOf, bodyAt, Served}
+use Rattle.machine.proofs.Splitting.{unsettled, due-unsettled, carry-own, carry-other, Entry, Moved, Taken, after, start-leaf, taken, served}
+use Rattle.machine.proofs.Splitting.{inside-same}
+pub use Rattle.machine.proofs.Copies.{Inside, depthAt, due}
+pub use Rattle.machine.proofs.Splitting.{bodyOf, bodyAt, Served}
 
 -- One worker's entry when a bucket's body changes from b to b′, x being what was read in the worker's slot: as it was, or settled by
 -- the change.
@@ -39,10 +39,6 @@ fate-keep (gets t l e) h = absurd (omega arith)
 fate-on : {b b′ b″ : Body} {x : Slot} {T T′ : Type 0} {i : ℕ} → (T → T′) → b″ .settled i ≡ b′ .settled i → Fate b b′ x T i → Fate b b″ x T′ i
 fate-on f e (stays h) = stays (e ∙ h)
 fate-on f e (gets t l h) = gets (f t) l (ap (λ (y : Settled). y .ticket) e ∙ h)
-
-is-false : (t : Bool) → (t ≡ true → ⊥) → t ≡ false
-is-false true h = absurd (h refl)
-is-false false h = refl
 
 -- ---- a round of the bucket pass
 
@@ -185,8 +181,7 @@ module _ (s : Settings) (room : s .depth ≤ 32) (x : Name) (a₀ : ℕ) (named 
   module _ (c : Copy) (coherent : Coherent (s .depth) c) (there : leafOf c a₀ ≡ kept x) where
     pub taken-inside : (j a : ℕ) → Inside x a → leafOf (takeSlots s x b slots j (plant x (made x b) c)) a ≡ leafOf (resolved s x b slots j) a
     unfolding resolved
-    taken-inside =
-        inside-same s x b slots room c (uniform (x .depth)) coherent (uniform-coherent (s .depth) (x .depth) below) a₀ there alone
+    taken-inside = inside-same s x b slots room c (uniform (x .depth)) coherent (uniform-coherent (s .depth) (x .depth) below) a₀ there alone
 
     pub taken-outside : (j a : ℕ) → (Inside x a → ⊥) → leafOf (takeSlots s x b slots j (plant x (made x b) c)) a ≡ leafOf c a
     taken-outside j a h = refined-takeSlots room s (omega arith) coherent a₀ x there b slots j .outside a h

@@ -5,43 +5,23 @@ use native.Mathlib.Omega.{arith}
 use native.Mathlib.Decide.{ℕ-discrete}
 use mathlib.Core.Path.{_≡_, refl, ap, sym, _∙_, subst}
 use mathlib.Core.Logic.{_≢_, _⊎_, inl, inr}
-use mathlib.Core.Bool.{Bool, true, false, not}
+use mathlib.Core.Bool.{true, false, not}
 use lib.Dec.{eqb}
 use borrow.Author.Tests.{eqb-true, eq-eqb, leb-false, ltb-false, not-true}
 use Rattle.interface.specs.declared.Settings.{Settings}
-use Rattle.machine.specs.Choice.{if_then_else_, _and_}
+use Rattle.machine.specs.Choice.{if_then_else_}
 use Rattle.machine.specs.Sequential.{Update, account, firstBits}
 use Rattle.machine.specs.Records.{Name, Settled, Body, Leaf, kept, made, Copy, Slot, empty, announced, emptyBody}
 use Rattle.machine.specs.BucketPass.{full, holdsBack, splittable, settledAt, carryOut}
 use Rattle.machine.specs.DirectoryPass.{leafOf, nameOf, plant, half, split, splitLeaf, splitWhile, carryLeaf, takeUpdate, takeSlot, takeSlots}
-use Rattle.machine.proofs.Base.{no-both, if-elim, if-true, if-eq, eq-elim, and-true, and-parts, and-right, assign-at, assign-other}
-use Rattle.machine.proofs.Copies.{Inside, depthAt, halfAt, leaf-plant, leaf-split, Coherent, within, same-leaf, own-leaf}
-use Rattle.machine.proofs.Copies.{MadeIn, Refined, refined-plant, refined-closed, splittable-below}
-use Rattle.machine.proofs.Copies.{Closed, Due, closed-takeUpdate, closed-takeSlots}
+use Rattle.machine.proofs.Base.{no-both, if-elim, if-true, if-eq, eq-elim, and-true, and-parts, and-right, assign-at, assign-other, if-elim₂}
+use Rattle.machine.proofs.Base.{below-suc}
+use Rattle.machine.proofs.Copies.{Inside, depthAt, halfAt, leaf-plant, leaf-split, Coherent, within, same-leaf, own-leaf, due, slot-elim}
+use Rattle.machine.proofs.Copies.{depth-x, MadeIn, Refined, refined-plant, refined-closed, splittable-below, Closed, Due, closed-takeUpdate}
+use Rattle.machine.proofs.Copies.{closed-takeSlots}
 use Rattle.machine.proofs.Inv.{ticketOf}
 
--- the same choice on both sides
-if-elim₂ :
-    {A B : Type 0} (R : A → B → Type 0) (t : Bool) (x y : A) (v w : B) → (t ≡ true → R x v) → (t ≡ false → R y w)
-    → R (if t then x else y) (if t then v else w)
-unfolding if_then_else_
-if-elim₂ R true x y v w h k = h refl
-if-elim₂ R false x y v w h k = k refl
-
--- what holds below j and at j holds below j + 1
-pub below-suc : (P : ℕ → Type 0) (j : ℕ) → ((i : ℕ) → i < j → P i) → P j → (i : ℕ) → i < suc j → P i
-below-suc P j h e i l = go (ℕ-discrete i j)
-  where
-    go : Dec (i ≡ j) → P i
-    go (yes z) = rw z e
-    go (no z) = h i (omega arith)
-
 -- ---- one leaf
-
--- worker i's announced update belongs to bucket x, and is not settled in its body b
-abbrev pub due : Name → Body → ℕ → Slot → Bool
-due x b i empty = false
-due x b i (announced u t) = eqb (firstBits (x .depth) (account u)) (x .prefix) and not (settledAt b i t)
 
 abbrev pub bodyOf : Leaf → Body
 bodyOf (kept x) = emptyBody
@@ -78,24 +58,20 @@ grafted y g c a = if eqb (firstBits (y .depth) a) (y .prefix) then g a else leaf
 
 -- account e is in bucket y of the copy
 module _ {k : ℕ} (small : k ≤ 32) {c : Copy} (h : Coherent k c) (e : ℕ) {y : Name} (at : nameOf (leafOf c e) ≡ y) where
-  low-at : y .depth ≤ c .depth
-  low-at = subst (λ (z : Name). z .depth ≤ c .depth) at (within h e)
-
   own-in : Inside y e
   own-in = own-leaf h e y at e at
 
   plant-in : (l : Leaf) (a : ℕ) → leafOf (plant y l c) a ≡ grafted y (λ f. l) c a
-  plant-in l a = leaf-plant y l c a low-at (omega (arith, h .bound))
+  plant-in l a = leaf-plant y l c a (depth-x h e y at) (omega (arith, h .bound))
 
   plant-leaf : (l : Leaf) (a : ℕ) → Inside y a → leafOf (plant y l c) a ≡ l
   plant-leaf l a i = plant-in l a ∙ if-eq (firstBits (y .depth) a) (y .prefix) l (leafOf c a) i
 
   split-in : (v : Body) → y .depth < k → (a : ℕ) → leafOf (split y v c) a ≡ grafted y (halfAt y v) c a
-  split-in v g a = leaf-split y v c a low-at (omega (arith, h .bound)) (omega arith)
+  split-in v g a = leaf-split y v c a (depth-x h e y at) (omega (arith, h .bound)) (omega arith)
 
   split-depth : (v : Body) → y .depth < k → (a : ℕ) → Inside y a → depthAt (split y v c) a ≡ suc (y .depth)
-  split-depth v g a i =
-      ap (λ (l : Leaf). nameOf l .depth) (split-in v g a ∙ if-eq (firstBits (y .depth) a) (y .prefix) (halfAt y v a) (leafOf c a) i)
+  split-depth v g a i = ap (λ (l : Leaf). nameOf l .depth) (split-in v g a ∙ if-eq (firstBits (y .depth) a) (y .prefix) (halfAt y v a) (leafOf c a) i)
 
 -- ---- taking the updates
 
@@ -162,23 +138,6 @@ module _ (s : Settings) (x : Name) (b : Body) (slots : ℕ → Slot) where
   graft-moved {n} {c} {y} {v} {g} h e at m a =
       eq-elim (Moved n (leafOf c a)) (firstBits (y .depth) a) (y .prefix) (g a) (leafOf c a)
       (λ i. rw (same-leaf h e y (ap nameOf at) a i ∙ at) (m a)) (λ i. moved-refl n (leafOf c a))
-
-  -- worker j's slot, taken or not, in two copies
-  slot-elim :
-      (R : Copy → Copy → Type 0) (c c′ : Copy) (j : ℕ) (w : Slot) → slots j ≡ w → R c c′
-      → ((u : Update) (t : ℕ) → Due x b slots (suc j) j u t → R (takeUpdate s j u t c) (takeUpdate s j u t c′))
-      → R (takeSlot s x b j w c) (takeSlot s x b j w c′)
-  unfolding takeSlot
-  slot-elim R c c′ j empty at p f = p
-  slot-elim R c c′ j (announced u t) at p f =
-      if-elim₂ R (due x b j (announced u t)) _ _ _ _
-      (λ e. f u t (record {
-        below = omega arith;
-        slot = at;
-        inside = eqb-true _ _ (and-parts _ _ e .0);
-        unsettled = not-true _ (and-parts _ _ e .1);
-      }))
-      (λ e. p)
 
   -- x as it was, or split
   abbrev pub Opened : Copy → Type 0
@@ -273,8 +232,7 @@ module _ (s : Settings) (x : Name) (b : Body) (slots : ℕ → Slot) where
         near-splitWhile : (f : ℕ) (c : Copy) → Near o f (account u) c → Near o 0 (account u) (splitWhile s f (account u) c)
         unfolding splitWhile
         near-splitWhile zero c p = p
-        near-splitWhile (suc f) c p =
-            near-splitWhile f (splitLeaf s c (leafOf c (account u))) (near-splitLeaf f c (leafOf c (account u)) refl p)
+        near-splitWhile (suc f) c p = near-splitWhile f (splitLeaf s c (leafOf c (account u))) (near-splitLeaf f c (leafOf c (account u)) refl p)
 
         served-carryLeaf :
             (c : Copy) (l : Leaf) → leafOf c (account u) ≡ l → Near o 0 (account u) c → Served s j t (leafOf (carryLeaf s j u t c l) (account u))
@@ -313,7 +271,7 @@ module _ (s : Settings) (x : Name) (b : Body) (slots : ℕ → Slot) where
       taken-next : (j : ℕ) → Taken o (suc j) (after j o) (after (suc j) o)
       unfolding takeSlots
       taken-next j =
-          slot-elim (λ (c c′ : Copy). Taken o (suc j) (after j o) c) (after j o) (after j o) j (slots j) refl still
+          slot-elim s x b slots (λ (c c′ : Copy). Taken o (suc j) (after j o) c) (after j o) (after j o) j (slots j) refl still
           (λ u t d. closed-takeUpdate (taken-closed o (suc j) (after j o)) j u t d (after j o) still)
         where
           still : Taken o (suc j) (after j o) (after j o)
@@ -360,8 +318,7 @@ module _ (s : Settings) (x : Name) (b : Body) (slots : ℕ → Slot) where
         alike-splitWhile : (f : ℕ) (c c′ : Copy) → Alike o o′ c c′ → Alike o o′ (splitWhile s f (account u) c) (splitWhile s f (account u) c′)
         unfolding splitWhile
         alike-splitWhile zero c c′ p = p
-        alike-splitWhile (suc f) c c′ p =
-            rw (← p .same (account u) i) (alike-splitWhile f _ _ (alike-splitLeaf c c′ (leafOf c (account u)) refl p))
+        alike-splitWhile (suc f) c c′ p = rw (← p .same (account u) i) (alike-splitWhile f _ _ (alike-splitLeaf c c′ (leafOf c (account u)) refl p))
 
         alike-carryLeaf :
             (c c′ : Copy) (l : Leaf) → leafOf c (account u) ≡ l → Alike o o′ c c′ → Alike o o′ (carryLeaf s j u t c l) (carryLeaf s j u t c′ l)
@@ -390,7 +347,7 @@ module _ (s : Settings) (x : Name) (b : Body) (slots : ℕ → Slot) where
       alike-takeSlots zero c c′ p = p
       alike-takeSlots (suc j) c c′ p =
           let q = alike-takeSlots j c c′ p in
-          slot-elim (Alike o o′) _ _ j (slots j) refl q (λ u t d. alike-takeUpdate j u t (d .inside) _ _ q)
+          slot-elim s x b slots (Alike o o′) _ _ j (slots j) refl q (λ u t d. alike-takeUpdate j u t (d .inside) _ _ q)
 
     -- what is made of x does not depend on the other buckets
     pub inside-same :

@@ -1,29 +1,28 @@
 -- Each step of the machine is a transition of its worker's task. Rests on the transitions and the laws of cells.
-use Prim.Native.Nat.{ℕ, zero, suc, _≤_, _<_}
-use mathlib.Core.Path.{_≡_, refl, sym, ap, _∙_, subst⁻¹, fun-ext}
+use Prim.Native.Nat.{ℕ, zero, suc, _≤_}
+use mathlib.Core.Path.{_≡_, refl, sym, ap, subst⁻¹, fun-ext}
 use mathlib.Core.Option.{Option, none, some}
-use lib.Dec.{ltb, eqb}
-use borrow.Author.Tests.{ltb-true, ltb-false}
+use lib.Dec.{eqb}
 use Rattle.interface.specs.declared.Settings.{Settings}
 use Rattle.interface.specs.declared.Answer.{Answer}
-use Rattle.machine.specs.Choice.{if_then_else_, assign}
+use Rattle.machine.specs.Choice.{assign}
 use Rattle.machine.specs.Sequential.{Update, account, Operation, update, lookup}
 use Rattle.machine.specs.Records.{Leaf, kept, made, Slot, empty, announced, Cells, Reads, Worker, Machine}
 use Rattle.machine.specs.BucketPass.{checked}
 use Rattle.machine.specs.DirectoryPass.{leafOf}
-use Rattle.machine.specs.Steps.{Effect, leaving, direct, assignState, updateAccess, lookupAccess, access, perform, counted, done}
+use Rattle.machine.specs.Steps.{Effect, leaving, direct, assignState, updateAccess, lookupAccess, access, perform, counted, done, withCopy}
 use Rattle.machine.specs.Steps.{announcing, directoryReading, flipping, stateReading, toggleReading, slotReading, swapped, stateSwapping}
 use Rattle.machine.specs.Steps.{stateChecking, directoryCopying, leafReading, resizing, redirected, directorySwapping}
-use Rattle.machine.proofs.Base.{if-elim, if-ap, eq-elim}
+use Rattle.machine.proofs.Base.{if-ap, eq-elim, lt-elim}
 use Rattle.machine.proofs.Cells.{state-same, toggle-same, slot-same, directory-same}
-use Rattle.machine.proofs.Counter.{Two, one, two, readS, readT, swap, slotB, copyD, swapD, slotD, state}
-use Rattle.machine.proofs.Counter.{PC, idle, announce, look₁, look₂, over, readD, flip, checkD, checkS, inB, inD}
-use Rattle.machine.proofs.Counter.{phaseOf, after, Within, Proper, counter, counter-phase, counter-after, counter-within, counter-proper}
+use Rattle.machine.proofs.Counter.{Two, readS, readT, swap, slotB, copyD, swapD, slotD, state, afterB, afterD, PC, idle, announce, look₁}
+use Rattle.machine.proofs.Counter.{look₂, over, readD, flip, checkD, checkS, inB, inD, phaseOf, after, Within, Proper, counter, counter-phase}
+use Rattle.machine.proofs.Counter.{counter-after, counter-within, counter-proper}
 use Rattle.machine.proofs.Inv.{Task, held, body}
 use Rattle.machine.proofs.Keeping.{goes}
-use Rattle.machine.proofs.Transitions.{taskOf, tasksOf, resizedAt, resizedFor, afterB, afterC, afterD, Transition}
-use Rattle.machine.proofs.Transitions.{looks, finds, announces, readsD, flips, readsS, readsT, slotsB, lastB, swaps, misses, checksD, answers}
-use Rattle.machine.proofs.Transitions.{passes, copies, slotsD, lastD, resizes, lastState, redirects, missesD}
+use Rattle.machine.proofs.Transitions.{taskOf, tasksOf, Transition, copyLeaf, copySlot, looks, finds, announces, readsD, flips, readsS, readsT}
+use Rattle.machine.proofs.Transitions.{slotsB, lastB, swaps, misses, checksD, answers, passes, copies, slotsD, lastD, resizes, lastState}
+use Rattle.machine.proofs.Transitions.{redirects, missesD}
 
 -- what one step of worker j's operation o does
 abbrev pub effectOf : Settings → Machine → ℕ → Operation → Effect Cells
@@ -33,35 +32,16 @@ effectOf s m j o = perform (access s j (m .workers j) o) (m .cells)
 abbrev pub workerAfter : Settings → Machine → ℕ → Operation → Worker
 workerAfter s m j o = counted (m .workers j) (effectOf s m j o .reads) (effectOf s m j o .answer)
 
--- the test of an order between numbers
-lt-elim : {A : Type 0} (P : A → Type 0) (a b : ℕ) (x y : A) → (a < b → P x) → (b ≤ a → P y) → P (if ltb a b then x else y)
-lt-elim P a b x y h k = if-elim P (ltb a b) x y (λ e. h (ltb-true a b e)) (λ e. k (ltb-false a b e))
-
--- ---- the counter goes on as the transitions do after a round and after a check
-
-after-swap : (n : ℕ) (p r : Two) → after n (inB p r swap) ≡ afterB p r
-after-swap n p one = refl
-after-swap n p two = refl
-
-after-check : (n : ℕ) (p x : Two) → after n (checkS p x) ≡ afterC p x
-after-check n p one = refl
-after-check n one two = refl
-after-check n two two = refl
-
-after-redirect : (n : ℕ) (p r : Two) → after n (inD p r swapD) ≡ afterD p r
-after-redirect n p one = refl
-after-redirect n p two = refl
-
 -- ---- the state step for worker i of a directory round only reads
 
 module _ (s : Settings) (c : Cells) (r : Reads) (i : ℕ) where
-  leaf-effect : (t : ℕ) (l : Leaf) → perform (leafReading s r i t l) c ≡ leaving c (resizedAt s c i t r l)
-  unfolding perform leafReading
+  leaf-effect : (t : ℕ) (l : Leaf) → perform (leafReading s r i t l) c ≡ leaving c (withCopy r (copyLeaf s c i t r l))
+  unfolding perform leafReading withCopy
   leaf-effect t (made x b) = refl
-  leaf-effect t (kept x) = ap (λ d. leaving d (resizedAt s c i t r (kept x))) (state-same c x)
+  leaf-effect t (kept x) = ap (λ d. leaving d (withCopy r (copyLeaf s c i t r (kept x)))) (state-same c x)
 
-  resize-effect : (x : Slot) → perform (resizing s r i x) c ≡ leaving c (resizedFor s c i r x)
-  unfolding perform resizing
+  resize-effect : (x : Slot) → perform (resizing s r i x) c ≡ leaving c (withCopy r (copySlot s c i r x))
+  unfolding perform resizing withCopy
   resize-effect empty = refl
   resize-effect (announced u t) = leaf-effect t (leafOf (r .copy) (account u))
 
@@ -74,8 +54,7 @@ doing q t i r = record { last = t; operation = q; steps = i; reads = r }
 module _ (s : Settings) (j : ℕ) (c : Cells) where
   -- effect x is a transition of worker w's task
   abbrev Links : Worker → Effect Cells → Type 0
-  Links w x =
-      Transition s j c (taskOf (s .workers) w) (x .contents) (taskOf (s .workers) (counted w (x .reads) (x .answer))) (x .answer)
+  Links w x = Transition s j c (taskOf (s .workers) w) (x .contents) (taskOf (s .workers) (counted w (x .reads) (x .answer))) (x .answer)
 
   -- the step of worker w for operation o is one, where there is a step to come
   abbrev Linked : Operation → Worker → Type 0
@@ -115,7 +94,7 @@ module _ (s : Settings) (j : ℕ) (c : Cells) where
         (p x : Two) → Stands (checkS p x) → (a : Option Answer) → checked s j t (held task .depth) (body c (held task)) ≡ a
         → Links me (record { contents = c; reads = r; answer = a })
     unfolding counted
-    check-links p x h none e = moves refl (h .next ∙ after-check (s .workers) p x) (passes p x (h .at) e)
+    check-links p x h none e = moves refl (h .next) (passes p x (h .at) e)
     check-links p x h (some a) e = answers p x a (h .at) e
 
     update-links : (pc : PC) → Stands pc → Links me (perform (updateAccess s j r u t (phaseOf pc)) c)
@@ -133,7 +112,7 @@ module _ (s : Settings) (j : ℕ) (c : Cells) where
     update-links (inB p x (slotB m)) h =
         moves (slot-same c m) (h .next) (lt-elim (To c _) (suc m) (s .workers) _ _ (slotsB p x m (h .at)) (lastB p x m (h .at)))
     update-links (inB p x swap) h =
-        moves refl (h .next ∙ after-swap (s .workers) p x)
+        moves refl (h .next)
         (eq-elim (λ v. To (assignState c (held task) v) r (afterB p x)) _ _ _ _
         (λ e. swaps p x (h .at) (sym e))
         (λ e. rw state-same (misses p x (h .at) (λ f. e (sym f)))))
@@ -146,7 +125,7 @@ module _ (s : Settings) (j : ℕ) (c : Cells) where
         rw resize-effect
         (moves refl (h .next) (lt-elim (To c _) (suc m) (s .workers) _ _ (resizes p x m (h .at)) (lastState p x m (h .at) (h .within))))
     update-links (inD p x swapD) h =
-        moves refl (h .next ∙ after-redirect (s .workers) p x)
+        moves refl (h .next)
         (eq-elim (λ v. To (direct c v) r (afterD p x)) _ _ _ _
         (λ e. redirects p x (h .at) (sym e))
         (λ e. rw directory-same (missesD p x (h .at) (λ f. e (sym f)))))

@@ -3,7 +3,7 @@
 use Prim.Native.Nat.{ℕ, suc, _≤_, _<_}
 use native.Mathlib.Omega.{arith}
 use mathlib.Core.Path.{_≡_, refl, ap, sym, _∙_, subst}
-use mathlib.Core.Logic.{_≢_, _↔_, _⊎_, inl, inr}
+use mathlib.Core.Logic.{_≢_, _↔_, _⊎_, inl, inr, ⊎-elim}
 use mathlib.Core.Bool.{Bool, true, false, not, xor}
 use borrow.Author.Tests.{leb-true}
 use Rattle.interface.specs.declared.Settings.{Settings}
@@ -12,29 +12,19 @@ use Rattle.machine.specs.Sequential.{Update}
 use Rattle.machine.specs.Records.{Name, Body, State, Bucket, Slot, empty, announced, Cells}
 use Rattle.machine.specs.BucketPass.{full, settledAt, pending, helped, nextState}
 use Rattle.machine.specs.Steps.{assignBucket, assignState}
-use Rattle.machine.proofs.Base.{no-both, and-true, and-parts}
+use Rattle.machine.proofs.Base.{no-both, and-true, and-parts, not-both, by-bit}
 use Rattle.machine.proofs.Cells.{bucket-elim}
-use Rattle.machine.proofs.Counter.{Two, one, two, readS, readT, swap, slotB, PC, inB}
-use Rattle.machine.proofs.Inv.{Task, Rounds, HasToggle, Late, leaf, body, leafBody, held, own, Fresh, DirectoryFresh, Agree, Differ, ticketOf}
-use Rattle.machine.proofs.Inv.{Shut, InRound, Announced, SlotFacts, ReadFacts, Own, View, Calm, Inv}
-use Rattle.machine.proofs.Keeping.{goes, saw-toggle, Reading, reading}
+use Rattle.machine.proofs.Counter.{Two, swap, slotB, PC, inB, afterB}
+use Rattle.machine.proofs.Whereabouts.{Rounds, HasToggle, Second, saw-toggle, rounds-under, second-late}
+use Rattle.machine.proofs.Inv.{Task, leaf, body, leafBody, held, own, Fresh, Agree, Differ, ticketOf, SettledOrFull, InRound, ReadFacts, Own}
+use Rattle.machine.proofs.Inv.{Rush, View, Calm, Inv}
+use Rattle.machine.proofs.Keeping.{goes, Reading, reading, under-announced}
 use Rattle.machine.proofs.Resolve.{Fate, stays, gets, fate-le, calls, Helped, helped-ok}
-use Rattle.machine.proofs.Change.{Second, still, Evolves, stay, KeptBucket, Changed, shut-move, own-move, old-move, tickets-move, seen-move, covers-move}
-use Rattle.machine.proofs.Transitions.{afterB, swappedCells}
+use Rattle.machine.proofs.Change.{still, Evolves, stay, KeptBucket, Changed, own-move, old-move, tickets-move, pair-move, still-swaps}
+use Rattle.machine.proofs.Transitions.{swappedCells}
 use Rattle.machine.proofs.BucketSteps.{missed-ok}
 
 -- ---- bits
-
--- two bits agree or differ
-by-bit : {P : Type 0} (x y : Bool) → (x ≡ y → P) → (x ≡ not y → P) → P
-by-bit true true f g = f refl
-by-bit true false f g = g refl
-by-bit false true f g = g refl
-by-bit false false f g = f refl
-
-not-both : {x y : Bool} → x ≡ y → x ≡ not y → ⊥
-not-both {y = true} e f = no-both e f
-not-both {y = false} e f = no-both f e
 
 xor-differ : (x y : Bool) → (xor x y ≡ true) ↔ (x ≡ not y)
 unfolding xor
@@ -50,42 +40,28 @@ unfolding pending
 called-flip x toggle j empty e = absurd (no-both e refl)
 called-flip x toggle j (announced u t) e = xor-differ _ _ .0 (and-parts _ _ e .0)
 
--- worker j's update with ticket t is settled, or held back by a full bucket
-abbrev Taken : Settings → ℕ → ℕ → Body → Type 0
-Taken s j t b = (t ≤ b .settled j .ticket) ⊎ (full s b ≡ true)
-
--- a round does so with an announced update whose flip it has seen
+-- a round settles an announced update whose flip it has seen, or the bucket is full
 taken :
     {s : Settings} {x : State} {toggle : ℕ → Bool} {slots : ℕ → Slot} {n : ℕ} {b : Body} (j t : ℕ) (u : Update)
-    → Helped s x toggle slots n b → j < n → toggle j ≡ not (x .applied j) → slots j ≡ announced u t → Taken s j t b
+    → Helped s x toggle slots n b → j < n → toggle j ≡ not (x .applied j) → slots j ≡ announced u t → SettledOrFull s j t b
 unfolding pending settledAt
 taken {s} {x} {toggle} {slots} {n} {b} j t u h l d e = test (settledAt (x .body) j t) refl
   where
-    done : (b .settled j .ticket ≡ ticketOf (slots j)) ⊎ (full s b ≡ true) → Taken s j t b
+    done : (b .settled j .ticket ≡ ticketOf (slots j)) ⊎ (full s b ≡ true) → SettledOrFull s j t b
     done (inl y) = inl (omega (arith, ap ticketOf e))
     done (inr y) = inr y
 
-    test : (v : Bool) → settledAt (x .body) j t ≡ v → Taken s j t b
+    test : (v : Bool) → settledAt (x .body) j t ≡ v → SettledOrFull s j t b
     test true y = inl (omega (arith, leb-true t (x .body .settled j .ticket) y, fate-le (h .fate j)))
     test false y = done (h .served j l (rw e (and-true (xor-differ _ _ .1 d) (rw y))))
 
 -- ---- where a worker stands
-
-second-late : (i now : ℕ) (pc : PC) → Second pc → Late i now pc
-second-late i now (inB p one x) h = absurd (h .0)
-second-late i now (inB p two readS) h = tt
-second-late i now (inB p two readT) h = tt
-second-late i now (inB p two swap) h = tt
-second-late i now (inB p two (slotB l)) h = tt
 
 module _ (s : Settings) (c : Cells) (j : ℕ) (k : Task) where
   -- whoever has read a toggle has read a state
   bounded : (pc : PC) → HasToggle pc → ReadFacts s pc c j k → k .reads .state .stamp ≤ own c k .state .stamp
   bounded (inB p r swap) h f = f .seen .bounded
   bounded (inB p r (slotB l)) h f = f .seen .bounded
-
-  announced-there : (pc : PC) → Rounds pc → SlotFacts s pc c j k → Announced s c j k
-  announced-there (inB p r x) h a = a
 
 -- ---- the swap
 
@@ -156,11 +132,7 @@ module _ (s : Settings) (w : ℕ) (wn : w < s .workers) (c : Cells) (tasks : ℕ
 
   -- and its worker is in its rounds at this bucket
   pub there : (j : ℕ) → j < s .workers → SeenFlip c k j → Rounds (tasks j .pc) × (held (tasks j) ≡ held k)
-  there j jn h = go (i .calm (held k) j jn)
-    where
-      go : Calm s j c (tasks j) (held k) → Rounds (tasks j .pc) × (held (tasks j) ≡ held k)
-      go (inl e) = absurd (not-both e (flipped j jn h))
-      go (inr y) = y
+  there j jn h = ⊎-elim (λ e. absurd (not-both e (flipped j jn h))) (λ y. y) (i .calm (held k) j jn)
 
   fates : (j : ℕ) → Fate before after (c .slots j) (Unit {0}) j
   fates j = go (helped-here .fate j)
@@ -175,17 +147,17 @@ module _ (s : Settings) (w : ℕ) (wn : w < s .workers) (c : Cells) (tasks : ℕ
 
   -- a bit taken up: its worker's update is settled, or the bucket is full
   settles :
-      (j : ℕ) → j < s .workers → Rounds (tasks j .pc) → (Agree old j → Taken s j (tasks j .ticket) before)
-      → Agree new j → Taken s j (tasks j .ticket) after
+      (j : ℕ) → j < s .workers → Rounds (tasks j .pc) → (Agree old j → SettledOrFull s j (tasks j .ticket) before)
+      → Agree new j → SettledOrFull s j (tasks j .ticket) after
   settles j jn h f g = by-bit (old .toggle j) (old .state .value .applied j) (λ e. keep (f e)) (λ d. serve (sym g ∙ d))
     where
-      keep : Taken s j (tasks j .ticket) before → Taken s j (tasks j .ticket) after
+      keep : SettledOrFull s j (tasks j .ticket) before → SettledOrFull s j (tasks j .ticket) after
       keep (inl x) = inl (omega (arith, fate-le (fates j)))
       keep (inr x) = inr (ap (full s) (helped-here .unchanged x) ∙ x)
 
-      serve : SeenFlip c k j → Taken s j (tasks j .ticket) after
+      serve : SeenFlip c k j → SettledOrFull s j (tasks j .ticket) after
       serve d =
-          let a = announced-there s c j (tasks j) (tasks j .pc) h (i .own j jn .slot) in
+          let a = under-announced s c j (tasks j) (tasks j .pc) (rounds-under (tasks j .pc) h) (i .own j jn .slot) in
           taken j (tasks j .ticket) (a .wanted) helped-here jn d (real j jn d ∙ a .slot)
 
   -- the bit of a worker in its second round here was seen
@@ -228,21 +200,12 @@ module _ (s : Settings) (w : ℕ) (wn : w < s .workers) (c : Cells) (tasks : ℕ
 
   own-kept : (j : ℕ) → j < s .workers → Own s c′ j (tasks j)
   unfolding assignState assignBucket
-  own-kept j jn = own-move s c c′ changed j (tasks j) (i .own j jn) (λ h. kept-bucket j jn) (λ h l. absurd (omega arith)) (λ h. last)
-    where
-      last : DirectoryFresh c (tasks j) ⊎ Shut s c j (tasks j) → DirectoryFresh c′ (tasks j) ⊎ Shut s c′ j (tasks j)
-      last (inl e) = inl e
-      last (inr h) = inr (shut-move s c c′ changed j (tasks j) h)
+  own-kept j jn = own-move s c c′ changed j (tasks j) (i .own j jn) (λ h. kept-bucket j jn) (λ h l. absurd (omega arith))
+      (still-swaps s c c′ changed refl j (tasks j) (tasks j .pc))
 
   calm-kept : (x : Name) (j : ℕ) → j < s .workers → Calm s j c′ (tasks j) x
-  calm-kept x j jn = swapped-elim s c k (λ b. Agree b j ⊎ Here) x (λ e. go e (i .calm x j jn)) (λ e. i .calm x j jn)
-    where
-      Here : Type 0
-      Here = Rounds (tasks j .pc) × (held (tasks j) ≡ x)
-
-      go : x ≡ held k → Agree (c .buckets x) j ⊎ Here → Agree new j ⊎ Here
-      go e (inl h) = inl (quiet j jn (rw e at h))
-      go e (inr h) = inr h
+  calm-kept x j jn = swapped-elim s c k (λ b. Agree b j ⊎ (Rounds (tasks j .pc) × (held (tasks j) ≡ x))) x
+      (λ e. ⊎-elim (λ h. inl (quiet j jn (rw e at h))) inr (i .calm x j jn)) (λ e. i .calm x j jn)
 
   -- nobody has read the new state
   apart : (q : ℕ) → q < s .workers → HasToggle (tasks q .pc) → Fresh c′ (tasks q) → held (tasks q) ≢ held k
@@ -251,8 +214,7 @@ module _ (s : Settings) (w : ℕ) (wn : w < s .workers) (c : Cells) (tasks : ℕ
       (λ e f. e)
 
   -- a bucket whose current state somebody has read is as it was
-  unread :
-      (q : ℕ) → q < s .workers → HasToggle (tasks q .pc) → Fresh c′ (tasks q) → (x : Name) → held (tasks q) ≡ x → c′ .buckets x ≡ c .buckets x
+  unread : (q : ℕ) → q < s .workers → HasToggle (tasks q .pc) → Fresh c′ (tasks q) → (x : Name) → held (tasks q) ≡ x → c′ .buckets x ≡ c .buckets x
   unread q qn h f x e = swapped-elim s c k (λ b. b ≡ c .buckets x) x (λ g. absurd (apart q qn h f (e ∙ g))) (λ g. refl)
 
   view-kept : (j q : ℕ) → j < s .workers → q < s .workers → View s j c′ (tasks q)
@@ -263,13 +225,10 @@ module _ (s : Settings) (w : ℕ) (wn : w < s .workers) (c : Cells) (tasks : ℕ
         slot = λ h f d g.
             let e = unread q qn (saw-toggle (s .workers) j (tasks q .pc) h) f (held (tasks q)) refl in
             rw (changed .slots) (v .slot h (rw e at f) (rw e at d) (rw e at g));
-        old = old-move s c c′ changed j (tasks q) (v .old);
+        old = old-move s c c′ changed j (tasks q .reads .slots j) (v .old);
       }
 
-  rush-kept :
-      (j q : ℕ) → j < s .workers → q < s .workers → Late (tasks j .reads .state .stamp) (own c′ (tasks j) .state .stamp) (tasks j .pc)
-      → Differ (own c′ (tasks j)) j → held (tasks q) ≡ held (tasks j) → HasToggle (tasks q .pc) → Fresh c′ (tasks q)
-      → tasks q .reads .toggle j ≡ own c′ (tasks j) .toggle j
+  rush-kept : (j q : ℕ) → j < s .workers → q < s .workers → Rush c′ j (tasks j) (tasks q)
   rush-kept j q jn qn l d e h f =
       let z = unread q qn h f (held (tasks j)) e in
       rw z (i .pair j q jn qn .rush (rw z at l) (rw z at d) e h (rw (unread q qn h f (held (tasks q)) refl) at f))
@@ -283,11 +242,7 @@ module _ (s : Settings) (w : ℕ) (wn : w < s .workers) (c : Cells) (tasks : ℕ
     calm = calm-kept;
     own = own-kept;
     view = view-kept;
-    pair = λ j q jn qn. record {
-      rush = rush-kept j q jn qn;
-      seen = seen-move s c c′ changed j q (tasks j) (tasks q) (i .own q qn) (i .pair j q jn qn);
-      covers = covers-move s c c′ changed j q (tasks j) (tasks q) (i .own q qn) (i .pair j q jn qn);
-    };
+    pair = λ j q jn qn. pair-move s c c′ changed j q (tasks j) (tasks q) (i .own q qn) (i .pair j q jn qn) (rush-kept j q jn qn);
   }
 
   -- the state is no longer the one that the worker has read, so it goes on as after a swap that fails

@@ -3,62 +3,31 @@
 use Prim.Native.Nat.{ℕ, _≤_, _<_}
 use native.Mathlib.Omega.{arith}
 use mathlib.Core.Path.{_≡_, refl, ap, sym, _∙_, subst}
-use mathlib.Core.Logic.{_⊎_, inl, inr}
+use mathlib.Core.Logic.{_⊎_, inl, inr, ⊎-elim}
 use mathlib.Core.Bool.{Bool, true, false, not}
 use mathlib.Core.Option.{Option, none, some}
 use borrow.Author.Tests.{eq-eqb, eqb-true, leb-true, leb-false, not-true}
 use Rattle.interface.specs.declared.Settings.{Settings}
 use Rattle.machine.specs.Choice.{assign}
 use Rattle.machine.specs.Sequential.{Update, account}
-use Rattle.machine.specs.Records.{Name, Body, Bucket, bucketOf, Leaf, kept, made, Copy, Slot, empty, announced, Cells, newBucket}
+use Rattle.machine.specs.Records.{Name, Body, Bucket, Leaf, kept, made, Copy, Slot, empty, announced, Cells, newBucket}
 use Rattle.machine.specs.BucketPass.{full, splittable, settledAt}
-use Rattle.machine.specs.DirectoryPass.{copyOf, leafOf, nameOf, bodyMade}
+use Rattle.machine.specs.DirectoryPass.{leafOf, nameOf, bodyMade}
 use Rattle.machine.specs.Steps.{created, direct}
 use Rattle.machine.proofs.Base.{no-both, and-true, and-parts}
-use Rattle.machine.proofs.Counter.{Two, one, two, copyD, swapD, slotD, state, PC, look₂, readD, flip, checkD, checkS, inB, inD}
-use Rattle.machine.proofs.Copies.{nameAt, Inside, depthAt, Coherent, within, name-at, splittable-below}
-use Rattle.machine.proofs.Copies.{bodyMade-made, bodyMade-kept, bodyMade-some, bucketOf-directoryOf, coherent-directoryOf}
-use Rattle.machine.proofs.Inv.{Task, about, target, Rounds, HasToggle, SawThere, Past, Late, Known, Covered, resolved}
-use Rattle.machine.proofs.Inv.{leaf, body, leafBody, held, own, DirectoryFresh, Agree, IsMade, Closed, ClosedIn, ClosedSlot, Shut}
-use Rattle.machine.proofs.Inv.{Hold, Grown, Worked, InDirectory, Announced, SlotFacts, ReadFacts, Own, View, Pair, Calm, Inv}
-use Rattle.machine.proofs.Keeping.{goes, saw-toggle, Reading, reading}
+use Rattle.machine.proofs.Copies.{nameAt, depthAt, Coherent, splittable-below, Grove, grove-name, grove-of, bodyMade-made, bodyMade-kept}
+use Rattle.machine.proofs.Copies.{bodyMade-some, bucketOf-directoryOf, coherent-directoryOf}
+use Rattle.machine.proofs.Counter.{Two, swapD, state, inD, afterD}
+use Rattle.machine.proofs.Whereabouts.{Rounds, HasToggle, SawThere, Past, Known, Holds, saw-toggle, late-rounds, toggle-rounds, rounds-holds}
+use Rattle.machine.proofs.Whereabouts.{known-under, last-covered}
+use Rattle.machine.proofs.Inv.{Task, about, target, resolved, leaf, body, leafBody, held, own, DirectoryFresh, Agree, IsMade, Closed, ClosedIn}
+use Rattle.machine.proofs.Inv.{ClosedSlot, Shut, Grown, Worked, InDirectory, ReadFacts, Own, View, Pair, Calm, Inv}
+use Rattle.machine.proofs.Keeping.{goes, Reading, reading, under-announced, holds-hold}
 use Rattle.machine.proofs.Resolve.{Fate, stays, gets, due, bodyAt, Made, resolved-ok}
-use Rattle.machine.proofs.Change.{Holds, LastRound, turned, stay, grow, Leads, Changed, Keeps, Splits, Swaps}
-use Rattle.machine.proofs.Change.{kept-same, closed-move, shut-move, own-move, old-move, tickets-move, seen-move, covers-move}
-use Rattle.machine.proofs.Transitions.{afterD, redirectedCells}
+use Rattle.machine.proofs.Change.{turned, stay, grow, Leads, Changed, Keeps, Splits, Swaps, kept-same, closed-move, shut-move, own-move}
+use Rattle.machine.proofs.Change.{pair-move, old-move, tickets-move}
+use Rattle.machine.proofs.Transitions.{redirectedCells}
 use Rattle.machine.proofs.DirectorySteps.{missedD-ok}
-
--- ---- where a worker stands
-
-toggle-holds : (pc : PC) → HasToggle pc → Holds pc
-toggle-holds (inB p r x) h = tt
-
-late-holds : (m now : ℕ) (pc : PC) → Late m now pc → Holds pc
-late-holds m now (inB p r x) h = tt
-
--- past the last directory read, everybody has read its update and splits its bucket
-last-covered : (m now : ℕ) (pc : PC) → LastRound pc → Covered m now pc × Known m now pc
-last-covered m now (inD one r x) h = absurd (h .0)
-last-covered m now (inD two one x) h = absurd (h .0)
-last-covered m now (inD two two copyD) h = absurd (h .1)
-last-covered m now (inD two two swapD) h = (tt, tt)
-last-covered m now (inD two two (slotD l)) h = (tt, tt)
-last-covered m now (inD two two (state l)) h = (tt, tt)
-
-module _ (s : Settings) (c : Cells) (j : ℕ) (k : Task) where
-  holds-hold : (pc : PC) → Holds pc → ReadFacts s pc c j k → Hold s c j k
-  holds-hold look₂ h f = f
-  holds-hold (flip p) h f = f .0
-  holds-hold (checkS p x) h f = f .0
-  holds-hold (inB p r x) h f = f .hold
-
-  known-announced : (m now : ℕ) (pc : PC) → Known m now pc → SlotFacts s pc c j k → Announced s c j k
-  known-announced m now (readD p) h f = f
-  known-announced m now (flip p) h f = f
-  known-announced m now (checkD p x) h f = f
-  known-announced m now (checkS p x) h f = f
-  known-announced m now (inB p r x) h f = f
-  known-announced m now (inD p r x) h f = f
 
 -- what a round of task k makes of account a's bucket, where it splits it
 abbrev pub remade : Settings → Cells → Task → ℕ → Copy
@@ -82,8 +51,8 @@ module _
     mine : InDirectory s p r swapD c w k
     mine = subst (λ pc. ReadFacts s pc c w k) here (i .own w wn .read)
 
-    coherent : Coherent (s .depth) copy
-    coherent = mine .read .0 .coherent
+    pub copy-coherent : Coherent (s .depth) (tasks w .reads .copy)
+    copy-coherent = mine .read .0 .coherent
 
     pub worked : (a : ℕ) → Worked s c k a
     worked = mine .read .1 fresh
@@ -92,19 +61,11 @@ module _
     abbrev Split : ℕ → Type 0
     Split a = Grown s (k .reads .slots) (leaf c a) (leafBody c a) a (leafOf copy a)
 
-    inside : (a : ℕ) → Inside (leaf c a) a
-    unfolding leafOf copyOf bucketOf
-    inside a = i .directory .named a
-
-    shared : (a e : ℕ) → Inside (leaf c a) e → leaf c e ≡ leaf c a
-    unfolding leafOf copyOf bucketOf
-    shared a e h = ap nameOf (i .directory .shared a e h)
+    grove : Grove (s .depth) (leaf c)
+    grove = grove-of _ (i .directory)
 
     pub remade-ok : (a : ℕ) → Made s (leaf c a) (leafBody c a) (k .reads .slots) (s .workers) (remade s c k a)
-    unfolding leafOf copyOf bucketOf
-    remade-ok a =
-        let d = i .directory in
-        resolved-ok s small (leaf c a) a (name-at d a) (omega (arith, within d a, d .bound)) (leafBody c a) (k .reads .slots) (s .workers)
+    remade-ok a = resolved-ok s small (leaf c a) a (grove-name grove a) (grove .bound a) (leafBody c a) (k .reads .slots) (s .workers)
 
     -- ---- the buckets afterwards
 
@@ -126,13 +87,13 @@ module _
 
         go : (o : Option Body) → bodyMade copy (nameAt d a) ≡ o → created (c .buckets (nameAt d a)) o ≡ c .buckets (nameAt d a)
         go none e = refl
-        go (some b) e = absurd (no-body b (bodyMade-some small coherent (nameAt d a) b e a refl) (worked a))
+        go (some b) e = absurd (no-body b (bodyMade-some small copy-coherent (nameAt d a) b e a refl) (worked a))
 
     -- an account's bucket that is not split
     pub leaf-old : (a : ℕ) → leafOf copy a ≡ kept (leaf c a) → (leaf c′ a ≡ leaf c a) × (leafBody c′ a ≡ leafBody c a)
     leaf-old a e =
         let n : leaf c′ a ≡ leaf c a = leaf-is a ∙ ap nameOf e in
-        let b = bucket-is (leaf c a) ∙ ap (created (c .buckets (leaf c a))) (bodyMade-kept small coherent a (leaf c a) e) in
+        let b = bucket-is (leaf c a) ∙ ap (created (c .buckets (leaf c a))) (bodyMade-kept small copy-coherent a (leaf c a) e) in
         (n, ap (body c′) n ∙ ap (λ (x : Bucket). x .state .value .body) b)
 
     -- and one that is
@@ -140,32 +101,26 @@ module _
     unfolding newBucket
     leaf-new a g =
         let x : Name = nameAt (depthAt (remade s c k a) a) a in
-        let l : leafOf copy a ≡ made x (bodyAt (remade s c k a) a) = g .is ∙ remade-ok a .stands a (inside a) in
-        let b = bucket-is x ∙ ap (created (c .buckets x)) (bodyMade-made small coherent a x _ l) in
+        let l : leafOf copy a ≡ made x (bodyAt (remade s c k a) a) = g .is ∙ remade-ok a .stands a (grove .named a) in
+        let b = bucket-is x ∙ ap (created (c .buckets x)) (bodyMade-made small copy-coherent a x _ l) in
         (leaf-is a ∙ ap nameOf (g .is), ap (body c′) (leaf-is a ∙ ap nameOf l) ∙ ap (λ (y : Bucket). y .state .value .body) b)
 
     -- ---- the change
+
+    -- an update that is due in a bucket below depth M is not closed
+    pub due-open : (a j : ℕ) → leaf c a .depth < s .depth → (x : Slot) → due (leaf c a) (leafBody c a) j x ≡ true → ClosedSlot s c j x → ⊥
+    unfolding settledAt
+    due-open a j l empty e h = no-both e refl
+    due-open a j l (announced u t) e h =
+        let y : leaf c (account u) ≡ leaf c a = grove .shared a (account u) (eqb-true _ _ (and-parts _ _ e .0)) in
+        ⊎-elim (λ z. omega (arith, leb-false t (leafBody c a .settled j .ticket) (not-true _ (and-parts _ _ e .1)))) (λ z. omega (arith, z .1))
+        (subst (λ x. Closed s j t (x .depth) (body c x)) y h)
 
     -- what is taken into a bucket that is split is what stands in the slot
     pub taken-real :
         (a j : ℕ) → leaf c a .depth < s .depth → j < s .workers → due (leaf c a) (leafBody c a) j (k .reads .slots j) ≡ true
         → k .reads .slots j ≡ c .slots j
-    unfolding settledAt
-    taken-real a j l jn d = go (i .view j w jn wn .old)
-      where
-        not-closed : (x : Slot) → due (leaf c a) (leafBody c a) j x ≡ true → ClosedSlot s c j x → ⊥
-        not-closed empty e h = no-both e refl
-        not-closed (announced u t) e h =
-            let y : leaf c (account u) ≡ leaf c a = shared a (account u) (eqb-true _ _ (and-parts _ _ e .0)) in
-            go (subst (λ x. Closed s j t (x .depth) (body c x)) y h)
-          where
-            go : Closed s j t (leaf c a .depth) (leafBody c a) → ⊥
-            go (inl y) = omega (arith, leb-false t (leafBody c a .settled j .ticket) (not-true _ (and-parts _ _ e .1)))
-            go (inr y) = omega (arith, y .1)
-
-        go : (k .reads .slots j ≡ c .slots j) ⊎ ClosedSlot s c j (k .reads .slots j) → k .reads .slots j ≡ c .slots j
-        go (inl e) = e
-        go (inr h) = absurd (not-closed (k .reads .slots j) d h)
+    taken-real a j l jn d = ⊎-elim (λ e. e) (λ h. absurd (due-open a j l (k .reads .slots j) d h)) (i .view j w jn wn .old)
 
     evolves : (a : ℕ) → Leads s c c′ a
     unfolding splittable
@@ -183,7 +138,7 @@ module _
         go (inr g) =
             let d = splittable-below s (leaf c a .depth) (leafBody c a) (g .splits) in
             grow (rw (leaf-is a) (g .deeper)) (and-parts _ _ (g .splits) .0) d
-            (λ j. rw (leaf-new a g .1) (real d _ j (remade-ok a .fate a j (inside a))))
+            (λ j. rw (leaf-new a g .1) (real d _ j (remade-ok a .fate a j (grove .named a))))
 
     later : c .directory .stamp < c′ .directory .stamp
     unfolding direct
@@ -209,7 +164,7 @@ module _
 
         go : (v : Bool) → settledAt (leafBody c (account u)) j t ≡ v → ClosedIn s c′ j t (account u)
         go true h = closed-move s c c′ changed j (announced u t) (inl (leb-true t _ h))
-        go false h = served (remade-ok (account u) .served j t u jn e (rw e (and-true (eq-eqb _ _ (inside (account u))) (ap not h))))
+        go false h = served (remade-ok (account u) .served j t u jn e (rw e (and-true (eq-eqb _ _ (grove .named (account u))) (ap not h))))
 
     module _ (j : ℕ) (jn : j < s .workers) where
       abbrev q : Task
@@ -227,7 +182,7 @@ module _
       -- a worker whose update everybody has read, and whose bucket is split, is served
       shut-split : KnownNow → Split (target q) → Shut s c′ j q
       shut-split l g =
-          let a = known-announced s c j q _ _ (q .pc) l (i .own j jn .slot) in
+          let a = under-announced s c j q (q .pc) (known-under _ _ (q .pc) l) (i .own j jn .slot) in
           let e : target q ≡ account (a .wanted) = ap about (a .asks) in
           let x = i .pair j w jn wn .seen l (subst (SawThere (s .workers) j) (sym here) jn) fresh in
           subst (ClosedIn s c′ j (q .ticket)) (sym e) (serves j (q .ticket) (a .wanted) jn (x ∙ a .slot) (subst Split e g))
@@ -265,7 +220,7 @@ module _
 
     module _ (j m : ℕ) (jn : j < s .workers) (mn : m < s .workers) where
       toggle-same : HasToggle (tasks m .pc) → own c′ (tasks m) ≡ own c (tasks m)
-      toggle-same h = own-same m mn (toggle-holds (tasks m .pc) h)
+      toggle-same h = own-same m mn (rounds-holds (tasks m .pc) (toggle-rounds (tasks m .pc) h))
 
       view-kept : View s j c′ (tasks m)
       unfolding direct
@@ -274,26 +229,22 @@ module _
           record {
             bit = λ h. let e = toggle-same h in rw e (v .bit h);
             slot = λ h. let e = toggle-same (saw-toggle (s .workers) j (tasks m .pc) h) in rw e (v .slot h);
-            old = old-move s c c′ changed j (tasks m) (v .old);
+            old = old-move s c c′ changed j (tasks m .reads .slots j) (v .old);
           }
 
       pair-kept : Pair s j c′ (tasks j) (tasks m)
       pair-kept =
           let o = i .pair j m jn mn in
-          record {
-            rush = λ l d e h f.
-                let x = own-same j jn (late-holds (tasks j .reads .state .stamp) (own c′ (tasks j) .state .stamp) (tasks j .pc) l) in
-                let y = toggle-same h in
-                rw x (o .rush (rw x at l) (rw x at d) e h (rw y at f));
-            seen = seen-move s c c′ changed j m (tasks j) (tasks m) (i .own m mn) o;
-            covers = covers-move s c c′ changed j m (tasks j) (tasks m) (i .own m mn) o;
-          }
+          pair-move s c c′ changed j m (tasks j) (tasks m) (i .own m mn) o (λ l d e h f.
+          let x = own-same j jn (rounds-holds (tasks j .pc) (late-rounds _ (own c′ (tasks j) .state .stamp) (tasks j .pc) l)) in
+          let y = toggle-same h in
+          rw x (o .rush (rw x at l) (rw x at d) e h (rw y at f)))
 
     -- the cells changed, nobody moved
     pub redirect-kept : Inv s c′ tasks
     unfolding direct
     redirect-kept = record {
-      directory = coherent-directoryOf copy coherent;
+      directory = coherent-directoryOf copy copy-coherent;
       tickets = tickets-move s c c′ changed (i .tickets);
       calm = λ x j jn. calm-kept j jn x;
       own = own-kept;

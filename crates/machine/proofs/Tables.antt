@@ -4,7 +4,7 @@ use Prim.Native.Nat.{ℕ, _≤_, _<_}
 use native.Mathlib.Omega.{arith}
 use native.Mathlib.Decide.{ℕ-discrete, decLt}
 use mathlib.Core.Path.{_≡_, refl, ap, sym, _∙_}
-use mathlib.Core.Logic.{_≢_}
+use mathlib.Core.Logic.{_≢_, by-cases}
 use mathlib.Core.Bool.{true, false}
 use mathlib.Core.List.{[], _∷_}
 use mathlib.Core.Option.{Option, none, some}
@@ -15,12 +15,12 @@ use borrow.Author.Tests.{ltb-true, ltb-false}
 use Rattle.interface.specs.declared.Settings.{Settings}
 use Rattle.interface.specs.declared.Answer.the-variants.{Added, Replaced, Removed, Absent, Crowded}
 use Rattle.machine.specs.Choice.{if_then_else_}
-use Rattle.machine.specs.Sequential.{Update, insert, delete, update, account, firstBits}
-use Rattle.machine.specs.Sequential.{Table, find, put, remove, having, present, result, changed, crowds, serve}
+use Rattle.machine.specs.Sequential.{Update, insert, delete, update, account, firstBits, Table, find, put, remove, having, present, result}
+use Rattle.machine.specs.Sequential.{changed, crowds, serve}
 use Rattle.machine.specs.Records.{Body}
 use Rattle.machine.specs.BucketPass.{full}
-use Rattle.machine.proofs.Bits.{bits-below, bits-mono}
-use Rattle.machine.proofs.Base.{if-elim, if-true, if-false, eq-elim, if-eq, if-ne}
+use Rattle.machine.proofs.Base.{if-elim, if-true, if-false, eq-elim, if-eq, if-ne, none-some}
+use Rattle.machine.proofs.Bits.{bits-mono}
 
 -- ---- tables by their first entry
 
@@ -176,15 +176,9 @@ find-changed-other (delete a) t c n = find-remove-other t a c n
 
 -- ---- ascending tables in which the same is found are the same
 
-none-some : {v : ℤ} {x : Option ℤ} → x ≡ none → x ≡ some v → ⊥
-none-some p q = let z : _≡_ {A = ℕ} 0 1 = cc in omega arith
-
 head-least : (e : ℕ × ℤ) (t : Table) (a : ℕ) (v : ℤ) → Ascending (e ∷ t) → find (e ∷ t) a ≡ some v → e .0 ≤ a
-head-least e t a v h f = go (decLt a (e .0))
-  where
-    go : Dec (a < e .0) → e .0 ≤ a
-    go (yes l) = absurd (none-some (find-above a (e ∷ t) a (omega arith) (l, above-less a (e .0) t (omega arith) (h .0))) f)
-    go (no l) = omega arith
+head-least e t a v h f = by-cases (decLt a (e .0))
+    (λ l. absurd (none-some (find-above a (e ∷ t) a (omega arith) (l, above-less a (e .0) t (omega arith) (h .0))) f)) (λ l. omega arith)
 
 pub table-ext : (t t′ : Table) → Ascending t → Ascending t′ → ((a : ℕ) → find t a ≡ find t′ a) → t ≡ t′
 unfolding find
@@ -206,11 +200,9 @@ table-ext (e ∷ t) (f ∷ t′) s r h = ap (λ (x : ℕ × ℤ). x ∷ t) heads
         λ i. (accounts i, w i)
 
     tails : (a : ℕ) → find t a ≡ find t′ a
-    tails a = go (ℕ-discrete (e .0) a)
-      where
-        go : Dec (e .0 ≡ a) → find t a ≡ find t′ a
-        go (yes y) = find-above (e .0) t a (omega arith) (s .0) ∙ sym (find-above (f .0) t′ a (omega (arith, accounts)) (r .0))
-        go (no n) = sym (find-tail e t a n) ∙ h a ∙ find-tail f t′ a (λ y. n (accounts ∙ y))
+    tails a = by-cases (ℕ-discrete (e .0) a)
+        (λ y. find-above (e .0) t a (omega arith) (s .0) ∙ sym (find-above (f .0) t′ a (omega (arith, accounts)) (r .0)))
+        (λ n. sym (find-tail e t a n) ∙ h a ∙ find-tail f t′ a (λ y. n (accounts ∙ y)))
 
 -- ---- parts
 
@@ -225,13 +217,6 @@ having-having d e a (x ∷ t) l b = let again = having-having d e a t l b in
     part : Table → Table
     part = having e (firstBits e a)
 
-pub having-zero : (t : Table) → having 0 0 t ≡ t
-unfolding having
-having-zero [] = refl
-having-zero (e ∷ t) =
-    if-eq (firstBits 0 (e .0)) 0 (e ∷ having 0 0 t) (having 0 0 t) (omega (arith, bits-below 0 (e .0) (omega arith)))
-    ∙ ap (λ (l : Table). e ∷ l) (having-zero t)
-
 pub having-short : (d q : ℕ) (t : Table) → length (having d q t) ≤ length t
 unfolding having
 having-short d q [] = omega arith
@@ -243,11 +228,9 @@ length-having-le d e a t l b = rw (having-having d e a t l b) at (having-short e
 
 -- away from its account an update changes nothing in a part
 part-elsewhere : (d q : ℕ) (u : Update) (t : Table) (c : ℕ) → c ≢ account u → find (having d q (changed u t)) c ≡ find (having d q t) c
-part-elsewhere d q u t c n = go (ℕ-discrete (firstBits d c) q)
-  where
-    go : Dec (firstBits d c ≡ q) → find (having d q (changed u t)) c ≡ find (having d q t) c
-    go (yes e) = find-having-in d q (changed u t) c e ∙ find-changed-other u t c n ∙ sym (find-having-in d q t c e)
-    go (no m) = find-having-out d q (changed u t) c m ∙ sym (find-having-out d q t c m)
+part-elsewhere d q u t c n = by-cases (ℕ-discrete (firstBits d c) q)
+    (λ e. find-having-in d q (changed u t) c e ∙ find-changed-other u t c n ∙ sym (find-having-in d q t c e))
+    (λ m. find-having-out d q (changed u t) c m ∙ sym (find-having-out d q t c m))
 
 pub having-changed : (d : ℕ) (u : Update) (t : Table) → Ascending t
     → having d (firstBits d (account u)) (changed u t) ≡ changed u (having d (firstBits d (account u)) t)

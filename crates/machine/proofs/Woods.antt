@@ -1,29 +1,26 @@
 -- One working copy for each current bucket: an update taken in its bucket's copy, as the plain table tells it. Splits change no account's
 -- part of the table, and the update is carried out where there is room. Rests on working copies and on buckets by account.
-use Prim.Native.Nat.{ℕ, zero, suc, _≤_, _<_}
+use Prim.Native.Nat.{ℕ, suc, _≤_, _<_}
 use native.Mathlib.Omega.{arith}
-use mathlib.Core.Path.{_≡_, refl, ap, sym, _∙_, subst, fun-ext}
-use mathlib.Core.Logic.{_≢_, _⊎_, inl, inr}
+use mathlib.Core.Path.{_≡_, refl, ap, sym, _∙_, subst}
+use mathlib.Core.Logic.{_≢_}
 use mathlib.Core.Bool.{Bool, true, false}
-use mathlib.Core.List.{List, [], _∷_, _++_}
 use lib.Dec.{eqb}
 use Rattle.interface.specs.declared.Settings.{Settings}
 use Rattle.machine.specs.Choice.{if_then_else_}
 use Rattle.machine.specs.Sequential.{Table, account, firstBits, having}
 use Rattle.machine.specs.Records.{Name, same, Body, Leaf, kept, made, Copy, Cells}
-use Rattle.machine.specs.BucketPass.{full, holdsBack, splittable, carryOut}
-use Rattle.machine.specs.DirectoryPass.{leafOf, nameOf, plant, half, split, splitLeaf, splitWhile, carryLeaf, takeUpdate}
-use Rattle.machine.specs.History.{Member}
+use Rattle.machine.specs.BucketPass.{full, holdsBack, carryOut}
+use Rattle.machine.specs.DirectoryPass.{leafOf, nameOf, plant, half, splitWhile, carryLeaf, takeUpdate}
 use Rattle.machine.proofs.Base.{if-elim, if-true, if-eq, if-ne, eq-elim}
-use Rattle.machine.proofs.Bits.{bits-mono}
-use Rattle.machine.proofs.Tables.{having-having}
 use Rattle.machine.proofs.Cells.{eq-same, same-false, same-elim}
-use Rattle.machine.proofs.Copies.{Inside, depthAt, halfAt, leaf-split, leaf-plant, Coherent, within, same-leaf}
-use Rattle.machine.proofs.Copies.{refined-split, splittable-below}
-use Rattle.machine.proofs.Resolve.{bodyOf}
+use Rattle.machine.proofs.Bits.{bits-mono}
+use Rattle.machine.proofs.Copies.{Inside, depthAt, halfAt, leaf-split, leaf-plant, Coherent, within, same-leaf, Grove, refined-split}
+use Rattle.machine.proofs.Copies.{splitWhile-keeps, depth-x, splittable-below}
+use Rattle.machine.proofs.Tables.{having-having}
 use Rattle.machine.proofs.Inv.{Task, leaf}
-use Rattle.machine.proofs.Feed.{member-snoc}
-use Rattle.machine.proofs.Statuses.{Grove, Waits, Told, told-split, told-carry}
+use Rattle.machine.proofs.Resolve.{bodyOf}
+use Rattle.machine.proofs.Statuses.{Waits, Told, told-split, told-carry, PartAt, told-later}
 
 -- ---- splits
 
@@ -31,9 +28,7 @@ use Rattle.machine.proofs.Statuses.{Grove, Waits, Told, told-split, tol
 record Cut (a : ℕ) (l l′ : Leaf) : Type 0 where
   deeper : nameOf l .depth ≤ nameOf l′ .depth
   settled : bodyOf l′ .settled ≡ bodyOf l .settled
-  part :
-      (t : Table) → bodyOf l .items ≡ having (nameOf l .depth) (firstBits (nameOf l .depth) a) t
-      → bodyOf l′ .items ≡ having (nameOf l′ .depth) (firstBits (nameOf l′ .depth) a) t
+  part : (t : Table) → PartAt a l t → PartAt a l′ t
 
 cut-none : (a : ℕ) (l : Leaf) → Cut a l l
 cut-none a l = record { deeper = omega arith; settled = refl; part = λ t h. h }
@@ -53,31 +48,16 @@ record Divided (s : Settings) (C D : Copy) : Type 0 where
   coherent : Coherent (s .depth) D
   cut : (a : ℕ) → Cut a (leafOf C a) (leafOf D a)
 
--- the leaf of account e
-module _ (s : Settings) (small : s .depth ≤ 32) (C : Copy) (e : ℕ) where
-  divided-leaf : (D : Copy) (l : Leaf) → leafOf D e ≡ l → Divided s C D → Divided s C (splitLeaf s D l)
-  unfolding splitLeaf
-  divided-leaf D (kept y) at p = p
-  divided-leaf D (made y v) at p =
-      if-elim (Divided s C) (splittable s (y .depth) v) (split y v D) D (λ g. go (splittable-below s (y .depth) v g)) (λ g. p)
-    where
-      h : Coherent (s .depth) D
-      h = p .coherent
-
-      go : y .depth < s .depth → Divided s C (split y v D)
-      go w =
-          let low : y .depth ≤ D .depth = omega (arith, within h e, ap (λ (l : Leaf). nameOf l .depth) at) in
-          record {
-            coherent = refined-split h e y (ap nameOf at) small v w .coherent;
-            cut = λ a. rw (leaf-split y v D a low (omega (arith, h .bound)) (omega arith)) (eq-elim (Cut a (leafOf C a)) _ _ _ _
-                (λ i. cut-half y v (omega arith) (subst (Cut a (leafOf C a)) (same-leaf h e y (ap nameOf at) a i ∙ at) (p .cut a)))
-                (λ n. p .cut a));
-          }
-
-  divided-while : (f : ℕ) (D : Copy) → Divided s C D → Divided s C (splitWhile s f e D)
-  unfolding splitWhile
-  divided-while zero D p = p
-  divided-while (suc f) D p = divided-while f (splitLeaf s D (leafOf D e)) (divided-leaf D (leafOf D e) refl p)
+divided-while : (s : Settings) → s .depth ≤ 32 → (C : Copy) (e f : ℕ) (D : Copy) → Divided s C D → Divided s C (splitWhile s f e D)
+divided-while s small C e = splitWhile-keeps s (Divided s C) e (λ D y v at g p.
+    let h : Coherent (s .depth) D = p .coherent in
+    let w : y .depth < s .depth = splittable-below s (y .depth) v g in
+    record {
+      coherent = refined-split h e y (ap nameOf at) small v w .coherent;
+      cut = λ a. rw (leaf-split y v D a (depth-x h e y (ap nameOf at)) (omega (arith, h .bound)) (omega arith)) (eq-elim (Cut a (leafOf C a)) _ _ _ _
+          (λ i. cut-half y v (omega arith) (subst (Cut a (leafOf C a)) (same-leaf h e y (ap nameOf at) a i ∙ at) (p .cut a)))
+          (λ n. p .cut a));
+    })
 
 -- ---- a copy for each bucket
 
@@ -95,7 +75,7 @@ pub record Wood (s : Settings) (c : Cells) (H : ℕ → Copy) : Type 0 where
 abbrev pub graft : Cells → ℕ → Copy → (ℕ → Copy) → ℕ → Copy
 graft c e C H a = if same (leaf c a) (leaf c e) then C else H a
 
-module _ (s : Settings) (small : s .depth ≤ 32) (c : Cells) (g : Grove s (leaf c)) (H : ℕ → Copy) (h : Wood s c H) where
+module _ (s : Settings) (small : s .depth ≤ 32) (c : Cells) (g : Grove (s .depth) (leaf c)) (H : ℕ → Copy) (h : Wood s c H) where
   -- what is in one leaf is in one bucket
   wood-bucket : (a e : ℕ) → Inside (nameOf (leaves H a)) e → leaf c e ≡ leaf c a
   wood-bucket a e i =
@@ -105,7 +85,7 @@ module _ (s : Settings) (small : s .depth ≤ 32) (c : Cells) (g : Grove s (leaf
   wood-leaf : (a e : ℕ) → Inside (nameOf (leaves H a)) e → leaves H e ≡ leaves H a
   wood-leaf a e i = ap (λ (C : Copy). leafOf C e) (h .one a e (wood-bucket a e i)) ∙ h .coherent a .shared a e i
 
-  wood-grove : Grove s (λ a. nameOf (leaves H a))
+  wood-grove : Grove (s .depth) (λ a. nameOf (leaves H a))
   wood-grove = record {
     bound = λ a. omega (arith, within (h .coherent a) a, h .coherent a .bound);
     named = λ a. h .coherent a .named a;
@@ -123,19 +103,9 @@ module _ (s : Settings) (small : s .depth ≤ 32) (c : Cells) (g : Grove s (leaf
 
 -- ---- one update taken
 
--- in the leaves F the updates of some workers below j have been carried out
-pub record Stage (s : Settings) (c : Cells) (tasks : ℕ → Task) (t : Table) (F : ℕ → Leaf) (j : ℕ) : Type 0 where
-  pub effects : List ℕ
-  pub below : (i : ℕ) → Member i effects → i < j
-  pub told : Told s c tasks t (λ a. nameOf (F a)) (λ a. bodyOf (F a)) effects
-
-pub later :
-    {s : Settings} {c : Cells} {tasks : ℕ → Task} {t : Table} {F : ℕ → Leaf} {j : ℕ} → Stage s c tasks t F j → Stage s c tasks t F (suc j)
-later q = record { effects = q .effects; below = λ l m. omega (arith, q .below l m); told = q .told }
-
 -- worker j's update, taken in the copy of its account's bucket
 module _ (s : Settings) (small : s .depth ≤ 32) (c : Cells) (tasks : ℕ → Task) (t : Table)
-    (g : Grove s (leaf c)) (H : ℕ → Copy) (h : Wood s c H) (j : ℕ) (w : Waits s c tasks j) where
+    (g : Grove (s .depth) (leaf c)) (H : ℕ → Copy) (h : Wood s c H) (j : ℕ) (w : Waits s c tasks j) where
   abbrev mine : ℕ
   mine = account (w .wanted)
 
@@ -147,16 +117,10 @@ module _ (s : Settings) (small : s .depth ≤ 32) (c : Cells) (tasks : ℕ → T
   carriedOut = carryOut j (w .wanted) (tasks j .ticket)
 
   carried :
-      (C : Copy) → Divided s (H mine) C → (y : Name) (v : Body) → leafOf C mine ≡ made y v → full s v ≡ false → Stage s c tasks t (With C) j
-      → Stage s c tasks t (With (plant y (made y (carriedOut v)) C)) (suc j)
+      (C : Copy) → Divided s (H mine) C → (y : Name) (v : Body) → leafOf C mine ≡ made y v → full s v ≡ false → Told s c tasks t (With C) j
+      → Told s c tasks t (With (plant y (made y (carriedOut v)) C)) (suc j)
   unfolding if_then_else_
-  carried C z y v at room q = record {
-    effects = q .effects ++ j ∷ [];
-    below = λ l m. bound l (member-snoc l j (q .effects) m);
-    told = subst (λ (f : ℕ → Name). Told s c tasks t f (λ a. bodyOf (With D a)) (q .effects ++ j ∷ [])) (fun-ext names)
-        (told-carry s c tasks small (wood-grove s small c g K wood) (q .told) j w (λ m. omega (arith, q .below j m)) (rw here room)
-        (λ a. bodyOf (With D a)) inside outside);
-  }
+  carried C z y v at room = told-carry s c tasks small (wood-grove s small c g K wood) w (rw here room) names inside outside
     where
       D : Copy
       D = plant y (made y (carriedOut v)) C
@@ -184,8 +148,8 @@ module _ (s : Settings) (small : s .depth ≤ 32) (c : Cells) (tasks : ℕ → T
               leaf-plant y _ C a low (omega (arith, z .coherent .bound))
           go false x = sym (if-ne _ _ _ _ (λ i. same-false (leaf c a) (leaf c mine) x (wood-bucket s small c g K wood mine a (rw here i))))
 
-      names : (a : ℕ) → nameOf (With C a) ≡ nameOf (With D a)
-      names a = rw (law a) (eq-elim (λ (l : Leaf). nameOf (With C a) ≡ nameOf l) _ _ _ _ (λ i. ap nameOf (leaf-in a i)) (λ n. refl))
+      names : (a : ℕ) → nameOf (With D a) ≡ nameOf (With C a)
+      names a = rw (law a) (eq-elim (λ (l : Leaf). nameOf l ≡ nameOf (With C a)) _ _ _ _ (λ i. ap nameOf (sym (leaf-in a i))) (λ n. refl))
 
       inside : (a : ℕ) → nameOf (With C a) ≡ nameOf (With C mine) → bodyOf (With D a) ≡ carriedOut (bodyOf (With C a))
       inside a x =
@@ -195,13 +159,9 @@ module _ (s : Settings) (small : s .depth ≤ 32) (c : Cells) (tasks : ℕ → T
       outside : (a : ℕ) → nameOf (With C a) ≢ nameOf (With C mine) → bodyOf (With D a) ≡ bodyOf (With C a)
       outside a n = ap bodyOf (law a ∙ if-ne _ _ _ _ (λ i. n (ap nameOf (leaf-in a i ∙ sym here))))
 
-      bound : (l : ℕ) → Member l (q .effects) ⊎ (l ≡ j) → l < suc j
-      bound l (inl m) = omega (arith, q .below l m)
-      bound l (inr x) = omega arith
-
   pub taking :
-      Stage s c tasks t (leaves H) j
-      → Stage s c tasks t (leaves (graft c mine (takeUpdate s j (w .wanted) (tasks j .ticket) (H mine)) H)) (suc j)
+      Told s c tasks t (leaves H) j
+      → Told s c tasks t (leaves (graft c mine (takeUpdate s j (w .wanted) (tasks j .ticket) (H mine)) H)) (suc j)
   unfolding takeUpdate carryLeaf holdsBack
   taking q = go (leafOf C mine) refl
     where
@@ -215,10 +175,10 @@ module _ (s : Settings) (small : s .depth ≤ 32) (c : Cells) (tasks : ℕ → T
       cuts a = same-elim (λ (D : Copy). Cut a (leaves H a) (leafOf D a)) (leaf c a) (leaf c mine) C (H a)
           (λ x. subst (λ (D : Copy). Cut a (leafOf D a) (leafOf C a)) (sym (h .one mine a x)) (z .cut a)) (λ n. cut-none a _)
 
-      mid : Stage s c tasks t (With C) j
-      mid = record { effects = q .effects; below = q .below; told = told-split s c tasks (λ a. cuts a .part) (λ a. cuts a .settled) (q .told) }
+      mid : Told s c tasks t (With C) j
+      mid = told-split s c tasks (omega arith) (λ a. cuts a .part) (λ a. cuts a .settled) q
 
-      go : (l : Leaf) → leafOf C mine ≡ l → Stage s c tasks t (With (carryLeaf s j (w .wanted) (tasks j .ticket) C l)) (suc j)
-      go (kept y) at = later mid
-      go (made y v) at = if-elim (λ (D : Copy). Stage s c tasks t (With D) (suc j)) (full s v) C (plant y (made y (carriedOut v)) C)
-          (λ f. later mid) (λ f. carried C z y v at f mid)
+      go : (l : Leaf) → leafOf C mine ≡ l → Told s c tasks t (With (carryLeaf s j (w .wanted) (tasks j .ticket) C l)) (suc j)
+      go (kept y) at = told-later s c tasks mid
+      go (made y v) at = if-elim (λ (D : Copy). Told s c tasks t (With D) (suc j)) (full s v) C (plant y (made y (carriedOut v)) C)
+          (λ f. told-later s c tasks mid) (λ f. carried C z y v at f mid)

@@ -1,0 +1,6 @@
+pub mod PartLaws
+pub mod Regions
+pub mod Runs
+pub mod States
+pub mod Totals
+pub mod Trips

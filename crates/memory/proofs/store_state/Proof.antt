@@ -1,0 +1,234 @@
+-- `memory::store_state` stores two arrays at a time. The loops' invariants: the items passed are stored; the measures: the items left.
+-- Rests on the laws of one item more, and of the whole state.
+use Prim.Native.Nat.{_+_, _≤_, _-_}
+use mathlib.Core.Path.{_≡_, sym, _∙_, ap}
+use native.Mathlib.Nat.{le-antisymm}
+use native.Mathlib.Omega.{arith}
+use lib.ListN.{length, length-set, length-map}
+use Rattle.memory.specs.Loads.{stored, storedState}
+use Rattle.memory.proofs.Runs.{stored-none}
+use Rattle.memory.proofs.States.{Sized, count-bound, pair-stored, state-stored}
+use Rattle.memory.proofs.Trips.{length-state}
+use borrow.Author.Needs.{needs}
+use Rattle.memory.proofs.store_state.Statement.{statement}
+use Rattle.memory.proofs.store_state.Tie as tie
+
+abbrev Inv-loop : tie.InvT-loop
+Inv-loop words₀ q b n s c accounts totals i₀ words i = (i ≤ c) × ((c ≤ b) × ((q + 54 ≤ length words) × (words ≡ stored (stored words₀ accounts (s .accounts) i) totals (s .totals) i)))
+
+abbrev μ-loop : tie.MeasureT-loop
+μ-loop words₀ q b n s c accounts totals i₀ words i = c - i
+
+abbrev Inv-loop2 : tie.InvT-loop2
+Inv-loop2 words₀ q b n s c accounts totals i settled answers j₀ words j = (j ≤ n) × ((q + 54 ≤ length words) × (words ≡ stored (stored words₀ settled (s .settled) j) answers (s .answers) j))
+
+abbrev μ-loop2 : tie.MeasureT-loop2
+μ-loop2 words₀ q b n s c accounts totals i settled answers j₀ words j = n - j
+
+-- the arrays of the state passed have their 16 items
+sized : (c : tie.Start Inv-loop μ-loop Inv-loop2 μ-loop2) → Sized (c .args .t5)
+sized c =
+    let known = c .good .1 .1 .1 .1 .0 .1 .1 in
+    record {
+      accounts = sym (length-map (c .args .t5 .accounts) (λ x. x)) ∙ known .0 .1 .0 .1;
+      totals = sym (length-map (c .args .t5 .totals) (λ x. x)) ∙ known .1 .0 .1 .0 .1;
+      settled = sym (length-map (c .args .t5 .settled) (λ x. x)) ∙ known .1 .1 .0 .1 .0 .1;
+      answers = sym (length-map (c .args .t5 .answers) (λ x. x)) ∙ known .1 .1 .1 .0 .1 .0 .1;
+    }
+
+least-requires : tie.Need-least-requires Inv-loop μ-loop Inv-loop2 μ-loop2
+least-requires c κs = search needs
+
+mul-words : tie.Need-mul-words Inv-loop μ-loop Inv-loop2 μ-loop2
+mul-words c = search needs
+
+slice-write-words : tie.Need-slice-write-words Inv-loop μ-loop Inv-loop2 μ-loop2
+slice-write-words c = search needs
+
+add-words : tie.Need-add-words Inv-loop μ-loop Inv-loop2 μ-loop2
+add-words c = search needs
+
+mul-words-2 : tie.Need-mul-words-2 Inv-loop μ-loop Inv-loop2 μ-loop2
+mul-words-2 c = search needs
+
+slice-write-words-2 : tie.Need-slice-write-words-2 Inv-loop μ-loop Inv-loop2 μ-loop2
+slice-write-words-2 c = simp length-set (omega arith)
+
+add-accounts : tie.Need-add-accounts Inv-loop μ-loop Inv-loop2 μ-loop2
+add-accounts c = search needs
+
+add-totals : tie.Need-add-totals Inv-loop μ-loop Inv-loop2 μ-loop2
+add-totals c = search needs
+
+loop-holds : tie.Need-loop-holds Inv-loop μ-loop Inv-loop2 μ-loop2
+loop-holds c = (search needs, (count-bound _ _ _ (c .least .ensures), (simp length-set (omega arith), sym (stored-none _ _ _ ∙ stored-none _ _ _))))
+
+mul-words-3 : tie.Need-mul-words-3 Inv-loop μ-loop Inv-loop2 μ-loop2
+mul-words-3 c = search needs
+
+element-copy-out-words : tie.Need-element-copy-out-words Inv-loop μ-loop Inv-loop2 μ-loop2
+element-copy-out-words c = search needs
+
+add-words-2 : tie.Need-add-words-2 Inv-loop μ-loop Inv-loop2 μ-loop2
+add-words-2 c = search needs
+
+mul-words-4 : tie.Need-mul-words-4 Inv-loop μ-loop Inv-loop2 μ-loop2
+mul-words-4 c = search needs
+
+slice-write-words-3 : tie.Need-slice-write-words-3 Inv-loop μ-loop Inv-loop2 μ-loop2
+slice-write-words-3 c = search needs
+
+mul-words-5 : tie.Need-mul-words-5 Inv-loop μ-loop Inv-loop2 μ-loop2
+mul-words-5 c = search needs
+
+element-copy-out-words-2 : tie.Need-element-copy-out-words-2 Inv-loop μ-loop Inv-loop2 μ-loop2
+element-copy-out-words-2 c = search needs
+
+add-words-3 : tie.Need-add-words-3 Inv-loop μ-loop Inv-loop2 μ-loop2
+add-words-3 c = search needs
+
+mul-words-6 : tie.Need-mul-words-6 Inv-loop μ-loop Inv-loop2 μ-loop2
+mul-words-6 c = search needs
+
+slice-write-words-4 : tie.Need-slice-write-words-4 Inv-loop μ-loop Inv-loop2 μ-loop2
+slice-write-words-4 c = simp length-set (omega arith)
+
+add-i : tie.Need-add-i Inv-loop μ-loop Inv-loop2 μ-loop2
+add-i c = search needs
+
+loop-less : tie.Need-loop-less Inv-loop μ-loop Inv-loop2 μ-loop2
+loop-less c = search needs
+
+loop-again : tie.Need-loop-again Inv-loop μ-loop Inv-loop2 μ-loop2
+loop-again c =
+    let long = sized (c .before .before .before .before .before .before) in (
+      search needs,
+      (
+        search needs,
+        (
+          simp length-set (omega arith),
+          pair-stored _ _ _ _ _ _ _ (c .before .before .before .loop .inv .1 .1 .1) (omega arith) (simp length-set (omega arith)) (omega arith) (omega arith),
+        ),
+      ),
+    )
+
+add-settled : tie.Need-add-settled Inv-loop μ-loop Inv-loop2 μ-loop2
+add-settled c = search needs
+
+add-answers : tie.Need-add-answers Inv-loop μ-loop Inv-loop2 μ-loop2
+add-answers c = search needs
+
+loop2-holds : tie.Need-loop2-holds Inv-loop μ-loop Inv-loop2 μ-loop2
+loop2-holds c = (search needs, (search needs, sym (stored-none _ _ _ ∙ stored-none _ _ _)))
+
+mul-words-7 : tie.Need-mul-words-7 Inv-loop μ-loop Inv-loop2 μ-loop2
+mul-words-7 c = search needs
+
+element-copy-out-words-3 : tie.Need-element-copy-out-words-3 Inv-loop μ-loop Inv-loop2 μ-loop2
+element-copy-out-words-3 c = search needs
+
+add-words-4 : tie.Need-add-words-4 Inv-loop μ-loop Inv-loop2 μ-loop2
+add-words-4 c = search needs
+
+mul-words-8 : tie.Need-mul-words-8 Inv-loop μ-loop Inv-loop2 μ-loop2
+mul-words-8 c = search needs
+
+slice-write-words-5 : tie.Need-slice-write-words-5 Inv-loop μ-loop Inv-loop2 μ-loop2
+slice-write-words-5 c = search needs
+
+mul-words-9 : tie.Need-mul-words-9 Inv-loop μ-loop Inv-loop2 μ-loop2
+mul-words-9 c = search needs
+
+element-copy-out-words-4 : tie.Need-element-copy-out-words-4 Inv-loop μ-loop Inv-loop2 μ-loop2
+element-copy-out-words-4 c = search needs
+
+add-words-5 : tie.Need-add-words-5 Inv-loop μ-loop Inv-loop2 μ-loop2
+add-words-5 c = search needs
+
+mul-words-10 : tie.Need-mul-words-10 Inv-loop μ-loop Inv-loop2 μ-loop2
+mul-words-10 c = search needs
+
+slice-write-words-6 : tie.Need-slice-write-words-6 Inv-loop μ-loop Inv-loop2 μ-loop2
+slice-write-words-6 c = simp length-set (omega arith)
+
+add-j : tie.Need-add-j Inv-loop μ-loop Inv-loop2 μ-loop2
+add-j c = search needs
+
+loop2-less : tie.Need-loop2-less Inv-loop μ-loop Inv-loop2 μ-loop2
+loop2-less c = search needs
+
+loop2-again : tie.Need-loop2-again Inv-loop μ-loop Inv-loop2 μ-loop2
+loop2-again c =
+    let long = sized (c .before .before .before .before .before .before .before .before) in (
+      search needs,
+      (
+        simp length-set (omega arith),
+        pair-stored _ _ _ _ _ _ _ (c .before .before .before .loop2 .inv .1 .1) (omega arith) (omega arith) (omega arith) (omega arith),
+      ),
+    )
+
+whole :
+    (c : tie.After-loop2 Inv-loop μ-loop Inv-loop2 μ-loop2) → let s = c .before .before .before .before .before .before .args in
+    c .before .loop2 .words ≡ storedState (s .words .now) (s .q) (s .b) (s .n) (s .t5)
+whole c =
+    let here = c .before .before .before in
+    let first = rw (le-antisymm (here .loop .inv .0) (c .before .before .loop-test .left)) at (here .loop .inv .1 .1 .1) in
+    let second = rw (le-antisymm (c .before .loop2 .inv .0) (c .loop2-test .left)) at (c .before .loop2 .inv .1 .1) in
+    state-stored _ _ _ _ _ _ _ _ (here .before .least .ensures) first second
+
+same-length : tie.Need-same-length Inv-loop μ-loop Inv-loop2 μ-loop2
+same-length c =
+    let start = c .before .before .before .before .before .before in
+    ap length (whole c) ∙ length-state _ _ _ _ _ (start .pre .0) (start .pre .1 .0) (start .pre .1 .1) (sized start)
+
+returns : tie.Need-returns Inv-loop μ-loop Inv-loop2 μ-loop2
+returns c = whole c
+
+pub store-state-spec : {M : Type 1} → statement M
+store-state-spec =
+    tie.close
+    (tie.spec
+    Inv-loop
+    μ-loop
+    Inv-loop2
+    μ-loop2
+    least-requires
+    mul-words
+    slice-write-words
+    add-words
+    mul-words-2
+    slice-write-words-2
+    add-accounts
+    add-totals
+    loop-holds
+    mul-words-3
+    element-copy-out-words
+    add-words-2
+    mul-words-4
+    slice-write-words-3
+    mul-words-5
+    element-copy-out-words-2
+    add-words-3
+    mul-words-6
+    slice-write-words-4
+    add-i
+    loop-less
+    loop-again
+    add-settled
+    add-answers
+    loop2-holds
+    mul-words-7
+    element-copy-out-words-3
+    add-words-4
+    mul-words-8
+    slice-write-words-5
+    mul-words-9
+    element-copy-out-words-4
+    add-words-5
+    mul-words-10
+    slice-write-words-6
+    add-j
+    loop2-less
+    loop2-again
+    same-length
+    returns)

@@ -1,0 +1,148 @@
+// Records in lent words: totals in words and back, one word or a run of words read and written, and a bucket's state loaded and stored.
+// Each contract is an equality with a definition of specs/; an index that a `requires` bounds is not tested again.
+ghost use mathlib.Core.Path.{_≡_};
+ghost use mathlib.Core.Logic.{_⊎_};
+ghost use Prim.Native.Nat.{_+_, _-_, _≤_, _<_};
+ghost use lib.ListN.{length, getD, set, replicate};
+ghost use mir.Syntax.{w64};
+ghost use mir.Val.{ofZ, toZ};
+ghost use Rattle.memory.specs.Parts.{part, overlay};
+ghost use Rattle.memory.specs.Loads.{least, loadedState, storedState};
+use bucket::BucketState;
+
+// The word that keeps a total: its bits.
+pub fn word_of(x: i64) -> u64
+    ensures { λ r. ⌜ r ≡ ofZ w64 x ⌝ }
+{
+    if x < 0 { !((!x) as u64) } else { x as u64 }
+}
+
+// The total that a word keeps.
+pub fn total_of(w: u64) -> i64
+    ensures { λ r. ⌜ r ≡ toZ w64 w ⌝ }
+{
+    if w < 9223372036854775808 {
+        w as i64
+    } else {
+        !((!w) as i64)
+    }
+}
+
+// The word at i.
+pub fn get(words: &[u64], i: usize) -> u64
+    requires { ⌜ i < length (now words) ⌝ }
+    ensures { λ r. ⌜ r ≡ getD (now (words .entry)) i 0 ⌝ }
+{
+    words[i]
+}
+
+// The word at i, and 0 past the end.
+pub fn get_or(words: &[u64], i: usize) -> u64
+    ensures { λ r. ⌜ r ≡ getD (now (words .entry)) i 0 ⌝ }
+{
+    if i < words.len() { words[i] } else { 0 }
+}
+
+// Another word at i.
+pub fn put(words: &mut [u64], i: usize, v: u64)
+    requires { ⌜ i < length (now words) ⌝ }
+    ensures { λ _. ⌜ now (words .exit) ≡ set (now (words .entry)) i v ⌝ }
+{
+    words[i] = v;
+}
+
+// The k words at `from`, written at `to` too. The runs are apart, or the run read starts no earlier than the run written.
+pub fn copy(words: &mut [u64], from: usize, to: usize, k: usize)
+    requires { ⌜ (from + k ≤ length (now words)) × ((to + k ≤ length (now words)) × ((from + k ≤ to) ⊎ (to ≤ from))) ⌝ }
+    ensures { λ _. ⌜ now (words .exit) ≡ overlay (now (words .entry)) to (part (now (words .entry)) from k) ⌝ }
+{
+    let mut i: usize = 0;
+    while i < k {
+        let v = words[from + i];
+        words[to + i] = v;
+        i += 1;
+    }
+}
+
+// The word v at each place from `from` to `to`, the last not counted.
+pub fn fill(words: &mut [u64], from: usize, to: usize, v: u64)
+    requires { ⌜ to ≤ length (now words) ⌝ }
+    ensures { λ _. ⌜ now (words .exit) ≡ overlay (now (words .entry)) from (replicate (to - from) v) ⌝ }
+{
+    let mut i = from;
+    while i < to {
+        words[i] = v;
+        i += 1;
+    }
+}
+
+// A count of accounts, at most the capacity.
+fn least(count: u64, capacity: usize) -> usize
+    ensures { λ r. ⌜ r ≡ least count capacity ⌝ }
+{
+    if count < capacity as u64 {
+        count as usize
+    } else {
+        capacity
+    }
+}
+
+// The state in the record at q. The largest record has 54 words, so one bound serves every b and n.
+pub fn load_state(words: &[u64], q: usize, b: usize, n: usize) -> BucketState
+    requires { ⌜ (q + 54 ≤ length (now words)) × ((b ≤ 16) × (n ≤ 8)) ⌝ }
+    ensures { λ r. ⌜ r ≡ loadedState (now (words .entry)) q b n ⌝ }
+{
+    let c = least(words[q], b);
+    let zeros = [0u64; 16];
+    let mut s = BucketState {
+        accounts: zeros,
+        totals: zeros,
+        settled: zeros,
+        answers: zeros,
+        count: c as u64,
+        applied: words[q + 1],
+    };
+    let accounts = q + 6;
+    let totals = accounts + b;
+    let mut i: usize = 0;
+    while i < c {
+        s.accounts[i] = words[accounts + i];
+        s.totals[i] = words[totals + i];
+        i += 1;
+    }
+    let settled = totals + b;
+    let answers = settled + n;
+    let mut j: usize = 0;
+    while j < n {
+        s.settled[j] = words[settled + j];
+        s.answers[j] = words[answers + j];
+        j += 1;
+    }
+    s
+}
+
+// The state s, written into the record at q.
+pub fn store_state(words: &mut [u64], q: usize, b: usize, n: usize, s: BucketState)
+    requires { ⌜ (q + 54 ≤ length (now words)) × ((b ≤ 16) × (n ≤ 8)) ⌝ }
+    ensures { λ _. ⌜ now (words .exit) ≡ storedState (now (words .entry)) q b n s ⌝ }
+{
+    let c = least(s.count, b);
+    words[q] = c as u64;
+    words[q + 1] = s.applied;
+    let accounts = q + 6;
+    let totals = accounts + b;
+    let mut i: usize = 0;
+    while i < c {
+        words[accounts + i] = s.accounts[i];
+        words[totals + i] = s.totals[i];
+        i += 1;
+    }
+    let settled = totals + b;
+    let answers = settled + n;
+    let mut j: usize = 0;
+    while j < n {
+        words[settled + j] = s.settled[j];
+        words[answers + j] = s.answers[j];
+        j += 1;
+    }
+}
