@@ -4,7 +4,7 @@ use Prim.Native.Nat.{ℕ, zero, suc, _+_, _-_, _*_, _/_, _^_, _≤_, _<_}
 use native.Mathlib.Omega.{arith}
 use native.Mathlib.Decide.{ℕ-discrete}
 use mathlib.Core.Path.{_≡_, refl, ap, sym, _∙_, subst}
-use mathlib.Core.Logic.{_≢_}
+use mathlib.Core.Logic.{_≢_, _⊎_, inl, inr}
 use mathlib.Core.Bool.{Bool, true, false, not}
 use mathlib.Core.Option.{Option, none, some}
 use lib.Dec.{ltb, eqb}
@@ -65,6 +65,13 @@ unfolding deepened doubled
 deepened-below d k c h m =
     if-elim (λ (v : Copy). v .depth ≤ k) (ltb (c .depth) d) (doubled c) c (λ e. omega (arith, ltb-true (c .depth) d e)) (λ e. h)
 
+-- it is the former depth or d
+deepened-is : (d : ℕ) (c : Copy) → (deepened d c .depth ≤ c .depth) ⊎ (deepened d c .depth ≤ d)
+unfolding deepened doubled
+deepened-is d c =
+    if-elim (λ (v : Copy). (v .depth ≤ c .depth) ⊎ (v .depth ≤ d)) (ltb (c .depth) d) (doubled c) c
+    (λ e. inr (omega (arith, ltb-true (c .depth) d e))) (λ e. inl (omega arith))
+
 -- the half of bucket x's body b that an account belongs to after a split
 abbrev pub halfAt : Name → Body → ℕ → Leaf
 halfAt x b a = made (nameAt (suc (x .depth)) a) (half (nameAt (suc (x .depth)) a) b)
@@ -106,13 +113,14 @@ leaf-split x b c a h m l =
 abbrev pub Shallow : Copy → Type 0
 Shallow c = (e : ℕ) → nameOf (c .leaves e) .depth ≤ c .depth
 
--- Of depth at most k; each account's bucket has the account, and is one leaf for all that it has. `shallow` speaks of the entries past
--- the last too: a name deeper than the directory then has no body in it.
+-- Of depth at most k, which some bucket has; each account's bucket has the account, and is one leaf for all that it has. `shallow` speaks
+-- of the entries past the last too: a name deeper than the directory then has no body in it.
 pub record Coherent (k : ℕ) (c : Copy) : Type 0 where
   pub bound : c .depth ≤ k
   pub shallow : Shallow c
   pub named : (a : ℕ) → Inside (nameOf (leafOf c a)) a
   pub shared : (a e : ℕ) → Inside (nameOf (leafOf c a)) e → leafOf c e ≡ leafOf c a
+  pub reached : (a : ℕ) × (c .depth ≤ depthAt c a)
 
 -- the leaf was made in this round, and is no less deep than x
 abbrev pub MadeIn : Name → Leaf → Type 0
@@ -136,6 +144,7 @@ record Graft (k : ℕ) (c c′ : Copy) (x : Name) (g : ℕ → Leaf) : Type 0 wh
   low : (e : ℕ) → MadeIn x (g e)
   named : (e : ℕ) → Inside x e → Inside (nameOf (g e)) e
   shared : (e f : ℕ) → Inside (nameOf (g e)) f → g f ≡ g e
+  reached : (c′ .depth ≤ c .depth) ⊎ ((e : ℕ) → c′ .depth ≤ nameOf (g e) .depth)
 
 shallow-leaf : (c : Copy) → Shallow c → (a : ℕ) → depthAt c a ≤ c .depth
 unfolding leafOf
@@ -177,12 +186,20 @@ module _ {k : ℕ} {c : Copy} (h : Coherent k c) (a : ℕ) (x : Name) (at : name
       graft-elim : (P : Leaf → Type 0) (e : ℕ) → (Inside x e → P (g e)) → (Outside x e → P (leafOf c e)) → P (leafOf c′ e)
       graft-elim P e i o = rw (r .leaf e) (eq-elim P (firstBits (x .depth) e) (x .prefix) (g e) (leafOf c e) i o)
 
+      grows-graft : (e : ℕ) → depthAt c e ≤ depthAt c′ e
+      grows-graft e = graft-elim (λ (l : Leaf). depthAt c e ≤ nameOf l .depth) e
+          (λ i. omega (arith, ap (λ (y : Name). y .depth) (ap nameOf (same-leaf e i) ∙ at), made-depth x (g e) (r .low e))) (λ o. omega arith)
+
       coherent-graft : Coherent k c′
       coherent-graft = record {
         bound = r .bound;
         shallow = r .shallow;
         named = λ e. graft-elim (λ (l : Leaf). Inside (nameOf l) e) e (r .named e) (λ o. h .named e);
         shared = λ e f. graft-elim (λ (l : Leaf). Inside (nameOf l) f → leafOf c′ f ≡ l) e (new e f) (old e f);
+        reached = elim (r .reached) [
+          | inl l ↦ (h .reached .0, omega (arith, h .reached .1, grows-graft (h .reached .0)))
+          | inr l ↦ (a, subst (λ (y : Leaf). c′ .depth ≤ nameOf y .depth) (sym (leaf-in a (own-leaf a at))) (l a))
+        ];
       }
         where
           leaf-in : (e : ℕ) → Inside x e → leafOf c′ e ≡ g e
@@ -208,8 +225,7 @@ module _ {k : ℕ} {c : Copy} (h : Coherent k c) (a : ℕ) (x : Name) (at : name
       refined-graft = record {
         coherent = coherent-graft;
         deeper = r .deeper;
-        grows = λ e. graft-elim (λ (l : Leaf). depthAt c e ≤ nameOf l .depth) e
-            (λ i. omega (arith, ap (λ (y : Name). y .depth) (ap nameOf (same-leaf e i) ∙ at), made-depth x (g e) (r .low e))) (λ o. omega arith);
+        grows = grows-graft;
         outside = λ e o. r .leaf e ∙ if-ne (firstBits (x .depth) e) (x .prefix) (g e) (leafOf c e) o;
         inside = λ e i. rw (r .leaf e ∙ if-eq (firstBits (x .depth) e) (x .prefix) (g e) (leafOf c e) i) (r .low e);
       }
@@ -225,6 +241,7 @@ module _ {k : ℕ} {c : Copy} (h : Coherent k c) (a : ℕ) (x : Name) (at : name
       low = λ e. omega arith;
       named = λ e i. i;
       shared = λ e f i. refl;
+      reached = inl (omega arith);
     })
 
     pub refined-split : (b : Body) → x .depth < k → Refined k x c (split x b c)
@@ -237,6 +254,7 @@ module _ {k : ℕ} {c : Copy} (h : Coherent k c) (a : ℕ) (x : Name) (at : name
       low = λ e. omega arith;
       named = λ e i. refl;
       shared = λ e f i. rw i;
+      reached = elim (deepened-is (suc (x .depth)) c) [ inl l ↦ inl l | inr l ↦ inr (λ e. l) ];
     })
       where
         low : suc (x .depth) ≤ deepened (suc (x .depth)) c .depth
@@ -455,6 +473,7 @@ coherent-directoryOf c h = record {
   shallow = h .shallow;
   named = h .named;
   shared = λ a e i. ap (λ (l : Leaf). kept (nameOf l)) (h .shared a e i);
+  reached = h .reached;
 }
 
 pub coherent-first : (k : ℕ) → Coherent k (copyOf firstDirectory)
@@ -464,4 +483,5 @@ coherent-first k = record {
   shallow = λ e. omega arith;
   named = λ a. bits-zero a;
   shared = λ a e i. refl;
+  reached = (0, omega arith);
 }

@@ -164,6 +164,7 @@ uniform-coherent k d l = record {
   shallow = λ e. omega arith;
   named = λ a. refl;
   shared = λ a e i. ap (λ (q : ℕ). kept (record { depth = d; prefix = q })) i;
+  reached = (0, omega arith);
 }
 
 -- x is a bucket of a directory: the name of some account a₀ at a depth up to M
