@@ -1,0 +1,10 @@
+-- Laws that belong to no one function, and the theorems on whole lines and whole sessions.
+-- They rest on the definitions of specs/.
+pub mod Splitting
+pub mod Numerals
+pub mod Decimals
+pub mod Overlays
+pub mod Signs
+pub mod Longest
+pub mod Streaming
+pub mod Session

@@ -1,0 +1,113 @@
+-- `read_digits`: what the bytes passed say is within the limit, and the rest is still to be read after it.
+-- Rests on the laws that it cites and on the contracts of what is called.
+use Prim.Native.Nat.{_-_, _≤_}
+use mathlib.Core.Path.{_≡_, refl, sym, _∙_}
+use native.Mathlib.Omega.{arith}
+use lib.ListN.{length, drop}
+use borrow.Author.Needs.{needs}
+use Rattle.lines.specs.Numerals.{digitsAfter, upTo}
+use Rattle.lines.proofs.Numerals.{nothing, value, stop-low, stop-high, stop-large, go-on, digits-end}
+use Rattle.lines.proofs.number.read_digits.Statement.{statement}
+use Rattle.lines.proofs.number.read_digits.Tie as tie
+
+abbrev Inv-loop : tie.InvT-loop
+Inv-loop field most value₀ i₀ value i =
+    (i ≤ length field) × ((value ≤ most) × (upTo most (digitsAfter value (drop i field)) ≡ upTo most (digitsAfter 0 field)))
+
+abbrev μ-loop : tie.MeasureT-loop
+μ-loop field most value₀ i₀ value i = length field - i
+
+loop-holds : tie.Need-loop-holds Inv-loop μ-loop
+loop-holds c = (search needs, (search needs, refl))
+
+shared-slice-read-byte : tie.Need-shared-slice-read-byte Inv-loop μ-loop
+shared-slice-read-byte c = search needs
+
+returns : tie.Need-returns Inv-loop μ-loop
+returns c =
+    let l = c .before .before .before in
+    let s = l .before .before in
+    let f = s .args .field .now in
+    nothing _ (sym (l .loop .inv .1 .1) ∙ stop-low (s .args .most) (l .loop .value) f (l .loop .i) (omega arith) (c .if1 .taken))
+
+returns-2 : tie.Need-returns-2 Inv-loop μ-loop
+returns-2 c =
+    let l = c .before .before .before .before in
+    let s = l .before .before in
+    let f = s .args .field .now in
+    nothing _ (sym (l .loop .inv .1 .1) ∙ stop-high (s .args .most) (l .loop .value) f (l .loop .i) (omega arith) (c .if2 .taken))
+
+wide-requires : tie.Need-wide-requires Inv-loop μ-loop
+wide-requires c κs = search needs
+
+returns-3 : tie.Need-returns-3 Inv-loop μ-loop
+returns-3 c =
+    let l = c .before .before .before .before .before .before in
+    let s = l .before .before in
+    let f = s .args .field .now in
+    nothing _ (sym (l .loop .inv .1 .1) ∙ stop-large (s .args .most) (l .loop .value) f (l .loop .i) (omega arith) (omega arith)
+    (omega arith) (omega arith))
+
+mul-tens : tie.Need-mul-tens Inv-loop μ-loop
+mul-tens c = search needs
+
+sub-if4 : tie.Need-sub-if4 Inv-loop μ-loop
+sub-if4 c = search needs
+
+returns-4 : tie.Need-returns-4 Inv-loop μ-loop
+returns-4 c =
+    let l = c .before .before .before .before .before .before .before in
+    let s = l .before .before in
+    let f = s .args .field .now in
+    nothing _ (sym (l .loop .inv .1 .1) ∙ stop-large (s .args .most) (l .loop .value) f (l .loop .i) (omega arith) (omega arith)
+    (omega arith) (omega arith))
+
+add-value : tie.Need-add-value Inv-loop μ-loop
+add-value c = search needs
+
+add-i : tie.Need-add-i Inv-loop μ-loop
+add-i c = search needs
+
+loop-less : tie.Need-loop-less Inv-loop μ-loop
+loop-less c = search needs
+
+loop-again : tie.Need-loop-again Inv-loop μ-loop
+loop-again c =
+    let l = c .before .before .before .before .before .before .before in
+    let s = l .before .before in
+    let f = s .args .field .now in (
+      omega arith,
+      (
+        omega arith,
+        rw (c .before .before .wide .ensures)
+            (sym (go-on (s .args .most) (l .loop .value) f (l .loop .i) (omega arith) (omega arith) (omega arith)) ∙ l .loop .inv .1 .1),
+      ),
+    )
+
+returns-5 : tie.Need-returns-5 Inv-loop μ-loop
+returns-5 c =
+    let l = c .before in
+    let s = l .before .before in
+    value _ (l .loop .value) (sym (l .loop .inv .1 .1) ∙ digits-end (s .args .most) (l .loop .value) (s .args .field .now) (l .loop .i)
+    (omega arith) (omega arith))
+
+pub read-digits-spec : {M : Type 1} → statement M
+read-digits-spec =
+    tie.close
+    (tie.spec
+    Inv-loop
+    μ-loop
+    loop-holds
+    shared-slice-read-byte
+    returns
+    returns-2
+    wide-requires
+    returns-3
+    mul-tens
+    sub-if4
+    returns-4
+    add-value
+    add-i
+    loop-less
+    loop-again
+    returns-5)

@@ -1,0 +1,103 @@
+-- Decimal numbers as bytes: how one is written, and which bytes are one. 01, The driver: "in decimal"; "Numbers have no leading zeros; a
+-- total may start with a minus, but -0 is no number". Rests on nothing but the tests of the machine's specs/Choice.
+use Prim.Native.Nat.{ℕ, zero, suc, _+_, _-_, _*_, _/_, _%_, _^_}
+use mathlib.Core.Bool.{Bool, true, false}
+use mathlib.Core.List.{List, [], _∷_, _++_}
+use mathlib.Core.Option.{Option, none, some}
+use lib.Dec.{leb, ltb, eqb}
+use lib.IntN.{ℤ, pos, negsuc}
+use Rattle.machine.specs.Choice.{if_then_else_, _and_}
+use Rattle.lines.specs.declared.number.Number.{Number}
+use Rattle.lines.specs.declared.number.Number.the-variants as Number
+use Rattle.lines.specs.declared.number.Signed.{Signed}
+use Rattle.lines.specs.declared.number.Signed.the-variants as Signed
+
+-- ---- written
+
+-- the byte of a digit below 10: 48 is `0`
+unfoldable pub digit : ℕ → ℕ
+digit d = 48 + d
+
+-- the last k digits of n, the most significant first
+unfoldable pub digits : ℕ → ℕ → List ℕ
+digits zero n = []
+digits (suc k) n = digits k (n / 10) ++ digit (n % 10) ∷ []
+
+-- how many digits n has, if they are at most suc most
+unfoldable pub placesUpTo : ℕ → ℕ → ℕ
+placesUpTo zero n = 1
+placesUpTo (suc most) n = elim (ltb n 10) [ true ↦ 1 | false ↦ suc (placesUpTo most (n / 10)) ]
+
+-- how many digits n has: never more than suc n, as each takes a tenth
+unfoldable pub places : ℕ → ℕ
+places n = placesUpTo n n
+
+-- n in decimal
+unfoldable pub decimal : ℕ → List ℕ
+decimal n = digits (places n) n
+
+-- 45 is `-`
+unfoldable pub signedDecimal : ℤ → List ℕ
+signedDecimal (pos n) = decimal n
+signedDecimal (negsuc n) = 45 ∷ decimal (suc n)
+
+-- ---- read
+
+unfoldable pub isDigit : ℕ → Bool
+isDigit b = leb 48 b and leb b 57
+
+-- what the digits say after those that said v; nothing where a byte is no digit
+unfoldable pub digitsAfter : ℕ → List ℕ → Option ℕ
+digitsAfter v [] = some v
+digitsAfter v (b ∷ bs) = if isDigit b then digitsAfter (v * 10 + (b - 48)) bs else none
+
+-- a zero is a number by itself only
+unfoldable pub zeroThen : List ℕ → Option ℕ
+zeroThen [] = some 0
+zeroThen (b ∷ bs) = none
+
+-- the number that the bytes are in decimal, if they are one: a digit at least, and no leading zero
+unfoldable pub numeral : List ℕ → Option ℕ
+numeral [] = none
+numeral (b ∷ bs) = if eqb b 48 then zeroThen bs else digitsAfter 0 (b ∷ bs)
+
+unfoldable pub plus : Option ℕ → Option ℤ
+plus none = none
+plus (some n) = some (pos n)
+
+-- "-0 is no number"
+unfoldable pub minus : Option ℕ → Option ℤ
+minus none = none
+minus (some zero) = none
+minus (some (suc n)) = some (negsuc n)
+
+-- "a total may start with a minus"
+unfoldable pub signedNumeral : List ℕ → Option ℤ
+signedNumeral [] = none
+signedNumeral (b ∷ bs) = if eqb b 45 then minus (numeral bs) else plus (numeral (b ∷ bs))
+
+-- ---- ranges
+
+unfoldable pub upTo : ℕ → Option ℕ → Option ℕ
+upTo most none = none
+upTo most (some v) = if leb v most then some v else none
+
+unfoldable pub from : ℕ → Option ℕ → Option ℕ
+from least none = none
+from least (some v) = if leb least v then some v else none
+
+-- "a total a 64-bit signed number": from -(2 ^ 63) to 2 ^ 63 - 1
+unfoldable pub in64 : Option ℤ → Option ℤ
+in64 none = none
+in64 (some (pos n)) = if leb n (2 ^ 63 - 1) then some (pos n) else none
+in64 (some (negsuc n)) = if leb (suc n) (2 ^ 63) then some (negsuc n) else none
+
+-- ---- the same in the source's enums
+
+unfoldable pub asNumber : Option ℕ → Number
+asNumber none = Number.Nothing
+asNumber (some n) = Number.Value n
+
+unfoldable pub asSigned : Option ℤ → Signed
+asSigned none = Signed.Nothing
+asSigned (some z) = Signed.Value z

@@ -1,0 +1,198 @@
+// A line read as a command: its fields one after the other, then what each of them has to be.
+// Rests on the numbers of number.rt.
+ghost use mathlib.Core.Path.{_≡_};
+ghost use mathlib.Core.List.{[], _∷_};
+ghost use Rattle.lines.specs.declared.command.Command.the-variants.{Open as Open·, Insert as Insert·};
+ghost use Rattle.lines.specs.declared.command.Command.the-variants.{Delete as Delete·, Lookup as Lookup·, Steps as Steps·};
+ghost use Rattle.lines.specs.Grammar.{commandOf, ofFields, fieldsOf, firstField, letterOf, threeFields, fourFields};
+ghost use Rattle.lines.specs.Grammar.{smallOf, accountOf, totalOf, stepsOf, with2, with3};
+use crate::number::Number;
+use crate::number::Signed;
+use crate::number::read_number;
+use crate::number::read_signed;
+
+// What a line asks for. Unread is a line that is none of the others.
+pub enum Command {
+    // n, b, M
+    Open(u64, u64, u64),
+    // w, account, total
+    Insert(u64, u32, i64),
+    // w, account
+    Delete(u64, u32),
+    // w, account
+    Lookup(u64, u32),
+    // w, k
+    Steps(u64, u64),
+    List,
+    Unread,
+}
+
+// The greatest w, n, b and M.
+const GREATEST_SMALL: u64 = 65535;
+
+const GREATEST_ACCOUNT: u64 = 4294967295;
+
+const GREATEST_STEPS: u64 = 9999;
+
+// What the line means, given without its line feed.
+pub fn parse(line: &[u8]) -> Command
+    ensures { λ r. ⌜ r ≡ commandOf (now (line .entry)) ⌝ }
+{
+    let end = first_field(line);
+    if line.len() <= end {
+        if letter(line) == b'T' {
+            return Command::List;
+        }
+        return Command::Unread;
+    }
+    let next = end + 1;
+    after_letter(letter(&line[..end]), &line[next..])
+}
+
+// The command of a letter and the fields after it.
+fn after_letter(letter: u8, rest: &[u8]) -> Command
+    ensures { λ r. ⌜ r ≡ ofFields ((letter ∷ []) ∷ fieldsOf (now (rest .entry))) ⌝ }
+{
+    let end = first_field(rest);
+    if rest.len() <= end {
+        return Command::Unread;
+    }
+    let next = end + 1;
+    after_field(letter, &rest[..end], &rest[next..])
+}
+
+// The command of a letter, a field and the fields after them.
+fn after_field(letter: u8, x: &[u8], rest: &[u8]) -> Command
+    ensures { λ r. ⌜ r ≡ ofFields ((letter ∷ []) ∷ now (x .entry) ∷ fieldsOf (now (rest .entry))) ⌝ }
+{
+    let end = first_field(rest);
+    if rest.len() <= end {
+        return three_fields(letter, x, rest);
+    }
+    let next = end + 1;
+    after_fields(letter, x, &rest[..end], &rest[next..])
+}
+
+// The command of a letter, two fields and the fields after them, of which there may be one.
+fn after_fields(letter: u8, x: &[u8], y: &[u8], rest: &[u8]) -> Command
+    ensures { λ r. ⌜ r ≡ ofFields ((letter ∷ []) ∷ now (x .entry) ∷ now (y .entry) ∷ fieldsOf (now (rest .entry))) ⌝ }
+{
+    if first_field(rest) < rest.len() {
+        return Command::Unread;
+    }
+    four_fields(letter, x, y, rest)
+}
+
+fn three_fields(letter: u8, x: &[u8], y: &[u8]) -> Command
+    ensures { λ r. ⌜ r ≡ threeFields letter (now (x .entry)) (now (y .entry)) ⌝ }
+{
+    match letter {
+        b'D' => delete(x, y),
+        b'L' => lookup(x, y),
+        b'S' => steps(x, y),
+        _ => Command::Unread,
+    }
+}
+
+fn four_fields(letter: u8, x: &[u8], y: &[u8], z: &[u8]) -> Command
+    ensures { λ r. ⌜ r ≡ fourFields letter (now (x .entry)) (now (y .entry)) (now (z .entry)) ⌝ }
+{
+    match letter {
+        b'O' => open(x, y, z),
+        b'I' => insert(x, y, z),
+        _ => Command::Unread,
+    }
+}
+
+fn open(x: &[u8], y: &[u8], z: &[u8]) -> Command
+    ensures { λ r. ⌜ r ≡ with3 Open· (smallOf (now (x .entry))) (smallOf (now (y .entry))) (smallOf (now (z .entry))) ⌝ }
+{
+    let Number::Value(n) = read_number(x, GREATEST_SMALL) else {
+        return Command::Unread;
+    };
+    let Number::Value(b) = read_number(y, GREATEST_SMALL) else {
+        return Command::Unread;
+    };
+    let Number::Value(m) = read_number(z, GREATEST_SMALL) else {
+        return Command::Unread;
+    };
+    Command::Open(n, b, m)
+}
+
+fn insert(x: &[u8], y: &[u8], z: &[u8]) -> Command
+    ensures { λ r. ⌜ r ≡ with3 Insert· (smallOf (now (x .entry))) (accountOf (now (y .entry))) (totalOf (now (z .entry))) ⌝ }
+{
+    let Number::Value(w) = read_number(x, GREATEST_SMALL) else {
+        return Command::Unread;
+    };
+    let Number::Value(account) = read_number(y, GREATEST_ACCOUNT) else {
+        return Command::Unread;
+    };
+    let Signed::Value(total) = read_signed(z) else {
+        return Command::Unread;
+    };
+    Command::Insert(w, account as u32, total)
+}
+
+fn delete(x: &[u8], y: &[u8]) -> Command
+    ensures { λ r. ⌜ r ≡ with2 Delete· (smallOf (now (x .entry))) (accountOf (now (y .entry))) ⌝ }
+{
+    let Number::Value(w) = read_number(x, GREATEST_SMALL) else {
+        return Command::Unread;
+    };
+    let Number::Value(account) = read_number(y, GREATEST_ACCOUNT) else {
+        return Command::Unread;
+    };
+    Command::Delete(w, account as u32)
+}
+
+fn lookup(x: &[u8], y: &[u8]) -> Command
+    ensures { λ r. ⌜ r ≡ with2 Lookup· (smallOf (now (x .entry))) (accountOf (now (y .entry))) ⌝ }
+{
+    let Number::Value(w) = read_number(x, GREATEST_SMALL) else {
+        return Command::Unread;
+    };
+    let Number::Value(account) = read_number(y, GREATEST_ACCOUNT) else {
+        return Command::Unread;
+    };
+    Command::Lookup(w, account as u32)
+}
+
+fn steps(x: &[u8], y: &[u8]) -> Command
+    ensures { λ r. ⌜ r ≡ with2 Steps· (smallOf (now (x .entry))) (stepsOf (now (y .entry))) ⌝ }
+{
+    let Number::Value(w) = read_number(x, GREATEST_SMALL) else {
+        return Command::Unread;
+    };
+    let Number::Value(k) = read_number(y, GREATEST_STEPS) else {
+        return Command::Unread;
+    };
+    if k == 0 {
+        return Command::Unread;
+    }
+    Command::Steps(w, k)
+}
+
+// How long the first field is: up to the first space, or to the end.
+fn first_field(bytes: &[u8]) -> usize
+    ensures { λ r. ⌜ r ≡ firstField (now (bytes .entry)) ⌝ }
+{
+    let mut i = 0;
+    while i < bytes.len() {
+        if bytes[i] == b' ' {
+            return i;
+        }
+        i += 1;
+    }
+    i
+}
+
+// The letter that a field is, or 0.
+fn letter(field: &[u8]) -> u8
+    ensures { λ r. ⌜ r ≡ letterOf (now (field .entry)) ⌝ }
+{
+    if field.len() == 1 {
+        return field[0];
+    }
+    0
+}

@@ -1,0 +1,372 @@
+-- The steps that change one slot or one bucket: announce, flip, and the bucket swap that succeeds. Rests on a change of shared cells, on the
+-- words of a bucket record, and on numbers used again.
+use Prim.Native.Nat.{ℕ, suc, _+_, _*_, _≤_, _<_}
+use native.Mathlib.Omega.{arith}
+use native.Mathlib.Nat.{add-assoc}
+use native.Mathlib.Decide.{ℕ-discrete}
+use mathlib.Core.Path.{_≡_, refl, ap, sym, _∙_, subst}
+use mathlib.Core.Logic.{_≢_, inl, inr, ⊎-elim, by-cases}
+use mathlib.Core.Bool.{Bool, not}
+use mathlib.Core.List.{List}
+use mathlib.Core.Option.{none, some}
+use lib.ListN.{length, getD, set, length-set}
+use lib.Seq.{getD-set-other}
+use Rattle.interface.specs.declared.Settings.{Settings}
+use Rattle.interface.specs.declared.Stepped.{Stepped}
+use Rattle.machine.specs.Choice.{assign}
+use Rattle.machine.specs.Sequential.{Update, update}
+use Rattle.machine.specs.Records.{Name, Bucket, announced, Cells, Reads, Worker, Machine}
+use Rattle.machine.specs.BucketPass.{nextState}
+use Rattle.machine.specs.Words.{wordsNeeded}
+use Rattle.machine.specs.Steps.{assignSlot, assignBucket, assignState, assignToggle, counted, reported}
+use Rattle.machine.proofs.Base.{if-eq, if-ne, assign-at, assign-other, assign-elim}
+use Rattle.machine.proofs.Counter.{Two, one, two, PC, phaseOf, announce, readD, flip, inB, readS, readT, slotB, swap}
+use Rattle.machine.proofs.Whereabouts.{Holds}
+use Rattle.machine.proofs.Inv.{Task, held, own, Fresh, SeenState, Announced, ReadFacts}
+use Rattle.machine.proofs.Keeping.{goes}
+use Rattle.machine.proofs.Transitions.{taskOf, tasksOf, flippedCells, swappedCells}
+use Rattle.machine.proofs.Counter.{afterB}
+use Rattle.bucket.specs.Items.{bitsOf, updateOf, readSlot, slotOf}
+use Rattle.memory.specs.Parts.{part}
+use Rattle.memory.specs.Layout.{slot, worker, record′, startOf}
+use Rattle.memory.proofs.PartLaws.{length-part, getD-part, length-overlay, getD-overlay-in, getD-overlay-before, getD-overlay-after}
+use Rattle.memory.proofs.Regions.{region-inside}
+use Rattle.table.specs.Places.{heldBy}
+use Rattle.table.specs.Numbers.{freshNumber}
+use Rattle.table.specs.Engine.{announcedAt, flipBit, flippedAt, roundAt, swappedAt}
+use Rattle.table.specs.Turns.{stepIn, updateAt}
+use Rattle.simulation.specs.Meaning.{at, nameIn, Keeps, Refers, Live, current, referred, HasState, HasDirectory, Agree, WorkerMeans, Meaning}
+use Rattle.simulation.proofs.Frames.{at-here, at-beside, slot-wide, worker-wide, record-wide, name-same, keeps-same, refers-same, directs-same}
+use Rattle.simulation.proofs.Frames.{Inside, elsewhere-inside, set-inside, own-entry, own-worker, own-record}
+use Rattle.simulation.proofs.Entering.{worker-start, refers-once, is-update, raised, raised-beside, update-enters}
+use Rattle.simulation.proofs.OwnWorker.{Ready, Next, going, raised-means, enough₁, own₁, mine, at-mine, keeps-mine, announced-at}
+use Rattle.simulation.proofs.CellChange.{live-within, slot-means, record-means}
+use Rattle.simulation.proofs.BucketWords.{loaded-set, Stored, round-words}
+use Rattle.simulation.proofs.Numbering.{fresh-number}
+use Rattle.simulation.proofs.WordBits.{flip-here, flip-beside}
+
+-- ---- the first four words of worker w in its slot
+
+module _ (s : Settings) (l : List ℕ) (enough : wordsNeeded s ≤ length l) (w : ℕ) (wn : w < s .workers) where
+  abbrev xs : List ℕ
+  xs = part l (startOf s (worker w)) 4
+
+  four : length xs ≡ 4
+  four = length-part l (startOf s (worker w)) 4 (omega (arith, region-inside s (worker w) wn, worker-wide s w))
+
+  fits : startOf s (slot w) + length xs ≤ length l
+  fits = omega (arith, region-inside s (slot w) wn, slot-wide s w, four)
+
+  announced-inside : Inside s (slot w) l (announcedAt l (startOf s (worker w)) w)
+  unfolding announcedAt startOf
+  announced-inside =
+      let e = four in
+      let wide = slot-wide s w in
+      elsewhere-inside s (slot w) l _ wn (length-overlay l (startOf s (slot w)) xs fits)
+      (λ i. ⊎-elim (getD-overlay-before l (startOf s (slot w)) xs fits i) (λ h. getD-overlay-after l (startOf s (slot w)) xs fits i (omega arith)))
+
+  announced-word : (i : ℕ) → i < 4 → at s (announcedAt l (startOf s (worker w)) w) (slot w) i ≡ at s l (worker w) i
+  unfolding announcedAt startOf
+  announced-word i h = getD-overlay-in l (startOf s (slot w)) xs fits i (omega (arith, four)) ∙ getD-part l (startOf s (worker w)) 4 i h
+
+slot-announced : (kind a v t : ℕ) → kind ≢ 0 → readSlot kind a v t ≡ announced (updateOf kind a v) t
+unfolding readSlot
+slot-announced kind a v t d = if-ne kind 0 _ _ d
+
+-- ---- where a worker stands
+
+-- a place where a worker compares nothing
+record Plain (pc : PC) : Type 0 where
+  no-state : HasState pc → ⊥
+  no-directory : HasDirectory pc → ⊥
+
+plain-after : (p r : Two) → Plain (afterB p r)
+plain-after p one = record { no-state = λ h. h; no-directory = λ h. h }
+plain-after p two = record { no-state = λ h. h; no-directory = λ h. h }
+
+-- the stamp of a state that was read is no later than the bucket's
+state-bounded :
+    (s : Settings) (c : Cells) (j : ℕ) (k : Task) (pc : PC) → HasState pc → ReadFacts s pc c j k → k .reads .state .stamp ≤ own c k .state .stamp
+state-bounded s c j k (inB p r readT) h o = o .seen .bounded
+state-bounded s c j k (inB p r swap) h o = o .seen .bounded
+state-bounded s c j k (inB p r (slotB i)) h o = o .seen .bounded
+
+-- ---- the steps
+
+module _ {s : Settings} {l : List ℕ} {m : Machine} {w : ℕ} (ready : Ready s l m w) where
+  abbrev means : Meaning s l m
+  means = ready .means
+
+  abbrev wn : w < s .workers
+  wn = ready .known
+
+  abbrev k : Task
+  k = tasksOf s m w
+
+  -- the words once the step is counted
+  abbrev l₁ : List ℕ
+  l₁ = raised s l w (m .workers w .steps)
+
+  -- the worker after the step, and the place that comes next
+  abbrev further : Worker
+  further = counted (m .workers w) (k .reads) none
+
+  abbrev next : PC
+  next = taskOf (s .workers) (going ready (k .reads)) .pc
+
+  abbrev m₁ : Machine
+  m₁ = record { cells = m .cells; workers = assign (m .workers) w further }
+
+  own-word : (i : ℕ) → i < 4 * s .workers + 24 → i ≢ 4 → at s l₁ (worker w) i ≡ at s l (worker w) i
+  own-word = raised-beside s l (means .lent) w wn (m .workers w .steps)
+
+  -- the words with the step counted
+  counted-means : (pc : PC) → next ≡ pc → Plain pc → (Holds pc → Holds (k .pc)) → Meaning s l₁ m₁
+  counted-means pc f plain holds = raised-means ready pc holds (plain .no-state) (plain .no-directory) f
+
+  abbrev Left : List ℕ → Cells → Type 0
+  Left l₂ c = Meaning s l₂ (record { cells = c; workers = assign (m .workers) w further })
+
+  -- the step of an update that leads to place pc, leaves words l₂ and cells c, and reads nothing
+  leaves :
+      (pc : PC) (l₂ : List ℕ) (c : Cells) → stepIn l s w ≡ (l₂, Stepped.Moved) → (next ≡ pc → Left l₂ c) → (y : Reads)
+      → taskOf (s .workers) (counted (m .workers w) y none) ≡ goes k pc (k .reads) → Next ready c y none
+  unfolding counted reported
+  leaves pc l₂ c e h y g = rw (e, ap (λ (o : Task). o .reads) g) (h (ap (λ (o : Task). o .pc) g), refl)
+
+  enters :
+      (u : Update) (pc : PC) → m .workers w .operation ≡ some (update u) → k .pc ≡ pc
+      → stepIn l s w ≡ updateAt l₁ s (startOf s (worker w)) w (m .workers w .steps) (phaseOf pc)
+  enters u pc o e = update-enters s (ready .range) l m means (ready .good) w wn u pc o e
+
+  pub announces-means :
+      (u : Update) → k .pc ≡ announce → k .operation ≡ some (update u) → (y : Reads)
+      → taskOf (s .workers) (counted (m .workers w) y none) ≡ goes k (readD one) (k .reads)
+      → Next ready (assignSlot (m .cells) w (announced u (k .ticket))) y none
+  unfolding updateAt
+  announces-means u e o = leaves (readD one) l₂ _ (enters u announce o e)
+      (λ f. slot-means s l₁ l₂ m₁
+      (counted-means (readD one) f (record { no-state = λ h. h; no-directory = λ h. h }) (λ h. absurd h)) w _
+      (announced-inside s l₁ (enough₁ ready) w wn)
+      (rw (sent 0 (omega arith), sent 1 (omega arith), sent 2 (omega arith), sent 3 (omega arith), g .ticket, says .2)
+      (slot-announced _ _ _ _ (says .0)))
+      (rw (sent 1 (omega arith)) (g .narrow)) (rw (sent 2 (omega arith)) (g .fits)) (λ z. absurd (says .0 (sym (sent 0 (omega arith)) ∙ z))))
+    where
+      l₂ : List ℕ
+      l₂ = announcedAt l₁ (startOf s (worker w)) w
+
+      g : WorkerMeans s l m w
+      g = means .workers w wn
+
+      sent : (i : ℕ) → i < 4 → at s (announcedAt l₁ (startOf s (worker w)) w) (slot w) i ≡ at s l (worker w) i
+      sent i h = announced-word s l₁ (enough₁ ready) w wn i h ∙ own-word i (omega arith) (λ q. omega arith)
+
+      says : (at s l (worker w) 0 ≢ 0) × (at s l (worker w) 0 ≢ 3) × (u ≡ updateOf (at s l (worker w) 0) (at s l (worker w) 1) (at s l (worker w) 2))
+      says = is-update _ _ _ (g .operation ∙ o)
+
+  -- ---- a change of the record that the worker holds
+
+  module _ (holds : Holds (k .pc)) where
+    abbrev r : ℕ
+    r = mine ready holds .0
+
+    abbrev q : ℕ
+    q = startOf s (record′ r)
+
+    refers : Refers s l w r
+    refers = mine ready holds .1
+
+    live : Live s l m r
+    live = referred w wn holds refers
+
+    refers₁ : Refers s l₁ w r
+    refers₁ = record { within = refers .within; names = own-word 5 (omega arith) (λ e. omega arith) ∙ refers .names }
+
+    keeps₁ : Keeps s l₁ r (own (m .cells) k)
+    keeps₁ = keeps-same s l l₁ r _ (own-record (own₁ ready) r (refers .within)) (keeps-mine ready holds)
+
+    others-refer : (j t : ℕ) → j < s .workers → j ≢ w → Refers s l₁ j t → Refers s l j t
+    others-refer j t jn d = refers-same s l₁ l j t (λ i b. sym (own-worker (own₁ ready) j jn d i b))
+
+    -- no other record that is live has its name
+    only : (t : ℕ) → Live s l₁ m₁ t → nameIn s l₁ t ≡ held k → t ≡ r
+    only t g e = go g
+      where
+        apart : Live s l m t → t ≡ r
+        apart h = means .apart t r h live (sym (name-same s l l₁ t (own-record (own₁ ready) t (live-within t h))) ∙ e ∙ sym (mine ready holds .2))
+
+        go : Live s l₁ m₁ t → t ≡ r
+        go (current a d) = apart (current a (directs-same s l₁ l a t (λ i b. sym (own-entry (own₁ ready) a i b)) d))
+        go (referred j jn h d) = by-cases (ℕ-discrete j w)
+            (λ z. refers-once s l₁ w t r (rw z at d) refers₁)
+            (λ z. apart (referred j jn (rw (assign-other (m .workers) w further j z) at h) (others-refer j t jn z d)))
+
+    -- Its words become those of bucket v under its name. Who refers to it compares with the new number as with the new stamp.
+    held-means :
+        (pc : PC) → next ≡ pc → Plain pc → (l₂ : List ℕ) (v : Bucket) → Inside s (record′ r) l₁ l₂
+        → at s l₂ (record′ r) 3 ≡ at s l₁ (record′ r) 3 → at s l₂ (record′ r) 4 ≡ at s l₁ (record′ r) 4 → Keeps s l₂ r v
+        → ((j : ℕ) → j < s .workers → j ≢ w → HasState (tasksOf s m j .pc) → Refers s l₁ j r → held (tasksOf s m j) ≡ held k
+        → Agree (at s l₁ (worker j) 6) (at s l₂ (record′ r) 5) (m .workers j .reads .state .stamp) (v .state .stamp))
+        → Left l₂ (assignBucket (m .cells) (held k) v)
+    unfolding counted
+    held-means pc f plain l₂ v inside depth prefix keeps agree =
+        record-means s l₁ l₂ m₁ (counted-means pc f plain (λ h. holds)) r (held k) v (refers .within) inside
+        (name-same s l l₁ r (own-record (own₁ ready) r (refers .within)) ∙ mine ready holds .2) (rw (depth, prefix)) only keeps
+        (λ j jn. assign-elim
+        (λ (o : Worker). HasState (taskOf (s .workers) o .pc) → Refers s l₁ j r → held (taskOf (s .workers) o) ≡ held k
+        → Agree (at s l₁ (worker j) 6) (at s l₂ (record′ r) 5) (o .reads .state .stamp) (v .state .stamp))
+        (m .workers) w further j (λ e h. absurd (plain .no-state (rw f at h))) (λ d. agree j jn d))
+
+    -- ---- flip
+
+    module _ (p : Two) (f : next ≡ inB p one readS) where
+      abbrev flips : List ℕ
+      flips = set l₁ (q + 2) (flipBit (at s l₁ (record′ r) 2) w)
+
+      flip-word : (i : ℕ) → i < 2 * s .capacity + 2 * s .workers + 6 → i ≢ 2 → at s flips (record′ r) i ≡ at s l₁ (record′ r) i
+      flip-word i b d = at-beside s l₁ (enough₁ ready) (record′ r) 2 i _ (refers .within) (rw record-wide (omega arith)) (rw record-wide b) d
+
+      flip-keeps :
+          Keeps s flips r
+          (record { state = own (m .cells) k .state; toggle = assign (own (m .cells) k .toggle) w (not (own (m .cells) k .toggle w)) })
+      flip-keeps = record {
+        size = rw (flip-word 0 (omega arith) (λ e. omega arith)) (keeps₁ .size);
+        state = rw (loaded-set l₁ q (s .capacity) (s .workers) 2 _ (omega arith) (omega arith)) (keeps₁ .state);
+        toggle = λ j jn.
+            rw (at-here s l₁ (enough₁ ready) (record′ r) 2 (flipBit (at s l₁ (record′ r) 2) w) (refers .within) (rw record-wide (omega arith)))
+            (assign-elim (λ (b : Bool). bitsOf (flipBit (at s l₁ (record′ r) 2) w) j ≡ b) (own (m .cells) k .toggle) w _ j
+            (λ e. rw e (flip-here (at s l₁ (record′ r) 2) w ∙ ap not (keeps₁ .toggle w wn)))
+            (λ d. flip-beside (at s l₁ (record′ r) 2) w j d ∙ keeps₁ .toggle j jn));
+      }
+
+      flipped-means : Left (flippedAt l₁ (heldBy l₁ (startOf s (worker w))) w) (flippedCells w (m .cells) k)
+      unfolding flippedAt assignToggle
+      flipped-means = rw (at-mine ready holds)
+          (held-means (inB p one readS) f (record { no-state = λ h. h; no-directory = λ h. h }) flips _
+          (set-inside s l₁ (enough₁ ready) (record′ r) (refers .within) 2 _ (rw record-wide (omega arith)))
+          (flip-word 3 (omega arith) (λ e. omega arith)) (flip-word 4 (omega arith) (λ e. omega arith)) flip-keeps
+          (λ j jn d h g e.
+          rw (
+            flip-word 5 (omega arith) (λ z. omega arith),
+            own-worker (own₁ ready) j jn d 6 (rw worker-wide (omega arith)),
+            own-record (own₁ ready) r (refers .within) 5 (rw record-wide (omega arith)),
+          )
+          (subst
+          (λ (x : Name). Agree (at s l (worker j) 6) (at s l (record′ r) 5) (m .workers j .reads .state .stamp) (m .cells .buckets x .state .stamp))
+          e (means .workers j jn .number h r (others-refer j r jn d g)))))
+
+    -- ---- the bucket swap
+
+    module _ (p t : Two) (e : k .pc ≡ inB p t swap) (fresh : Fresh (m .cells) k) (f : next ≡ afterB p t) where
+      abbrev round : List ℕ
+      round = roundAt l₁ s (startOf s (worker w)) q
+
+      abbrev swaps : List ℕ
+      swaps = set round (q + 5) (freshNumber l₁ (s .workers) q)
+
+      seen : SeenState s t (m .cells) w k
+      seen = subst (λ pc. ReadFacts s pc (m .cells) w k) e (ready .good .own w wn .read) .seen
+
+      -- what the worker has read
+
+      me : WorkerMeans s l₁ m₁ w
+      me = counted-means (afterB p t) f (plain-after p t) (λ h. holds) .workers w wn
+
+      same : m₁ .workers w ≡ further
+      same = assign-at (m .workers) w further w refl
+
+      toggles : (j : ℕ) → j < s .workers → bitsOf (at s l₁ (worker w) 7) j ≡ k .reads .toggle j
+      unfolding counted
+      toggles j jn = rw same at (me .toggle j jn)
+
+      word-read : (i : ℕ) → i < 4 * s .workers → getD (part l₁ (startOf s (worker w) + 24) (4 * s .workers)) i 0 ≡ at s l₁ (worker w) (24 + i)
+      word-read i h = getD-part l₁ (startOf s (worker w) + 24) (4 * s .workers) i h ∙ rw (add-assoc (startOf s (worker w)) 24 i)
+
+      slots : (j : ℕ) → j < s .workers → slotOf (part l₁ (startOf s (worker w) + 24) (4 * s .workers)) j ≡ k .reads .slots j
+      unfolding slotOf counted
+      slots j jn =
+          rw (
+            word-read (4 * j) (omega arith),
+            word-read (4 * j + 1) (omega arith),
+            word-read (4 * j + 2) (omega arith),
+            word-read (4 * j + 3) (omega arith),
+            ← add-assoc 24 (4 * j) 1,
+            ← add-assoc 24 (4 * j) 2,
+            ← add-assoc 24 (4 * j) 3,
+          )
+          (rw same at (me .slots j jn))
+
+      -- the words after the round
+
+      rounded : Stored s l₁ round r (nextState s (k .reads .state .value) (k .reads .toggle) (k .reads .slots))
+      rounded =
+          round-words s (ready .range) l₁ (enough₁ ready) r (refers .within) (startOf s (worker w)) _ _ _
+          (keeps₁ .size) (rw (seen .same fresh) (keeps₁ .state)) toggles (me .sound) slots
+
+      enough₂ : wordsNeeded s ≤ length round
+      enough₂ = rw (rounded .same-length) (enough₁ ready)
+
+      swap-word : (i : ℕ) → i < 2 * s .capacity + 2 * s .workers + 6 → i ≢ 5 → at s swaps (record′ r) i ≡ at s round (record′ r) i
+      swap-word i b d = at-beside s round enough₂ (record′ r) 5 i _ (refers .within) (rw record-wide (omega arith)) (rw record-wide b) d
+
+      -- toggle, depth and prefix
+      kept : (i : ℕ) → 2 ≤ i → i < 5 → at s swaps (record′ r) i ≡ at s l₁ (record′ r) i
+      kept i h b = swap-word i (omega arith) (λ g. omega arith) ∙ rounded .elsewhere (q + i) (inr (inl (omega arith, omega arith)))
+
+      swap-inside : Inside s (record′ r) l₁ swaps
+      swap-inside =
+          let wide = record-wide s r in
+          elsewhere-inside s (record′ r) l₁ swaps (refers .within) (length-set round (q + 5) _ ∙ rounded .same-length)
+          (λ i h. getD-set-other round (q + 5) i _ 0 (λ g. ⊎-elim (λ b. omega arith) (λ b. omega arith) h)
+          ∙ rounded .elsewhere i (⊎-elim (λ b. inl b) (λ b. inr (inr (omega arith))) h))
+
+      swap-keeps :
+          Keeps s swaps r (record {
+            state = record {
+              stamp = suc (own (m .cells) k .state .stamp);
+              value = nextState s (k .reads .state .value) (k .reads .toggle) (k .reads .slots);
+            };
+            toggle = own (m .cells) k .toggle;
+          })
+      swap-keeps = record {
+        size = rw (swap-word 0 (omega arith) (λ g. omega arith)) (rounded .size);
+        state = rw (loaded-set round q (s .capacity) (s .workers) 5 _ (omega arith) (omega arith)) (rounded .state);
+        toggle = λ j jn. rw (kept 2 (omega arith) (omega arith)) (keeps₁ .toggle j jn);
+      }
+
+      -- the comparison succeeds
+      equal : at s l₁ (worker w) 6 ≡ at s l₁ (record′ r) 5
+      equal =
+          own-word 6 (omega arith) (λ g. omega arith) ∙ means .workers w wn .number (rw e tt) r refers .from fresh
+          ∙ sym (own-record (own₁ ready) r (refers .within) 5 (rw record-wide (omega arith)))
+
+      -- and no other worker's will: none has read the new number, or the new stamp
+      swapped-means : Left (swappedAt l₁ s (startOf s (worker w)) (heldBy l₁ (startOf s (worker w)))) (swappedCells s (m .cells) k)
+      unfolding swappedAt assignState
+      swapped-means = rw (at-mine ready holds, if-eq _ _ swaps l₁ equal)
+          (held-means (afterB p t) f (plain-after p t) swaps _ swap-inside
+          (kept 3 (omega arith) (omega arith)) (kept 4 (omega arith) (omega arith)) swap-keeps
+          (λ j jn d h g i.
+          let number = at-here s round enough₂ (record′ r) 5 (freshNumber l₁ (s .workers) q) (refers .within) (rw record-wide (omega arith)) in
+          let bound = state-bounded s (m .cells) j (tasksOf s m j) (tasksOf s m j .pc) h (ready .good .own j jn .read) in
+          record {
+            to = λ z. absurd (fresh-number l₁ (s .workers) q j jn (rw worker-start (g .names)) (rw worker-start (z ∙ number)));
+            from = λ z. absurd (omega (arith, bound, ap (λ (x : Name). m .cells .buckets x .state .stamp) i));
+          }))
+
+  pub flips-means :
+      (p : Two) → k .pc ≡ flip p → (y : Reads) → taskOf (s .workers) (counted (m .workers w) y none) ≡ goes k (inB p one readS) (k .reads)
+      → Next ready (flippedCells w (m .cells) k) y none
+  unfolding updateAt
+  flips-means p e =
+      let a : Announced s (m .cells) w k = announced-at ready (flip p) e in
+      leaves (inB p one readS) _ _ (enters (a .wanted) (flip p) (a .asks) e) (flipped-means (rw e tt) p)
+
+  pub swaps-means :
+      (p r : Two) → k .pc ≡ inB p r swap → Fresh (m .cells) k → (y : Reads)
+      → taskOf (s .workers) (counted (m .workers w) y none) ≡ goes k (afterB p r) (k .reads)
+      → Next ready (swappedCells s (m .cells) k) y none
+  unfolding updateAt
+  swaps-means p r e fresh =
+      let a : Announced s (m .cells) w k = announced-at ready (inB p r swap) e in
+      leaves (afterB p r) _ _ (enters (a .wanted) (inB p r swap) (a .asks) e) (swapped-means (rw e tt) p r e fresh)

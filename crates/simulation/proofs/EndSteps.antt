@@ -1,0 +1,199 @@
+-- The steps that may end an operation: a lookup's second step and the check. Rests on what is found in a bucket record's words.
+use Prim.Native.Nat.{ℕ, zero, suc, _+_, _≤_, _<_}
+use native.Mathlib.Omega.{arith}
+use native.Mathlib.Numerals.{add-one}
+use mathlib.Core.Path.{_≡_, refl, ap, ap₂, sym, _∙_, subst, subst⁻¹}
+use mathlib.Core.Bool.{true}
+use mathlib.Core.List.{List}
+use mathlib.Core.Option.{Option, none, some}
+use lib.ListN.{set}
+use Rattle.interface.specs.Limits.{inRange}
+use Rattle.interface.proofs.Laws.{range-of}
+use Rattle.interface.specs.declared.Settings.{Settings}
+use Rattle.interface.specs.declared.Answer.{Answer}
+use Rattle.interface.specs.declared.Stepped.{Stepped}
+use Rattle.machine.specs.Choice.{if_then_else_, assign}
+use Rattle.machine.specs.Sequential.{firstBits, Operation, lookup, find, looked}
+use Rattle.machine.specs.Records.{Name, bucketOf, Reads, Machine}
+use Rattle.machine.specs.Steps.{counted, reported}
+use Rattle.machine.specs.BucketPass.{checked}
+use Rattle.machine.specs.DirectoryPass.{copyOf}
+use Rattle.machine.proofs.Whereabouts.{Holds}
+use Rattle.machine.proofs.Counter as Counter
+use Rattle.machine.proofs.Counter.{Two, one, two, PC, idle, look₂, checkS}
+use Rattle.machine.proofs.Inv.{Task, Hold, body, ReadFacts, Looking, about, target, leaf, held, own}
+use Rattle.machine.proofs.Tasks.{Good}
+use Rattle.machine.proofs.Transitions.{placeOf, taskOf, tasksOf, ended, lookupPlace}
+use Rattle.machine.proofs.Counter.{afterC}
+use Rattle.bucket.specs.Items.{answerOf}
+use Rattle.memory.specs.Layout.{worker, startOf}
+use Rattle.table.specs.Shape.{word}
+use Rattle.table.specs.Places.{heldBy}
+use Rattle.table.specs.Engine.{checkedAt}
+use Rattle.table.specs.Turns.{stepIn, updateAt, lookupAt, endedAt, lookedAt, checkAt}
+use Rattle.simulation.specs.Meaning.{at, operationIn, Keeps, Meaning}
+use Rattle.simulation.proofs.Entering.{raised, raised-beside, is-about, lookup-enters}
+use Rattle.simulation.proofs.Answering.{answered, looked-is, checked-is}
+use Rattle.simulation.proofs.Frames.{record-wide, own-record, keeps-same}
+use Rattle.simulation.proofs.OwnWorker.{nowhere, Ready, Next, Words, Free, words-here, words-set, words-first, mine-means, slots-kept, toggle-kept}
+use Rattle.simulation.proofs.OwnWorker.{Onward}
+use Rattle.simulation.proofs.OwnWorker.{own₁, free, mine, at-mine, keeps-mine, announced-at, plan-step, stays}
+
+operation-none : (a v : ℕ) → operationIn 0 a v ≡ none
+unfolding operationIn if_then_else_
+operation-none a v = refl
+
+-- a lookup at its second step
+look-second : (i : ℕ) → lookupPlace i ≡ look₂ → i ≡ 1
+look-second zero e = let z : _≡_ {A = ℕ} 0 1 = cc in absurd (omega arith)
+look-second (suc zero) e = refl
+look-second (suc (suc i)) e = let z : _≡_ {A = ℕ} 0 1 = cc in absurd (omega arith)
+
+module _ {s : Settings} {l : List ℕ} {m : Machine} {w : ℕ} (ready : Ready s l m w) where
+  abbrev means : Meaning s l m
+  means = ready .means
+
+  abbrev wn : w < s .workers
+  wn = ready .known
+
+  abbrev range : inRange (s .workers) (s .capacity) (s .depth) ≡ true
+  range = ready .range
+
+  abbrev good : Good s m
+  good = ready .good
+
+  abbrev k : Task
+  k = tasksOf s m w
+
+  abbrev me : ℕ
+  me = startOf s (worker w)
+
+  -- the words once the step is counted
+  abbrev l₁ : List ℕ
+  l₁ = raised s l w (m .workers w .steps)
+
+  -- ---- a step that ends the operation
+
+  -- the words after it mean the machine whose worker is idle again
+  abbrev pub Ends : Answer → Type 0
+  Ends a =
+      (y : Reads) → taskOf (s .workers) (counted (m .workers w) y (some a)) ≡ ended (tasksOf s m w) (m .workers w .reads)
+      → Next ready (m .cells) y (some a)
+
+  ends : (a : Answer) → stepIn l s w ≡ endedAt l₁ me (m .workers w .steps) a → Ends a
+  unfolding endedAt counted reported assign if_then_else_
+  ends a e y g =
+      let read : y ≡ k .reads = ap (λ (q : Task). q .reads) g in
+      rw (e, read, add-one) (
+        mine-means ready l₂ (record { last = m .workers w .last; operation = none; steps = 0; reads = k .reads }) idle refl (words .own)
+            (record {
+              operation = rw (words .are 0 (omega arith)) (operation-none _ _);
+              narrow = rw (words .are 1 (omega arith)) (means .workers w wn .narrow);
+              fits = rw (words .are 2 (omega arith)) (means .workers w wn .fits);
+              ticket = words .are 3 (omega arith) ∙ means .workers w wn .ticket;
+              steps = words .are 4 (omega arith);
+            })
+            (toggle-kept ready l₂ (words .are 7 (omega arith))) (slots-kept ready l₂ (words .late))
+            (free ready l₂ _ idle nowhere (words .are 9 (omega arith))),
+        refl,
+      )
+    where
+      l₂ : List ℕ
+      l₂ = set (set l₁ me 0) (me + 4) 0
+
+      f₁ : ℕ → ℕ
+      f₁ = assign (at s l (worker w)) 4 (suc (m .workers w .steps))
+
+      words₁ : Words s w l l₁ f₁
+      words₁ = words-set s w wn l (means .lent) l _ (words-here s w l) 4 _ (omega arith)
+
+      words₂ : Words s w l (set l₁ me 0) (assign f₁ 0 0)
+      words₂ = words-first s w wn l (means .lent) l₁ _ words₁ 0
+
+      words : Words s w l l₂ (assign (assign f₁ 0 0) 4 0)
+      words = words-set s w wn l (means .lent) _ _ words₂ 4 0 (omega arith)
+
+  target-is : (o : Operation) → m .workers w .operation ≡ some o → target k ≡ at s l (worker w) 1
+  target-is o e = ap about e ∙ is-about _ _ _ o (means .workers w wn .operation ∙ e)
+
+  keeps₁ : (h : Holds (k .pc)) → Keeps s l₁ (mine ready h .0) (own (m .cells) k)
+  keeps₁ h = keeps-same s l l₁ (mine ready h .0) _ (own-record (own₁ ready) (mine ready h .0) (mine ready h .1 .within)) (keeps-mine ready h)
+
+  -- what the machine finds
+  abbrev pub sought : Answer
+  sought = let k = tasksOf s m w in looked (find (body (m .cells) (held k) .items) (target k))
+
+  pub finds-means : k .pc ≡ look₂ → Ends sought
+  unfolding lookupAt
+  finds-means e = ends sought (lookup-enters s range l m means good w wn (a .wanted) (a .asks) ∙ go)
+    where
+      a : Looking s (m .cells) w k
+      a = announced-at ready look₂ e
+
+      h : Holds (k .pc)
+      h = subst⁻¹ Holds e tt
+
+      second : m .workers w .steps ≡ 1
+      second = look-second _ (sym (ap (λ o. placeOf (s .workers) o (m .workers w .steps)) (a .asks)) ∙ e)
+
+      asked : word l₁ (me + 1) ≡ target k
+      asked =
+          raised-beside s l (means .lent) w wn _ 1 (omega arith) (λ g. omega arith) ∙ sym (target-is (lookup (a .wanted)) (a .asks))
+
+      answer : lookedAt l₁ s (heldBy l₁ me) (word l₁ (me + 1)) ≡ sought
+      answer =
+          let limits = range-of (s .workers) (s .capacity) (s .depth) range in
+          ap₂ (lookedAt l₁ s) (at-mine ready h) asked ∙ looked-is s (omega arith) (omega arith) l₁ (mine ready h .0) _ (keeps₁ h) (target k)
+
+      go : lookupAt l₁ s me (m .workers w .steps) ≡ endedAt l₁ me (m .workers w .steps) sought
+      go = ap (lookupAt l₁ s me) second ∙ ap (endedAt l₁ me 1) answer ∙ ap (λ (i : ℕ). endedAt l₁ me i sought) (sym second)
+
+  -- ---- the check
+
+  leaf-deep : (a : ℕ) → leaf (m .cells) a .depth ≤ s .depth
+  unfolding copyOf bucketOf
+  leaf-deep a = omega (arith, good .directory .shallow (firstBits (m .cells .directory .value .depth) a), good .directory .bound)
+
+  module _ (p x : Two) (e : k .pc ≡ checkS p x) where
+    abbrev found : Option ℕ
+    found = checkedAt l₁ s me (heldBy l₁ me) w
+
+    check-enters : stepIn l s w ≡ checkAt l₁ me (m .workers w .steps) found
+    unfolding updateAt
+    check-enters = plan-step ready (checkS p x) (announced-at ready (checkS p x) e) e
+
+    check-finds : answered found ≡ checked s w (k .ticket) (held k .depth) (body (m .cells) (held k))
+    check-finds =
+        let h : Holds (k .pc) = subst⁻¹ Holds e tt in
+        let limits = range-of (s .workers) (s .capacity) (s .depth) range in
+        let hold : Hold s (m .cells) w k = subst (λ (pc : PC). ReadFacts s pc (m .cells) w k) e (good .own w wn .read) .0 in
+        let deep : held k .depth ≤ s .depth = omega (arith, leaf-deep (target k)) in
+        let three = own-record (own₁ ready) (mine ready h .0) (mine ready h .1 .within) 3 (rw record-wide (omega arith)) in
+        rw (at-mine ready h) (checked-is s (omega arith) (omega arith) l₁ (mine ready h .0) _ (keeps₁ h) w wn _ _ _
+        (raised-beside s l (means .lent) w wn _ 3 (omega arith) (λ g. omega arith) ∙ means .workers w wn .ticket)
+        (three ∙ ap (λ (z : Name). z .depth) (mine ready h .2)) deep)
+
+    pub answers-means :
+        (a : Answer) → checked s w (k .ticket) (held k .depth) (body (m .cells) (held k)) ≡ some a → Ends a
+    unfolding checkAt
+    answers-means a q = ends a (check-enters ∙ go found (check-finds ∙ q))
+      where
+        go : (o : Option ℕ) → answered o ≡ some a → checkAt l₁ me (m .workers w .steps) o ≡ endedAt l₁ me (m .workers w .steps) a
+        go none g = let z : _≡_ {A = ℕ} 0 1 = cc in absurd (omega arith)
+        go (some v) g = let z : answerOf v ≡ a = cc in ap (endedAt l₁ me (m .workers w .steps)) z
+
+    pub passes-means :
+        checked s w (k .ticket) (held k .depth) (body (m .cells) (held k)) ≡ none → Onward ready (afterC p x) (k .reads)
+    unfolding checkAt
+    passes-means q =
+        stays ready (afterC p x) (λ z. absurd (nothing p x .0 z)) (nothing p x .1) (nothing p x .2)
+        (check-enters ∙ go found (check-finds ∙ q))
+      where
+        go : (o : Option ℕ) → answered o ≡ none → checkAt l₁ me (m .workers w .steps) o ≡ (l₁, Stepped.Moved)
+        go none g = refl
+        go (some v) g = let z : _≡_ {A = ℕ} 0 1 = cc in absurd (omega arith)
+
+        nothing : (p x : Two) → Free (afterC p x)
+        nothing p one = nowhere
+        nothing one two = nowhere
+        nothing two two = nowhere

@@ -1,0 +1,480 @@
+-- The state steps of the directory pass: a step marks on the words what it splits in the working copy.
+-- Rests on what one worker's words have to mean, and on what taking updates does to a working copy.
+use Prim.Native.Nat.{ℕ, suc, _+_, _*_, _-_, _/_, _^_, _≤_, _<_}
+use native.Mathlib.Omega.{arith}
+use native.Mathlib.Nat.{add-assoc, add-div-right, div-lt-iff-lt-mul}
+use native.Mathlib.Decide.{ℕ-discrete, decLt}
+use mathlib.Core.Path.{_≡_, refl, ap, sym, _∙_, subst, subst⁻¹}
+use mathlib.Core.Logic.{_≢_, ⊎-elim, by-cases}
+use mathlib.Core.Bool.{Bool, true, false, not}
+use mathlib.Core.List.{List}
+use lib.Dec.{ltb, leb, eqb}
+use lib.Pow.{pow-add, pow-pos}
+use borrow.Author.Tests.{eq-eqb, ne-eqb, eqb-true, le-ltb, lt-ltb, leb-true, leb-false}
+use Rattle.interface.proofs.Laws.{range-of}
+use Rattle.interface.specs.declared.Settings.{Settings}
+use Rattle.machine.specs.Choice.{_and_, assign}
+use Rattle.machine.specs.Sequential.{Update, account, firstBits}
+use Rattle.machine.specs.Records.{Name, Leaf, kept, made, Copy, Slot, empty, announced, Cells, Machine, bucketOf}
+use Rattle.machine.specs.BucketPass.{splittable, settledAt}
+use Rattle.machine.specs.DirectoryPass.{copyOf, leafOf, nameOf, resize}
+use Rattle.machine.specs.Steps.{withCopy}
+use Rattle.machine.proofs.Base.{if-elim, if-true, if-false, if-eq, eq-elim, and-true, and-parts, and-left-false, and-right-false, assign-at}
+use Rattle.machine.proofs.Cells.{name-path}
+use Rattle.machine.proofs.Copies.{Inside, MadeIn, Refined, resizes, refined-takeSlots, within}
+use Rattle.machine.proofs.Counter.{Two, DStep, state, PC, inD}
+use Rattle.machine.proofs.Inv.{Task, leaf, body, leafBody, DirectoryFresh, IsMade, Grown, ReadAt, ReadFacts, Announced}
+use Rattle.machine.proofs.Whereabouts.{Past, PastD}
+use Rattle.machine.proofs.Resolve.{resolved-ok}
+use Rattle.machine.proofs.Tasks.{Good}
+use Rattle.machine.proofs.Transitions.{tasksOf, copyLeaf, copySlot, resizedFor}
+use Rattle.bucket.specs.State.{bit}
+use Rattle.bucket.specs.Items.{updateOf, readSlot}
+use Rattle.memory.specs.Layout.{worker, record′, startOf}
+use Rattle.memory.proofs.Regions.{record-starts-apart}
+use Rattle.table.specs.Shape.{word}
+use Rattle.table.specs.Places.{readAt, recordOf}
+use Rattle.table.specs.Engine.{withBit, settledWord, recordFor, foundBefore, splitsAt, marks, stateStepAt}
+use Rattle.table.specs.Turns.{updateAt}
+use Rattle.simulation.specs.Meaning.{at, nameIn, accountIn, Keeps, current, HasDirectory, HasWork, Marks, Meaning}
+use Rattle.simulation.proofs.Frames.{record-wide, own-entry, own-record, directs-same, keeps-same, marks-same}
+use Rattle.simulation.proofs.Entering.{account-of, directed-record, raised, raised-beside}
+use Rattle.simulation.proofs.Answering.{full-is, ticket-is}
+use Rattle.simulation.proofs.Numbering.{any-some, some-any}
+use Rattle.simulation.proofs.WordBits.{bit-set, bit-beside}
+use Rattle.simulation.proofs.OwnWorker.{Ready, Changed, Onward, nothing-changed, one-word, word-here, goes-on, going, enough₁, own₁}
+use Rattle.simulation.proofs.OwnWorker.{slots-kept, toggle-kept, directory-kept, announced-at, plan-step}
+
+-- ---- words
+
+-- a bit more in a word of n bits
+bit-room : (x i n : ℕ) → i < n → x < 2 ^ n → bit x i ≡ 0 → x + 2 ^ i < 2 ^ n
+unfolding bit
+bit-room x i n h b clear =
+    let e : n ≡ n - suc i + 1 + i = omega arith in
+    let p : 2 ^ n ≡ 2 ^ (n - suc i) * 2 * 2 ^ i =
+    ap (λ (k : ℕ). 2 ^ k) e ∙ pow-add 2 (n - suc i + 1) i ∙ ap (λ (k : ℕ). k * 2 ^ i) (pow-add 2 (n - suc i) 1) in
+    let low : x / 2 ^ i < 2 ^ (n - suc i) * 2 = div-lt-iff-lt-mul (pow-pos i) .1 (rw p at b) in
+    let more = add-div-right x (pow-pos i) in
+    rw p (div-lt-iff-lt-mul (pow-pos i) .0 (omega arith))
+
+ltb-not : (p q : ℕ) → ltb p q ≡ not (leb q p)
+ltb-not p q = go (leb q p) refl
+  where
+    go : (b : Bool) → leb q p ≡ b → ltb p q ≡ not b
+    go true e = le-ltb p q (leb-true q p e)
+    go false e = lt-ltb p q (leb-false q p e)
+
+-- ---- the words of a slot that was read
+
+module _ (kind a v n : ℕ) where
+  says-empty : readSlot kind a v n ≡ empty → kind ≡ 0
+  unfolding readSlot
+  says-empty =
+      eq-elim (λ (x : Slot). x ≡ empty → kind ≡ 0) kind 0 _ _ (λ e q. e) (λ d q. let z : _≡_ {A = ℕ} 0 1 = cc in absurd (omega arith))
+
+  -- kind, account and ticket of update u with ticket t
+  says-announced : (u : Update) (t : ℕ) → readSlot kind a v n ≡ announced u t → (kind ≢ 0) × (a ≡ account u) × (n ≡ t)
+  unfolding readSlot
+  says-announced u t =
+      eq-elim (λ (x : Slot). x ≡ announced u t → (kind ≢ 0) × (a ≡ account u) × (n ≡ t)) kind 0 _ _
+      (λ e q. let z : _≡_ {A = ℕ} 0 1 = cc in absurd (omega arith))
+      (λ d q. let e : updateOf kind a v ≡ u = cc in (d, sym (account-of kind a v) ∙ ap account e, cc))
+
+made-in : (x : Name) (l : Leaf) → MadeIn x l → IsMade l
+made-in x (kept y) h = h
+made-in x (made y b) h = tt
+
+module _ {s : Settings} {l : List ℕ} {m : Machine} {w : ℕ} (ready : Ready s l m w) (p r : Two) (i : ℕ)
+    (place : tasksOf s m w .pc ≡ inD p r (state i)) (below : i < s .workers) where
+  abbrev means : Meaning s l m
+  means = ready .means
+
+  abbrev wn : w < s .workers
+  wn = ready .known
+
+  abbrev good : Good s m
+  good = ready .good
+
+  abbrev c : Cells
+  c = m .cells
+
+  abbrev k : Task
+  k = tasksOf s m w
+
+  abbrev slots : ℕ → Slot
+  slots = m .workers w .reads .slots
+
+  abbrev copy : Copy
+  copy = m .workers w .reads .copy
+
+  abbrev me : ℕ
+  me = startOf s (worker w)
+
+  -- the words once the step is counted, and after it
+  abbrev l₁ : List ℕ
+  l₁ = raised s l w (m .workers w .steps)
+
+  abbrev l₂ : List ℕ
+  l₂ = stateStepAt l₁ s me i
+
+  -- the marks before the step
+  abbrev before : ℕ
+  before = at s l (worker w) 9
+
+  small : s .depth ≤ 32
+  small = omega (arith, range-of (s .workers) (s .capacity) (s .depth) (ready .range) .greatest-depth)
+
+  -- ---- the marks on the words
+
+  beside : (o : ℕ) → 5 ≤ o → o < 4 * s .workers + 24 → at s l₁ (worker w) o ≡ at s l (worker w) o
+  beside o h b = raised-beside s l (means .lent) w wn (m .workers w .steps) o b (λ g. omega arith)
+
+  bit-counted : (j : ℕ) → bit (word l₁ (me + 9)) j ≡ bit before j
+  bit-counted j = ap (λ (x : ℕ). bit x j) (beside 9 (omega arith) (omega arith))
+
+  -- only earlier steps have marked
+  later : (j : ℕ) → j < s .workers → i ≤ j → bit before j ≡ 0
+  later j h g =
+      means .workers w wn .unmarked (subst⁻¹ HasDirectory place tt) j h
+      (λ x. let y : j < i = subst (Past (s .workers) j) place x in omega arith)
+
+  clear : bit before i ≡ 0
+  clear = later i below (omega arith)
+
+  earlier : (j : ℕ) → j < s .workers → bit before j ≡ 1 → j < i
+  earlier j h e = by-cases (decLt j i) (λ g. g) (λ g. absurd (omega (arith, later j h (omega arith))))
+
+  changed : Changed s l w (m .workers w .steps) l₂ 9 10
+  unfolding stateStepAt
+  changed = if-elim (λ (q : List ℕ). Changed s l w (m .workers w .steps) q 9 10) (marks l₁ s me i) _ l₁
+      (λ e. one-word ready 9 _ (omega arith) (omega arith))
+      (λ e. let f = nothing-changed s l (means .lent) w wn (m .workers w .steps) in
+      record {
+        own = f .own;
+        call = f .call;
+        count = f .count;
+        before = λ o h b. f .behind o h (omega arith);
+        behind = λ o h b. f .behind o (omega arith) b;
+      })
+
+  marks-more : marks l₁ s me i ≡ true → at s l₂ (worker w) 9 ≡ before + 2 ^ i
+  unfolding stateStepAt withBit
+  marks-more e =
+      ap (λ (q : List ℕ). at s q (worker w) 9) (if-true _ l₁ e) ∙ word-here ready 9 _ (omega arith)
+      ∙ if-eq _ 0 _ _ (bit-counted i ∙ clear) ∙ ap (λ (x : ℕ). x + 2 ^ i) (beside 9 (omega arith) (omega arith))
+
+  marks-none : marks l₁ s me i ≡ false → at s l₂ (worker w) 9 ≡ before
+  unfolding stateStepAt
+  marks-none e = ap (λ (q : List ℕ). at s q (worker w) 9) (if-false _ l₁ e) ∙ beside 9 (omega arith) (omega arith)
+
+  -- what holds of the marks with one more and with none more, holds of the marks after the step
+  marks-elim : (P : ℕ → Type 0) → P (before + 2 ^ i) → P before → P (at s l₂ (worker w) 9)
+  marks-elim P x y = go (marks l₁ s me i) refl
+    where
+      go : (b : Bool) → marks l₁ s me i ≡ b → P (at s l₂ (worker w) 9)
+      go true e = rw (marks-more e) x
+      go false e = rw (marks-none e) y
+
+  few-after : at s l₂ (worker w) 9 < 2 ^ s .workers
+  few-after = let few = means .workers w wn .few in marks-elim (λ (x : ℕ). x < 2 ^ s .workers) (bit-room before i (s .workers) below few clear) few
+
+  unmarked-after : (j : ℕ) → j < s .workers → i < j → bit (at s l₂ (worker w) 9) j ≡ 0
+  unmarked-after j h g =
+      let z = later j h (omega arith) in
+      marks-elim (λ (x : ℕ). bit x j ≡ 0) (bit-beside before i clear j (λ e. omega arith) ∙ z) z
+
+  -- ---- the records of the slots that were read
+
+  seen : (j o : ℕ) → j < s .workers → o < 4 → word l₁ (readAt me j + o) ≡ at s l (worker w) (24 + 4 * j + o)
+  seen j o h g =
+      let e : readAt me j + o ≡ me + (24 + 4 * j + o) = omega arith in
+      ap (word l₁) e ∙ beside (24 + 4 * j + o) (omega arith) (omega arith)
+
+  seen-kind : (j : ℕ) → j < s .workers → word l₁ (readAt me j) ≡ at s l (worker w) (24 + 4 * j)
+  seen-kind j h = ap (word l₁) (add-assoc me 24 (4 * j)) ∙ beside (24 + 4 * j) (omega arith) (omega arith)
+
+  -- the words of a slot read with update u and ticket t
+  said :
+      (j : ℕ) → j < s .workers → (u : Update) (t : ℕ) → slots j ≡ announced u t
+      → (word l₁ (readAt me j) ≢ 0) × (word l₁ (readAt me j + 1) ≡ account u) × (word l₁ (readAt me j + 3) ≡ t)
+  said j h u t e =
+      let z = says-announced _ _ _ _ u t (means .workers w wn .slots j h ∙ e) in
+      (λ g. z .0 (sym (seen-kind j h) ∙ g), seen j 1 h (omega arith) ∙ z .1, seen j 3 h (omega arith) ∙ z .2)
+
+  -- the record that the directory has for an account
+  abbrev recordAt : ℕ → ℕ
+  recordAt a = means .directory a .0
+
+  record-of : (a : ℕ) → recordOf l₁ s a ≡ startOf s (record′ (recordAt a))
+  record-of a =
+      let d = means .directory a in
+      directed-record s l₁ (enough₁ ready) a (d .0) (directs-same s l l₁ a (d .0) (own-entry (own₁ ready) a) (d .1))
+
+  -- two accounts have one record where they have one bucket
+  one-bucket : (a e : ℕ) → recordOf l₁ s a ≡ recordOf l₁ s e → leaf c a ≡ leaf c e
+  one-bucket a e h =
+      let z : recordAt a ≡ recordAt e = record-starts-apart s _ _ (sym (record-of a) ∙ h ∙ record-of e) in
+      sym (means .directory a .2) ∙ ap (nameIn s l) z ∙ means .directory e .2
+
+  one-record : (a e : ℕ) → leaf c a ≡ leaf c e → recordOf l₁ s a ≡ recordOf l₁ s e
+  one-record a e h =
+      let x = means .directory a in
+      let y = means .directory e in
+      let z : recordAt a ≡ recordAt e = means .apart (x .0) (y .0) (current a (x .1)) (current e (y .1)) (x .2 ∙ h ∙ sym (y .2)) in
+      record-of a ∙ ap (λ (o : ℕ). startOf s (record′ o)) z ∙ sym (record-of e)
+
+  -- the record of a slot that was read
+  record-for : (j : ℕ) → j < s .workers → slots j ≢ empty → recordFor l₁ s me j ≡ recordOf l₁ s (accountIn (slots j))
+  record-for j h d = by (slots j) refl
+    where
+      by : (x : Slot) → slots j ≡ x → recordFor l₁ s me j ≡ recordOf l₁ s (accountIn (slots j))
+      by empty e = absurd (d e)
+      by (announced u t) e = ap (recordOf l₁ s) (said j h u t e .1 ∙ ap accountIn (sym e))
+
+  -- what an account's record keeps
+  keeps-leaf : (a : ℕ) → Keeps s l₁ (recordAt a) (c .buckets (leaf c a))
+  keeps-leaf a =
+      let d = means .directory a in
+      keeps-same s l l₁ (d .0) _ (own-record (own₁ ready) (d .0) (d .1 .within))
+      (subst (λ (x : Name). Keeps s l (d .0) (c .buckets x)) (d .2) (means .cells (d .0) (current a (d .1))))
+
+  depth-leaf : (a : ℕ) → at s l₁ (record′ (recordAt a)) 3 ≡ leaf c a .depth
+  depth-leaf a =
+      let d = means .directory a in
+      own-record (own₁ ready) (d .0) (d .1 .within) 3 (rw record-wide (omega arith)) ∙ ap (λ (x : Name). x .depth) (d .2)
+
+  -- ---- the current buckets and the working copy
+
+  leaf-inside : (a : ℕ) → Inside (leaf c a) a
+  unfolding leafOf copyOf bucketOf
+  leaf-inside a = good .directory .named a
+
+  leaf-shared : (a e : ℕ) → Inside (leaf c a) e → leaf c e ≡ leaf c a
+  unfolding leafOf copyOf bucketOf
+  leaf-shared a e h = ap nameOf (good .directory .shared a e h)
+
+  leaf-below : (a : ℕ) → leaf c a .depth ≤ s .depth
+  unfolding leafOf copyOf bucketOf
+  leaf-below a = omega (arith, within (good .directory) a, good .directory .bound)
+
+  read : ReadAt s (state i) c k
+  read = subst (λ (pc : PC). ReadFacts s pc c w k) place (good .own w wn .read) .read
+
+  -- a bucket that was resolved is split
+  grown-made : (a : ℕ) {l : Leaf} → Grown s slots (leaf c a) (leafBody c a) a l → IsMade l
+  grown-made a g =
+      let z = resolved-ok s small (leaf c a) a (name-path refl (sym (leaf-inside a))) (leaf-below a) (leafBody c a) slots (s .workers) in
+      subst⁻¹ IsMade (g .is ∙ z .stands a (leaf-inside a)) tt
+
+  -- the current bucket of an update
+  abbrev bucket : Update → Name
+  bucket u = leaf c (account u)
+
+  -- the machine whose worker has the working copy o
+  abbrev turned : Copy → Machine
+  turned o = record { cells = c; workers = λ j. going ready (withCopy (k .reads) o) }
+
+  -- ---- what the step marks, while the directory that was read is current
+
+  module _ (fresh : DirectoryFresh c k) where
+    old : Marks s l m w
+    old = means .workers w wn .marks (subst⁻¹ HasWork place tt) fresh
+
+    kept-leaf : (a : ℕ) (x : Name) → leafOf copy a ≡ kept x → x ≡ leaf c a
+    kept-leaf a x h = ⊎-elim (λ e. ap nameOf (sym h ∙ e)) (λ g. absurd (subst IsMade h (grown-made a g))) (read .1 fresh a)
+
+    -- slot i was read with update u and ticket t
+    module _ (u : Update) (t : ℕ) (slot : slots i ≡ announced u t) where
+      abbrev q : ℕ
+      q = recordFor l₁ s me i
+
+      full-slot : slots i ≢ empty
+      full-slot e = let z : _≡_ {A = ℕ} 0 1 = cc in omega arith
+
+      q-is : q ≡ recordOf l₁ s (account u)
+      q-is = record-for i below full-slot ∙ ap (λ (y : Slot). recordOf l₁ s (accountIn y)) slot
+
+      -- an earlier step has marked the bucket, where the working copy has split it
+      found-made : foundBefore l₁ s me i q ≡ true → IsMade (leafOf copy (account u))
+      unfolding foundBefore
+      found-made e =
+          let z = any-some i _ e in
+          let h = and-parts _ _ (z .is) in
+          let b : z .one < s .workers = omega (arith, z .below) in
+          let mark : bit before (z .one) ≡ 1 = sym (bit-counted (z .one)) ∙ eqb-true _ 1 (h .0) in
+          old .to (account u) (record {
+            by = z .one;
+            below = b;
+            set = mark;
+            here = one-bucket _ (account u) (sym (record-for (z .one) b (old .full (z .one) b mark)) ∙ eqb-true _ _ (h .1) ∙ q-is);
+          })
+
+      made-found : IsMade (leafOf copy (account u)) → foundBefore l₁ s me i q ≡ true
+      unfolding foundBefore
+      made-found h =
+          let z = old .from (account u) h in
+          some-any i _ (z .by) (earlier (z .by) (z .below) (z .set))
+          (and-true (eq-eqb _ 1 (bit-counted (z .by) ∙ z .set))
+          (eq-eqb _ q (record-for (z .by) (z .below) (old .full (z .by) (z .below) (z .set)) ∙ one-record _ (account u) (z .here) ∙ sym q-is)))
+
+      -- the test on the words is the machine's
+      splits-is : splitsAt l₁ s me i q ≡ resizes s i t (bucket u) (body c (bucket u))
+      unfolding splitsAt splittable settledAt
+      splits-is =
+          let limits = range-of (s .workers) (s .capacity) (s .depth) (ready .range) in
+          let few : s .workers ≤ 16 = omega arith in
+          let narrow : s .capacity ≤ 16 = omega arith in
+          let full = full-is s narrow few l₁ (recordAt (account u)) _ (keeps-leaf (account u)) in
+          let settled = ticket-is s narrow few l₁ (recordAt (account u)) _ (keeps-leaf (account u)) i below in
+          let ticket = said i below u t slot .2 in
+          let last : ℕ = settledWord l₁ s (startOf s (record′ (recordAt (account u)))) i in
+          let unsettled : ltb last (word l₁ (readAt me i + 3)) ≡ not (settledAt (body c (bucket u)) i t) =
+          ltb-not last (word l₁ (readAt me i + 3)) ∙ (λ o. not (leb (ticket o) (settled o))) in
+          ap (splitsAt l₁ s me i) (q-is ∙ record-of (account u)) ∙ (λ o. full o and ltb (depth-leaf (account u) o) (s .depth) and unsettled o)
+
+      announces : not (eqb (word l₁ (readAt me i)) 0) ≡ true
+      announces = ap not (ne-eqb _ 0 (said i below u t slot .0))
+
+      -- a bucket that an earlier step has split
+      marks-made : IsMade (leafOf copy (account u)) → marks l₁ s me i ≡ false
+      unfolding marks
+      marks-made h = rw (made-found h) (and-right-false _)
+
+      -- one that none has split
+      marks-kept :
+          (v : Bool) → resizes s i t (bucket u) (body c (bucket u)) ≡ v → (IsMade (leafOf copy (account u)) → ⊥) → marks l₁ s me i ≡ v
+      unfolding marks _and_
+      marks-kept v e h = rw (announces, splits-is, e) (last v (foundBefore l₁ s me i q) refl)
+        where
+          last : (v b : Bool) → foundBefore l₁ s me i q ≡ b → v and not b ≡ v
+          last true true f = absurd (h (found-made f))
+          last true false f = refl
+          last false b f = refl
+
+    -- what the step does to the marks and to the working copy
+    data Outcome (o : Copy) : Type 0 where
+      idle : marks l₁ s me i ≡ false → o ≡ copy → Outcome o
+      splits :
+          marks l₁ s me i ≡ true → (u : Update) (t : ℕ) → slots i ≡ announced u t → (IsMade (leafOf copy (account u)) → ⊥)
+          → Refined (s .depth) (bucket u) copy o → Outcome o
+
+    outcome : Outcome (copySlot s c i (k .reads) (slots i))
+    unfolding withCopy resize marks
+    outcome = by-slot (slots i) refl
+      where
+        by-bucket : (u : Update) (t : ℕ) → slots i ≡ announced u t → leafOf copy (account u) ≡ kept (bucket u)
+            → Outcome (resize s slots i t (bucket u) (body c (bucket u)) copy)
+        by-bucket u t e h =
+            if-elim Outcome (resizes s i t (bucket u) (body c (bucket u))) _ copy
+            (λ f. splits (marks-kept u t e true f (λ z. subst IsMade h z)) u t e (λ z. subst IsMade h z)
+            (refined-takeSlots small s (omega arith) (read .0 .coherent) (account u) _ h _ slots (s .workers)))
+            (λ f. idle (marks-kept u t e false f (λ z. subst IsMade h z)) refl)
+
+        by-leaf : (u : Update) (t : ℕ) → slots i ≡ announced u t → (l : Leaf) → leafOf copy (account u) ≡ l
+            → Outcome (copyLeaf s c i t (k .reads) l)
+        by-leaf u t e (made x b) h = idle (marks-made u t e (rw h tt)) refl
+        by-leaf u t e (kept x) h =
+            let z = kept-leaf (account u) x h in
+            subst⁻¹ (λ (y : Name). Outcome (resize s slots i t y (body c y) copy)) z (by-bucket u t e (h ∙ ap kept z))
+
+        by-slot : (x : Slot) → slots i ≡ x → Outcome (copySlot s c i (k .reads) x)
+        by-slot empty e =
+            let z = seen-kind i below ∙ says-empty _ _ _ _ (means .workers w wn .slots i below ∙ e) in
+            idle (and-left-false _ (and-left-false _ (ap not (eq-eqb _ 0 z)))) refl
+        by-slot (announced u t) e = by-leaf u t e (leafOf copy (account u)) refl
+
+    -- ---- the marks after the step
+
+    marks-stay : at s l₂ (worker w) 9 ≡ before → Marks s l₂ (turned copy) w
+    unfolding withCopy
+    marks-stay e =
+        record {
+          to = λ a z. old .to a (record { by = z .by; below = z .below; set = rw e at (z .set); here = z .here });
+          from = λ a z. let y = old .from a z in record { by = y .by; below = y .below; set = rw e (y .set); here = y .here };
+          once = λ j o b d f g. old .once j o b d (rw e at f) (rw e at g);
+          full = λ j b f. old .full j b (rw e at f);
+        }
+
+    -- the bucket of update u, which slot i was read with, is split by this step
+    module _ (o : Copy) (u : Update) (t : ℕ) (slot : slots i ≡ announced u t) (new : IsMade (leafOf copy (account u)) → ⊥)
+        (refined : Refined (s .depth) (bucket u) copy o) (more : at s l₂ (worker w) 9 ≡ before + 2 ^ i) where
+      own-bucket : leaf c (accountIn (slots i)) ≡ bucket u
+      own-bucket = ap (λ (y : Slot). leaf c (accountIn y)) slot
+
+      mark-here : bit (at s l₂ (worker w) 9) i ≡ 1
+      mark-here = rw more (bit-set before i clear)
+
+      mark-beside : (j : ℕ) → j ≢ i → bit (at s l₂ (worker w) 9) j ≡ bit before j
+      mark-beside j d = rw more (bit-beside before i clear j d)
+
+      mark-other : (j : ℕ) → bit before j ≡ 1 → j ≢ i
+      mark-other j h e = let z : bit before i ≡ 1 = rw e at h in omega (arith, clear)
+
+      -- no other mark is of the bucket
+      alone :
+          (j : ℕ) → j < s .workers → j ≢ i → bit (at s l₂ (worker w) 9) j ≡ 1
+          → leaf c (accountIn (slots j)) ≡ leaf c (accountIn (slots i)) → ⊥
+      alone j b d h e = new (old .to (account u) (record { by = j; below = b; set = sym (mark-beside j d) ∙ h; here = e ∙ own-bucket }))
+
+      marks-split : Marks s l₂ (turned o) w
+      unfolding withCopy
+      marks-split = record {
+        to = λ a z. by-cases (ℕ-discrete (firstBits (bucket u .depth) a) (bucket u .prefix))
+            (λ h. made-in (bucket u) (leafOf o a) (refined .inside a h))
+            (λ h. let d : z .by ≢ i = λ e. h (rw (sym own-bucket ∙ rw e at (z .here)) (leaf-inside a)) in
+            rw (refined .outside a h)
+            (old .to a (record { by = z .by; below = z .below; set = sym (mark-beside (z .by) d) ∙ z .set; here = z .here })));
+        from = λ a z. by-cases (ℕ-discrete (firstBits (bucket u .depth) a) (bucket u .prefix))
+            (λ h. record { by = i; below = below; set = mark-here; here = own-bucket ∙ sym (leaf-shared (account u) a h) })
+            (λ h. let y = old .from a (rw (refined .outside a h) at z) in
+            record { by = y .by; below = y .below; set = mark-beside (y .by) (mark-other (y .by) (y .set)) ∙ y .set; here = y .here });
+        once = λ j q b d f g e. once j q b d f g e (ℕ-discrete j i) (ℕ-discrete q i);
+        full = λ j b f e. by-cases (ℕ-discrete j i)
+            (λ h. let y : slots i ≡ empty = rw h at e in let z : _≡_ {A = ℕ} 0 1 = cc in omega arith)
+            (λ h. old .full j b (sym (mark-beside j h) ∙ f) e);
+      }
+        where
+          once :
+              (j q : ℕ) → j < s .workers → q < s .workers → bit (at s l₂ (worker w) 9) j ≡ 1 → bit (at s l₂ (worker w) 9) q ≡ 1
+              → leaf c (accountIn (slots j)) ≡ leaf c (accountIn (slots q)) → Dec (j ≡ i) → Dec (q ≡ i) → j ≡ q
+          once j q b d f g e (yes y) (yes z) = y ∙ sym z
+          once j q b d f g e (yes y) (no z) = absurd (alone q d z g (sym e ∙ ap (λ (n : ℕ). leaf c (accountIn (slots n))) y))
+          once j q b d f g e (no y) (yes z) = absurd (alone j b y f (e ∙ ap (λ (n : ℕ). leaf c (accountIn (slots n))) z))
+          once j q b d f g e (no y) (no z) = old .once j q b d (sym (mark-beside j y) ∙ f) (sym (mark-beside q z) ∙ g) e
+
+    marks-after : Marks s l₂ (turned (copySlot s c i (k .reads) (slots i))) w
+    marks-after = by _ outcome
+      where
+        by : (o : Copy) → Outcome o → Marks s l₂ (turned o) w
+        by o (idle e h) = rw h (marks-stay (marks-none e))
+        by o (splits e u t g n h) = marks-split o u t g n h (marks-more e)
+
+  -- ---- the step
+
+  -- resizes, lastState: on to a step that is past worker i's
+  pub state-means :
+      (x : DStep) → ((j : ℕ) → j < s .workers → j ≤ i → PastD (s .workers) j x)
+      → Onward ready (inD p r x) (resizedFor s (m .cells) i (tasksOf s m w .reads))
+  unfolding updateAt withCopy
+  state-means x past =
+      goes-on ready l₂ 9 10 (inD p r x) (withCopy (k .reads) o) (plan-step ready _ a place) changed
+      (toggle-kept ready l₂ (changed .before 7 (omega arith) (omega arith))) (slots-kept ready l₂ (λ j h. changed .behind j (omega arith)))
+      (record {
+        held = λ q. absurd q;
+        live = λ q. absurd q;
+        number = λ q. absurd q;
+        directory = λ q. directory-kept ready l₂ (changed .before 8 (omega arith) (omega arith)) (subst⁻¹ HasDirectory place tt);
+        few = few-after;
+        unmarked = λ q j h g. unmarked-after j h (by-cases (decLt i j) (λ z. z) (λ z. absurd (g (past j h (omega arith)))));
+        marks = λ q fresh. marks-same s l₂ l₂ (turned o) _ w here (λ e. refl) refl (marks-after fresh);
+      })
+    where
+      a : Announced s c w k
+      a = announced-at ready (inD p r (state i)) place
+
+      o : Copy
+      o = copySlot s c i (k .reads) (slots i)
+
+      here : assign (m .workers) w (going ready (withCopy (k .reads) o)) w ≡ going ready (withCopy (k .reads) o)
+      here = assign-at (m .workers) w (going ready (withCopy (k .reads) o)) w refl

@@ -1,0 +1,157 @@
+-- The directory swap that succeeds, on the words, means the machine's.
+-- Rests on the marked buckets resolved in place, and on what words that stand for the working copy mean.
+use Prim.Native.Nat.{ℕ, _+_, _*_, _<_}
+use native.Mathlib.Omega.{arith}
+use mathlib.Core.Path.{_≡_, refl, ap, sym, _∙_, subst, subst⁻¹}
+use mathlib.Core.Logic.{inl, inr}
+use mathlib.Core.Bool.{Bool, true, false, _||_}
+use mathlib.Core.List.{List}
+use mathlib.Core.Option.{none}
+use lib.Dec.{eqb}
+use lib.ListN.{length, set}
+use borrow.Author.Tests.{le-ltb}
+use Rattle.interface.specs.declared.Settings.{Settings}
+use Rattle.machine.specs.Choice.{if_then_else_, assign}
+use Rattle.machine.specs.Records.{Copy, Slot, Cells, Reads, Worker, Machine}
+use Rattle.machine.specs.DirectoryPass.{leafOf}
+use Rattle.machine.specs.Words.{wordsNeeded}
+use Rattle.machine.specs.Steps.{counted, reported}
+use Rattle.machine.proofs.Base.{if-eq, eq-elim}
+use Rattle.machine.proofs.Counter.{Two, inD, swapD}
+use Rattle.machine.proofs.Inv.{Task, leaf, leafBody, DirectoryFresh, IsMade, Grown, Worked}
+use Rattle.machine.proofs.Transitions.{taskOf, tasksOf, redirectedCells}
+use Rattle.machine.proofs.Counter.{afterD}
+use Rattle.memory.specs.Layout.{worker, startOf}
+use Rattle.table.specs.Shape.{word}
+use Rattle.table.specs.Numbers.{freshDirectory}
+use Rattle.table.specs.Splits.{resolvedAt, nothingToSplit, redirectedAt}
+use Rattle.simulation.specs.Meaning.{at, current, HasDirectory, HasWork, Marked, Marks, Meaning}
+use Rattle.simulation.proofs.Frames.{own-head}
+use Rattle.simulation.proofs.Entering.{update-enters, raised, raised-beside}
+use Rattle.simulation.proofs.OwnWorker.{Ready, Next, slots-kept, own₁, announced-at}
+use Rattle.simulation.proofs.Landing.{means₁, work, made-leaf, directed-keeps, landed}
+use Rattle.machine.proofs.Keeping.{goes}
+use Rattle.table.specs.Turns.{updateAt}
+use Rattle.simulation.proofs.Resolving as Resolving
+use Rattle.simulation.proofs.Resolving.{Start, Resolved, resolves, unmarked}
+
+module _ {s : Settings} {l : List ℕ} {m : Machine} {w : ℕ} (ready : Ready s l m w) where
+  abbrev wn : w < s .workers
+  wn = ready .known
+
+  abbrev means : Meaning s l m
+  means = ready .means
+
+  abbrev k : Task
+  k = tasksOf s m w
+
+  abbrev c : Cells
+  c = m .cells
+
+  abbrev l₁ : List ℕ
+  l₁ = raised s l w (m .workers w .steps)
+
+  -- where the worker's record is
+  abbrev q : ℕ
+  q = startOf s (worker w)
+
+  abbrev slots : ℕ → Slot
+  slots = m .workers w .reads .slots
+
+  abbrev o : Copy
+  o = m .workers w .reads .copy
+
+  -- the worker with the step counted
+  abbrev v : Worker
+  v = counted (m .workers w) (m .workers w .reads) none
+
+  beside : (i : ℕ) → 4 < i → i < 4 * s .workers + 24 → at s l₁ (worker w) i ≡ at s l (worker w) i
+  beside i h b = raised-beside s l (means .lent) w wn (m .workers w .steps) i b (λ e. omega arith)
+
+  nine : at s l₁ (worker w) 9 ≡ at s l (worker w) 9
+  nine = beside 9 (omega arith) (omega arith)
+
+  module _ (p r : Two) (here : k .pc ≡ inD p r swapD) (fresh : DirectoryFresh c k)
+      (next : taskOf (s .workers) v .pc ≡ afterD p r) where
+    abbrev means₀ : Meaning s l₁ (record { cells = c; workers = assign (m .workers) w v })
+    means₀ = means₁ ready p r here fresh next
+
+    marks : Marks s l m w
+    marks = means .workers w wn .marks (subst⁻¹ HasWork here tt) fresh
+
+    -- a mark on the words is one of the working copy
+    marked : (i a : ℕ) → i < s .workers → Resolving.Marks s l₁ c w slots o i a → Marked s l m w a
+    marked i a h e = record { by = i; below = h; set = rw nine at (e .marked); here = e .here }
+
+    start : Start s l₁ c w slots o
+    start = record {
+      begun = record {
+        range = ready .range;
+        enough = means₀ .lent;
+        keeps = directed-keeps ready p r here fresh next;
+        known = wn;
+        seen = slots-kept ready l₁ (λ i h. beside i (omega arith));
+      };
+      coherent = ready .good .directory;
+      directory = means₀ .directory;
+      apart = λ a e t u h g. means₀ .apart t u (current a h) (current e g);
+      depth = means₀ .depth;
+      grown = λ i a h e. grown a (marks .to a (marked i a h e)) (work ready p r here fresh next a);
+      once = λ i j a h g e f. marks .once i j h g (rw nine at (e .marked)) (rw nine at (f .marked)) (e .here ∙ sym (f .here));
+      full = λ i h e f. marks .full i h (rw nine at e) f;
+    }
+      where
+        grown : (a : ℕ) → IsMade (leafOf o a) → Worked s c k a → Grown s slots (leaf c a) (leafBody c a) a (leafOf o a)
+        grown a h (inl e) = absurd (subst IsMade e h)
+        grown a h (inr g) = g
+
+    -- ---- the words after the swap
+
+    -- resolved, if there is a mark
+    l₂ : List ℕ
+    l₂ = if eqb (word l₁ (q + 9)) 0 then l₁ else resolvedAt l₁ s q (s .workers)
+
+    resolution : Resolved s l₁ c w slots o (s .workers) l₂
+    unfolding l₂
+    resolution =
+        eq-elim (Resolved s l₁ c w slots o (s .workers)) (word l₁ (q + 9)) 0 _ _ (unmarked start) (λ d. resolves start (s .workers) (omega arith))
+
+    -- they stand for the working copy
+    leaves : (a : ℕ) → leafOf (resolution .copy) a ≡ leafOf o a
+    leaves a = by (work ready p r here fresh next a)
+      where
+        by : Worked s c k a → leafOf (resolution .copy) a ≡ leafOf o a
+        by (inl e) = resolution .rest a (λ i h f. subst IsMade e (marks .to a (marked i a h f))) ∙ sym e
+        by (inr g) =
+            let f = marks .from a (subst⁻¹ IsMade (made-leaf ready p r here fresh next a g) tt) in
+            resolution .done a (f .by) (f .below) (record { marked = rw nine (f .set); here = f .here })
+
+    -- the words are long enough for every record
+    long-enough : nothingToSplit l₁ s q ≡ eqb (word l₁ (q + 9)) 0
+    unfolding nothingToSplit
+    long-enough = rw (le-ltb (length l₁) (wordsNeeded s) (means₀ .lent)) (or-false (eqb (word l₁ (q + 9)) 0))
+      where
+        or-false : (b : Bool) → (b || false) ≡ b
+        or-false true = refl
+        or-false false = refl
+
+    swapped : redirectedAt l₁ s q ≡ set l₂ 3 (freshDirectory l₁ (s .workers))
+    unfolding redirectedAt l₂
+    swapped =
+        let three = own-head (own₁ ready) 3 (omega arith) in
+        rw (← long-enough) (if-eq (word l₁ (q + 8)) (word l₁ 3) _ _
+        (beside 8 (omega arith) (omega arith) ∙ means .workers w wn .directory (subst⁻¹ HasDirectory here tt) .from fresh ∙ sym three))
+
+    redirected-means : Meaning s (redirectedAt l₁ s q) (record { cells = redirectedCells c k; workers = assign (m .workers) w v })
+    redirected-means = rw swapped (landed ready p r here fresh next l₂ (resolution .copy) (resolution .mid) leaves)
+
+  pub redirects-means :
+      (p r : Two) → tasksOf s m w .pc ≡ inD p r swapD → DirectoryFresh (m .cells) (tasksOf s m w) → (y : Reads)
+      → taskOf (s .workers) (counted (m .workers w) y none) ≡ goes (tasksOf s m w) (afterD p r) (m .workers w .reads)
+      → Next ready (redirectedCells (m .cells) (tasksOf s m w)) y none
+  unfolding updateAt counted reported
+  redirects-means p r e fresh y f =
+      let a = announced-at ready (inD p r swapD) e in
+      let g : y ≡ m .workers w .reads = ap (λ (x : Task). x .reads) f in
+      rw (update-enters s (ready .range) l m means (ready .good) w wn (a .wanted) _ (a .asks) e, g)
+      (redirected-means p r e fresh (ap (λ (x : Task). x .pc) f), refl)

@@ -1,0 +1,259 @@
+-- The marked buckets resolved in place, one after the other: the words then stand for the machine's working copy.
+-- Rests on taking the updates of one bucket, and on what a round makes of a full bucket.
+use Prim.Native.Nat.{ℕ, zero, suc, _+_, _/_, _%_, _^_, _≤_, _<_}
+use native.Mathlib.Omega.{arith}
+use native.Mathlib.Nat.{zero-div}
+use native.Mathlib.Decide.{ℕ-discrete}
+use mathlib.Core.Path.{_≡_, refl, ap, sym, _∙_, subst}
+use mathlib.Core.Logic.{_≢_, inl, by-cases}
+use mathlib.Core.Bool.{true}
+use mathlib.Core.List.{List}
+use lib.Dec.{eqb}
+use borrow.Author.Tests.{eqb-true, eqb-false}
+use Rattle.interface.specs.declared.Settings.{Settings}
+use Rattle.interface.proofs.Laws.{range-of}
+use Rattle.machine.specs.Choice.{if_then_else_}
+use Rattle.machine.specs.Sequential.{Update, account}
+use Rattle.machine.specs.Records.{bucketOf, Name, Body, kept, made, Copy, Slot, empty, announced, Cells}
+use Rattle.machine.specs.BucketPass.{splittable}
+use Rattle.machine.specs.DirectoryPass.{copyOf, leafOf, nameOf, plant, takeSlots}
+use Rattle.machine.proofs.Base.{if-elim}
+use Rattle.machine.proofs.Copies.{nameAt, Inside, Coherent, within, name-at, same-leaf, leafOf-copyOf}
+use Rattle.machine.proofs.Inv.{leaf, leafBody, body, resolved, Grown}
+use Rattle.machine.proofs.Copies.{due}
+use Rattle.machine.proofs.Resolve.{taken-inside, taken-outside}
+use Rattle.memory.specs.Layout.{worker, record′, startOf}
+use Rattle.bucket.specs.State.{bit}
+use Rattle.table.specs.Shape.{word}
+use Rattle.table.specs.Places.{readAt, recordOf}
+use Rattle.table.specs.Engine.{markedAt, recordFor}
+use Rattle.table.specs.Splits.{duesAt, takenAll, resolvedAt}
+use Rattle.simulation.specs.Meaning.{at, nameIn, accountIn, Directs}
+use Rattle.simulation.proofs.Frames.{keeps-same, worker-wide}
+use Rattle.simulation.proofs.Entering.{directed-record}
+use Rattle.simulation.proofs.Halves.{frame-refl}
+use Rattle.simulation.proofs.InPlace.{Old, Content, Mid}
+use Rattle.simulation.proofs.Replanting.{replant}
+use Rattle.simulation.proofs.Taking.{Begun, slot-read, slot-is, takes-mid}
+use Rattle.simulation.proofs.Dues.{dues-bits, due-at}
+
+-- words l₀, cells c₀, the slots that worker w has read, and its working copy o
+module _ (s : Settings) (l₀ : List ℕ) (c₀ : Cells) (w : ℕ) (slots : ℕ → Slot) (o : Copy) where
+  -- worker i's slot is marked, and its account is of account a's bucket
+  pub record Marks (i a : ℕ) : Type 0 where
+    pub marked : bit (at s l₀ (worker w) 9) i ≡ 1
+    pub here : leaf c₀ (accountIn (slots i)) ≡ leaf c₀ a
+
+  -- what is asked of them
+  pub record Start : Type 0 where
+    pub begun : Begun s l₀ c₀ w slots
+    pub coherent : Coherent (s .depth) (copyOf (c₀ .directory .value))
+    pub directory : (a : ℕ) → (r : ℕ) × Directs s l₀ a r × (nameIn s l₀ r ≡ leaf c₀ a)
+    pub apart : (a e r t : ℕ) → Directs s l₀ a r → Directs s l₀ e t → nameIn s l₀ r ≡ nameIn s l₀ t → r ≡ t
+    pub depth : word l₀ 2 ≡ c₀ .directory .value .depth
+    pub grown : (i a : ℕ) → i < s .workers → Marks i a → Grown s slots (leaf c₀ a) (leafBody c₀ a) a (leafOf o a)
+    pub once : (i k a : ℕ) → i < s .workers → k < s .workers → Marks i a → Marks k a → i ≡ k
+    pub full : (i : ℕ) → i < s .workers → bit (at s l₀ (worker w) 9) i ≡ 1 → slots i ≡ empty → ⊥
+
+  -- in words l the buckets of the marks below j are resolved
+  pub record Resolved (j : ℕ) (l : List ℕ) : Type 0 where
+    pub copy : Copy
+    pub mid : Mid s l₀ c₀ l copy
+    pub done : (a i : ℕ) → i < j → Marks i a → leafOf copy a ≡ leafOf o a
+    pub rest : (a : ℕ) → ((i : ℕ) → i < j → Marks i a → ⊥) → leafOf copy a ≡ kept (leaf c₀ a)
+
+module _ {s : Settings} {l₀ : List ℕ} {c₀ : Cells} {w : ℕ} {slots : ℕ → Slot} {o : Copy} (b₀ : Start s l₀ c₀ w slots o) where
+  abbrev begun : Begun s l₀ c₀ w slots
+  begun = b₀ .begun
+
+  abbrev Middle : List ℕ → Copy → Type 0
+  Middle = Mid s l₀ c₀
+
+  small : s .depth ≤ 32
+  small = omega (arith, range-of (s .workers) (s .capacity) (s .depth) (begun .range) .greatest-depth)
+
+  start-mid : Middle l₀ (copyOf (c₀ .directory .value))
+  unfolding leafOf copyOf bucketOf
+  start-mid = record {
+    frame = frame-refl s l₀;
+    depth = b₀ .depth;
+    coherent = b₀ .coherent;
+    place = λ a. b₀ .directory a .0;
+    stands = λ a. record {
+      directs = b₀ .directory a .1;
+      named = b₀ .directory a .2;
+      content = (record { was = b₀ .directory a .1; same = λ i h. refl }, refl);
+    };
+    apart = λ a e h. b₀ .apart a e _ _ (b₀ .directory a .1) (b₀ .directory e .1) (b₀ .directory a .2 ∙ h ∙ sym (b₀ .directory e .2));
+    held = λ j r jn h i k. refl;
+  }
+
+  start : Resolved s l₀ c₀ w slots o 0 l₀
+  start = record {
+    copy = copyOf (c₀ .directory .value);
+    mid = start-mid;
+    done = λ a i h. absurd (omega arith);
+    rest = λ a h. leafOf-copyOf (c₀ .directory .value) a;
+  }
+
+  -- ---- one marked bucket
+
+  abbrev p : ℕ
+  p = startOf s (worker w)
+
+  inside₀ : (a : ℕ) → Inside (leaf c₀ a) a
+  unfolding leafOf copyOf bucketOf
+  inside₀ a = b₀ .coherent .named a
+
+  shared₀ : (a e : ℕ) → Inside (leaf c₀ a) e → leaf c₀ e ≡ leaf c₀ a
+  unfolding leafOf copyOf bucketOf
+  shared₀ a e h = ap nameOf (b₀ .coherent .shared a e h)
+
+  named₀ : (a : ℕ) → leaf c₀ a ≡ nameAt (leaf c₀ a .depth) a
+  unfolding leafOf copyOf bucketOf
+  named₀ a = name-at (b₀ .coherent) a
+
+  low₀ : (a : ℕ) → leaf c₀ a .depth ≤ s .depth
+  unfolding leafOf copyOf bucketOf
+  low₀ a = omega (arith, within (b₀ .coherent) a, b₀ .coherent .bound)
+
+  -- the bucket of account a₀, whose worker j has marked it
+  module _ (j : ℕ) (jn : j < s .workers) (l : List ℕ) (h : Resolved s l₀ c₀ w slots o j l) (u : Update) (t : ℕ) (read : slots j ≡ announced u t)
+      (m : bit (at s l₀ (worker w) 9) j ≡ 1) where
+    abbrev a₀ : ℕ
+    a₀ = account u
+
+    abbrev x : Name
+    x = leaf c₀ a₀
+
+    abbrev b : Body
+    b = leafBody c₀ a₀
+
+    abbrev mid : Middle l (h .copy)
+    mid = h .mid
+
+    mine : (a : ℕ) → leaf c₀ a ≡ x → Marks s l₀ c₀ w slots o j a
+    mine a e = record { marked = m; here = rw read (sym e) }
+
+    there : leafOf (h .copy) a₀ ≡ kept x
+    there = h .rest a₀ (λ i k q. omega (arith, b₀ .once i j a₀ (omega arith) jn q (mine a₀ refl)))
+
+    splits : splittable s (x .depth) b ≡ true
+    splits = b₀ .grown j a₀ jn (mine a₀ refl) .splits
+
+    old : (a : ℕ) → Inside x a → Old s l₀ c₀ l (mid .place a₀) a × (x ≡ leaf c₀ a)
+    old a i =
+        let e : leafOf (h .copy) a ≡ kept x = same-leaf (mid .coherent) a₀ x (ap nameOf there) a i ∙ there in
+        let q : mid .place a ≡ mid .place a₀ = mid .apart a a₀ (ap nameOf (e ∙ sym there)) in
+        subst (λ (r : ℕ). Old s l₀ c₀ l r a × (x ≡ leaf c₀ a)) q (subst (Content s l₀ c₀ l (mid .place a) a) e (mid .stands a .content))
+
+    planted : Middle l (plant x (made x b) (h .copy))
+    planted = replant s l₀ c₀ small l l (h .copy) mid a₀ x (ap nameOf there) b
+        (record {
+          frame = frame-refl s l;
+          depth = refl;
+          entries = λ e g. refl;
+          others = λ r g d i k. refl;
+          name = refl;
+        })
+        (λ a i. let z = old a i in inl (record { old = z .0; name = z .1; body = ap (body c₀) (z .1); splits = splits }))
+        (λ i r g k n v. refl)
+
+    abbrev dues : ℕ
+    dues = duesAt l s p (startOf s (record′ (mid .place a₀))) (s .workers)
+
+    flags : (i : ℕ) → i < s .workers → eqb (bit dues i) 1 ≡ due x b i (slots i)
+    flags i k =
+        let z = old a₀ (inside₀ a₀) .0 in
+        let d = low₀ a₀ in
+        let c = small in
+        dues-bits l s p _ (s .workers) i k
+        ∙ due-at s (begun .range) l (mid .place a₀) x (c₀ .buckets x) (mid .stands a₀ .named ∙ ap nameOf there) (omega arith)
+        (keeps-same s l₀ l _ _ (z .same) (begun .keeps a₀ _ (z .was))) p i k
+        ∙ ap (due x b i) (slot-read begun l (h .copy) mid i k)
+
+    abbrev after : Copy
+    after = takeSlots s x b slots (s .workers) (plant x (made x b) (h .copy))
+
+    taken : Middle (takenAll l s p dues (s .workers)) after
+    taken = takes-mid begun x b (h .copy) (mid .coherent) a₀ there dues flags
+        (s .workers) (omega arith) l planted
+
+    after-inside : (a : ℕ) → leaf c₀ a ≡ x → leafOf after a ≡ leafOf o a
+    after-inside a e =
+        let i : Inside x a = subst (λ (y : Name). Inside y a) e (inside₀ a) in
+        taken-inside s small x a₀ (named₀ a₀) (low₀ a₀) b slots (h .copy) (mid .coherent) there (s .workers) a i
+        ∙ ap (λ (y : Name). leafOf (resolved s y (body c₀ y) slots (s .workers)) a) (sym e) ∙ sym (b₀ .grown j a jn (mine a e) .is)
+
+    after-outside : (a : ℕ) → leaf c₀ a ≢ x → leafOf after a ≡ leafOf (h .copy) a
+    after-outside a d =
+        taken-outside s small x a₀ (named₀ a₀) (low₀ a₀) b slots (h .copy) (mid .coherent) there (s .workers) a (λ i. d (shared₀ a₀ a i))
+
+    next : Resolved s l₀ c₀ w slots o (suc j) (takenAll l s p dues (s .workers))
+    next = record {
+      copy = after;
+      mid = taken;
+      done = done;
+      rest = λ a q. after-outside a (λ e. q j (omega arith) (mine a e)) ∙ h .rest a (λ i k. q i (omega arith));
+    }
+      where
+        done : (a i : ℕ) → i < suc j → Marks s l₀ c₀ w slots o i a → leafOf after a ≡ leafOf o a
+        done a i k q = by-cases (ℕ-discrete i j)
+            (λ e. after-inside a (sym (q .here) ∙ rw (e, read)))
+            (λ e. after-outside a (λ z. e (b₀ .once i j a (omega arith) jn q (mine a z))) ∙ h .done a i (omega arith) q)
+
+    marked-step :
+        Resolved s l₀ c₀ w slots o (suc j) (takenAll l s (startOf s (worker w))
+        (duesAt l s (startOf s (worker w)) (recordOf l s (word l (readAt (startOf s (worker w)) j + 1))) (s .workers)) (s .workers))
+    marked-step =
+        rw (
+          slot-is begun j jn u t read l (h .copy) mid .account,
+          directed-record s l (omega (arith, mid .frame .same-length, begun .enough)) a₀ (mid .place a₀) (mid .stands a₀ .directs),
+        ) next
+
+  -- ---- all of them
+
+  pub resolves : (j : ℕ) → j ≤ s .workers → Resolved s l₀ c₀ w slots o j (resolvedAt l₀ s (startOf s (worker w)) j)
+  unfolding resolvedAt
+  resolves zero h = start
+  resolves (suc j) h = by (resolves j (omega arith))
+    where
+      l′ : List ℕ
+      l′ = resolvedAt l₀ s p j
+
+      by :
+          Resolved s l₀ c₀ w slots o j l′
+          → Resolved s l₀ c₀ w slots o (suc j)
+          (if markedAt l′ p j then takenAll l′ s p (duesAt l′ s p (recordFor l′ s p j) (s .workers)) (s .workers) else l′)
+      by q = if-elim (Resolved s l₀ c₀ w slots o (suc j)) (markedAt l′ p j) _ l′
+          (λ e. on (slots j) refl (sym same ∙ eqb-true (bit (word l′ (p + 9)) j) 1 e))
+          (λ e. off (λ f. eqb-false (bit (word l′ (p + 9)) j) 1 e (same ∙ f)))
+        where
+          same : bit (word l′ (p + 9)) j ≡ bit (at s l₀ (worker w) 9) j
+          same = ap (λ (x : ℕ). bit x j) (q .mid .frame .left (worker w) 9 (begun .known) tt (rw worker-wide (omega arith)))
+
+          on :
+              (y : Slot) → slots j ≡ y → bit (at s l₀ (worker w) 9) j ≡ 1
+              → Resolved s l₀ c₀ w slots o (suc j) (takenAll l′ s p (duesAt l′ s p (recordFor l′ s p j) (s .workers)) (s .workers))
+          on empty e f = absurd (b₀ .full j h f e)
+          on (announced u t) e f = marked-step j h l′ q u t e f
+
+          off : bit (at s l₀ (worker w) 9) j ≢ 1 → Resolved s l₀ c₀ w slots o (suc j) l′
+          off d = record {
+            copy = q .copy;
+            mid = q .mid;
+            done = λ a i k g. by-cases (ℕ-discrete i j) (λ e. absurd (d (rw e at (g .marked)))) (λ e. q .done a i (omega arith) g);
+            rest = λ a g. q .rest a (λ i k. g i (omega arith));
+          }
+
+  -- where there is no mark there is nothing to do
+  pub unmarked : at s l₀ (worker w) 9 ≡ 0 → Resolved s l₀ c₀ w slots o (s .workers) l₀
+  unfolding bit
+  unmarked e = record {
+    copy = start .copy;
+    mid = start .mid;
+    done = λ a i k g.
+        let z : 0 / 2 ^ i % 2 ≡ 1 = rw e at (g .marked) in
+        absurd (omega (arith, zero-div (2 ^ i)));
+    rest = λ a g. start .rest a (λ i k. absurd (omega arith));
+  }

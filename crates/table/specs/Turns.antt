@@ -1,0 +1,175 @@
+-- A whole step, a call, an opening and the listing on the words, with their refusals in document 01's order, for any words.
+-- Rests on the steps' definitions, the directory swap, and the machine's plan.
+use Prim.Native.Nat.{ℕ, zero, suc, _+_, _-_, _%_, _^_}
+use mathlib.Core.Bool.{not, _||_}
+use mathlib.Core.List.{List, _∷_, _++_}
+use mathlib.Core.Option.{Option, none, some}
+use lib.Dec.{ltb, leb, eqb}
+use lib.ListN.{length, set, replicate}
+use lib.IntN.{ℤ}
+use mir.Syntax.{w64}
+use mir.Val.{ofZ, toZ}
+use Rattle.interface.specs.Limits.{built}
+use Rattle.interface.specs.declared.Settings.{Settings}
+use Rattle.interface.specs.declared.Answer.{Answer}
+use Rattle.interface.specs.declared.Refusal.{Refusal}
+use Rattle.interface.specs.declared.Stepped.{Stepped}
+use Rattle.interface.specs.declared.Called.{Called}
+use Rattle.interface.specs.declared.Opened.{Opened}
+use Rattle.interface.specs.declared.Built.{Built}
+use Rattle.interface.specs.declared.Needed.{Needed}
+use Rattle.interface.specs.declared.Ran.{Ran}
+use Rattle.table.specs.declared.phase.Phase as Code
+use Rattle.machine.specs.Choice.{if_then_else_, _and_}
+use Rattle.machine.specs.Plan.{Phase, announce, readDirectory, flipToggle, readState, readToggle, swapState, checkState, copyDirectory, swapDirectory, readSlot, resizeFor, phase}
+use Rattle.machine.specs.Words.{wordsNeeded}
+use Rattle.bucket.specs.Items.{answerOf}
+use Rattle.memory.specs.Parts.{overlay}
+use Rattle.memory.specs.Loads.{least}
+use Rattle.table.specs.Shape.{word, strange, shapeOf, firstWord, directoryStart}
+use Rattle.table.specs.Places.{workerAt, heldBy}
+use Rattle.table.specs.Engine.{announcedAt, slotReadAt, heldAt, flippedAt, stateReadAt, toggleReadAt, directoryReadAt, swappedAt, stateStepAt, checkedAt}
+use Rattle.table.specs.Splits.{redirectedAt, recordStart}
+
+-- the machine's name for a kind of step
+unfoldable pub planned : Code.Phase → Phase
+planned Code.Phase.Announce = announce
+planned Code.Phase.ReadDirectory = readDirectory
+planned Code.Phase.Flip = flipToggle
+planned Code.Phase.ReadState = readState
+planned Code.Phase.ReadToggle = readToggle
+planned (Code.Phase.ReadSlot j) = readSlot j
+planned Code.Phase.Swap = swapState
+planned Code.Phase.Check = checkState
+planned Code.Phase.CopyDirectory = copyDirectory
+planned (Code.Phase.StateStep j) = resizeFor j
+planned Code.Phase.SwapDirectory = swapDirectory
+
+-- ---- one step
+
+-- the operation of the worker at p ended, after k own steps before this one
+unfoldable pub endedAt : List ℕ → ℕ → ℕ → Answer → List ℕ × Stepped
+endedAt l p k a = (set (set l p 0) (p + 4) 0, Stepped.Answered (record { answer = a; steps = k + 1 }))
+
+unfoldable pub checkAt : List ℕ → ℕ → ℕ → Option ℕ → List ℕ × Stepped
+checkAt l p k none = (l, Stepped.Moved)
+checkAt l p k (some x) = endedAt l p k (answerOf x)
+
+-- worker w's step at a phase of its update, its record at p, after k own steps
+unfoldable pub updateAt : List ℕ → Settings → ℕ → ℕ → ℕ → Phase → List ℕ × Stepped
+updateAt l s p w k announce = (announcedAt l p w, Stepped.Moved)
+updateAt l s p w k readDirectory = (heldAt l s p, Stepped.Moved)
+updateAt l s p w k flipToggle = (flippedAt l (heldBy l p) w, Stepped.Moved)
+updateAt l s p w k readState = (stateReadAt l p (heldBy l p), Stepped.Moved)
+updateAt l s p w k readToggle = (toggleReadAt l p (heldBy l p), Stepped.Moved)
+updateAt l s p w k (readSlot j) = (slotReadAt l p j, Stepped.Moved)
+updateAt l s p w k swapState = (swappedAt l s p (heldBy l p), Stepped.Moved)
+updateAt l s p w k checkState = checkAt l p k (checkedAt l s p (heldBy l p) w)
+updateAt l s p w k copyDirectory = (directoryReadAt l p, Stepped.Moved)
+updateAt l s p w k (resizeFor j) = (stateStepAt l s p j, Stepped.Moved)
+updateAt l s p w k swapDirectory = (redirectedAt l s p, Stepped.Moved)
+
+-- the total of the first of c accounts, from place i on, that is a
+unfoldable pub foundAt : List ℕ → Settings → ℕ → ℕ → ℕ → ℕ → Answer
+foundAt l s q a i zero = Answer.Missing
+foundAt l s q a i (suc c) =
+    if eqb (word l (q + 6 + i)) a then Answer.Found (toZ w64 (word l (q + 6 + s .capacity + i))) else foundAt l s q a (suc i) c
+
+-- at most b accounts are looked at
+unfoldable pub lookedAt : List ℕ → Settings → ℕ → ℕ → Answer
+lookedAt l s q a = foundAt l s q a 0 (if ltb (word l q) (s .capacity) then word l q else s .capacity)
+
+unfoldable pub lookupAt : List ℕ → Settings → ℕ → ℕ → List ℕ × Stepped
+lookupAt l s p zero = (heldAt l s p, Stepped.Moved)
+lookupAt l s p (suc k) = endedAt l p (suc k) (lookedAt l s (heldBy l p) (word l (p + 1)))
+
+-- an operation's step after k own steps; its count goes up first; kind 3 is a lookup, any other an update
+unfoldable pub operationAt : List ℕ → Settings → ℕ → ℕ → ℕ → List ℕ × Stepped
+operationAt l s p w k =
+    let l′ : List ℕ = set l (p + 4) (k + 1) in
+    if eqb (word l p) 3 then lookupAt l′ s p k else updateAt l′ s p w k (phase (s .workers) k)
+
+-- own steps are read as a number below 65,536
+unfoldable pub stepIn : List ℕ → Settings → ℕ → List ℕ × Stepped
+stepIn l s w =
+    let p : ℕ = workerAt (s .workers) w in
+    if eqb (word l p) 0 then (l, Stepped.Refused Refusal.Idle) else operationAt l s p w (word l (p + 4) % 65_536)
+
+-- "A step checks 8, 3, 5."
+unfoldable pub stepWords : List ℕ → ℕ → List ℕ × Stepped
+stepWords l w =
+    if strange l then (l, Stepped.Refused Refusal.Strange)
+    else if leb (shapeOf l .workers) w then (l, Stepped.Refused Refusal.Stranger)
+    else stepIn l (shapeOf l) w
+
+-- ---- a call
+
+-- kind, account, total and ticket, no steps yet
+unfoldable pub begunAt : List ℕ → ℕ → ℕ → ℕ → ℕ → ℕ → List ℕ
+begunAt l p kind a v t = set (set (set (set (set l p kind) (p + 1) a) (p + 2) v) (p + 3) t) (p + 4) 0
+
+unfoldable pub callIn : List ℕ → ℕ → ℕ → ℕ → ℤ → List ℕ × Called
+callIn l p kind a v =
+    if not (eqb (word l p) 0) then (l, Called.Refused Refusal.Busy)
+    else if ltb kind 1 || ltb 3 kind then (l, Called.Refused Refusal.Kind)
+    else if eqb kind 3 then (begunAt l p 3 a 0 (word l (p + 3)), Called.Accepted)
+    else if leb 65_535 (word l (p + 3)) then (l, Called.Refused Refusal.Spent)
+    else (begunAt l p kind a (if eqb kind 1 then ofZ w64 v else 0) (word l (p + 3) + 1), Called.Accepted)
+
+-- "A call checks 8, 3, 4, 6, 7."
+unfoldable pub callWords : List ℕ → ℕ → ℕ → ℕ → ℤ → List ℕ × Called
+callWords l w kind a v =
+    if strange l then (l, Called.Refused Refusal.Strange)
+    else if leb (shapeOf l .workers) w then (l, Called.Refused Refusal.Stranger)
+    else callIn l (workerAt (shapeOf l .workers) w) kind a v
+
+-- ---- opening
+
+-- the words of a fresh table: the header, empty slots, idle workers, a directory whose entries all name the first record, empty records
+unfoldable pub freshWords : Settings → List ℕ
+freshWords s =
+    firstWord s ∷ wordsNeeded s ∷ 0 ∷ 0 ∷ 1 ∷ replicate (directoryStart (s .workers) - 5) 0
+    ++ replicate (2 ^ s .depth) (recordStart s 0)
+    ++ replicate (wordsNeeded s - (directoryStart (s .workers) + 2 ^ s .depth)) 0
+
+unfoldable pub openedWords : List ℕ → Built → List ℕ × Opened
+openedWords l (Built.Refused r) = (l, Opened.Refused r)
+openedWords l (Built.Settings s) =
+    if leb (wordsNeeded s) (length l) then (overlay l 0 (freshWords s), Opened.Opened) else (l, Opened.Refused Refusal.Short)
+
+-- "Opening checks 1, 2 and overwrites what the memory held."
+unfoldable pub openWords : List ℕ → ℕ → ℕ → ℕ → List ℕ × Opened
+openWords l n b M = openedWords l (built n b M)
+
+-- the words needed, or refusal 1
+unfoldable pub neededFor : Built → Needed
+neededFor (Built.Refused r) = Needed.Refused r
+neededFor (Built.Settings s) = Needed.Words (wordsNeeded s)
+
+-- ---- up to so many steps of one worker, ending early at an answer
+
+-- what a run gives after a step that gave so, having taken k steps before it; a step of an operation is not refused
+unfoldable pub lastOf : ℕ → Stepped → Option Ran
+lastOf k Stepped.Moved = none
+lastOf k (Stepped.Answered c) = some (Ran.Answered c)
+lastOf k (Stepped.Refused r) = some (Ran.Moved k)
+
+unfoldable pub orElse : List ℕ → Option Ran → List ℕ × Ran → List ℕ × Ran
+orElse l none later = later
+orElse l (some r) later = (l, r)
+
+-- f more steps of worker w, k taken; where the words do not come from an opening an operation may vanish, and then the run ends
+unfoldable pub runIn : List ℕ → Settings → ℕ → ℕ → ℕ → List ℕ × Ran
+runIn l s w k zero = (l, Ran.Moved k)
+runIn l s w k (suc f) =
+    let p : ℕ = workerAt (s .workers) w in
+    let after : List ℕ × Stepped = operationAt l s p w (word l (p + 4) % 65_536) in
+    if eqb (word l p) 0 then (l, Ran.Moved k) else orElse (after .0) (lastOf k (after .1)) (runIn (after .0) s w (suc k) f)
+
+-- no operation of an opened table takes more than 12n+33 steps, 129 at most: a run is given up after 256, whatever was asked for
+unfoldable pub runWords : List ℕ → ℕ → ℕ → List ℕ × Ran
+runWords l w most =
+    if strange l then (l, Ran.Refused Refusal.Strange)
+    else if leb (shapeOf l .workers) w then (l, Ran.Refused Refusal.Stranger)
+    else if eqb (word l (workerAt (shapeOf l .workers) w)) 0 then (l, Ran.Refused Refusal.Idle)
+    else runIn l (shapeOf l) w 0 (least most 256)

@@ -1,0 +1,19 @@
+// The table over lent words: how many words are needed, opening, calls, steps, and the listing. Every public function takes any words and
+// any arguments; its contract equals a definition of specs/ (Turns, Rows).
+mod numbers;
+mod opening;
+mod phase;
+mod places;
+mod records;
+mod rows;
+mod shape;
+mod splits;
+mod steps;
+mod turns;
+
+pub use opening::open;
+pub use opening::words_needed;
+pub use rows::listing;
+pub use turns::call;
+pub use turns::run;
+pub use turns::step;

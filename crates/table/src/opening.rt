@@ -1,0 +1,78 @@
+// The words needed for settings, and opening.
+ghost use mathlib.Core.Path.{_≡_};
+ghost use mathlib.Core.List.{[], _∷_};
+ghost use Prim.Native.Nat.{_≤_};
+ghost use lib.ListN.{length};
+ghost use Rattle.interface.specs.Limits.{built};
+ghost use Rattle.machine.specs.Words.{wordsNeeded};
+ghost use Rattle.memory.specs.Parts.{overlay};
+ghost use Rattle.table.specs.Shape.{firstWord};
+ghost use Rattle.table.specs.Turns.{neededFor, freshWords, openWords};
+use crate::records::needed;
+use crate::shape::MARK;
+use crate::shape::directory_start;
+use interface::Built;
+use interface::Needed;
+use interface::Opened;
+use interface::Refusal;
+use interface::Settings;
+
+// How many words a table of these settings needs, or refusal 1.
+pub fn words_needed(workers: u64, capacity: u64, depth: u64) -> Needed
+    ensures { λ r. ⌜ r ≡ neededFor (built workers capacity depth) ⌝ }
+{
+    match Settings::new(workers, capacity, depth) {
+        Built::Settings(s) => Needed::Words(needed(s) as u64),
+        Built::Refused(r) => Needed::Refused(r),
+    }
+}
+
+// The first word of a table of these settings: the mark, and the settings below it.
+fn first_word(s: Settings) -> u64
+    requires { ⌜ (1 ≤ s .workers) × ((s .workers ≤ 8) × ((1 ≤ s .capacity) × ((s .capacity ≤ 16) × (s .depth ≤ 15)))) ⌝ }
+    ensures { λ r. ⌜ r ≡ firstWord s ⌝ }
+{
+    MARK * 2048 + (s.workers - 1) + 8 * (s.capacity - 1) + 128 * s.depth
+}
+
+// The first five words: the mark with the settings, the words needed, depth, number and the place of the next spare record.
+fn header(words: &mut [u64], first: u64, all: u64)
+    requires { ⌜ 5 ≤ length (now words) ⌝ }
+    ensures { λ _. ⌜ now (words .exit) ≡ overlay (now (words .entry)) 0 (first ∷ all ∷ 0 ∷ 0 ∷ 1 ∷ []) ⌝ }
+{
+    memory::put(words, 0, first);
+    memory::put(words, 1, all);
+    memory::put(words, 2, 0);
+    memory::put(words, 3, 0);
+    memory::put(words, 4, 1);
+}
+
+// The header, empty slots, idle workers, a directory whose entries all name the first record, empty records.
+fn fresh(words: &mut [u64], s: Settings)
+    requires { ⌜ (1 ≤ s .workers) × ((s .workers ≤ 8) × ((1 ≤ s .capacity) × ((s .capacity ≤ 16) × ((s .depth ≤ 15) × (wordsNeeded s ≤ length (now words)))))) ⌝ }
+    ensures { λ _. ⌜ now (words .exit) ≡ overlay (now (words .entry)) 0 (freshWords s) ⌝ }
+{
+    let start = directory_start(s);
+    let records = start + (1 << s.depth);
+    let all = needed(s);
+    header(words, first_word(s), all as u64);
+    memory::fill(words, 5, start, 0);
+    memory::fill(words, start, records, records as u64);
+    memory::fill(words, records, all, 0);
+}
+
+// A fresh table, whatever the words held.
+pub fn open(words: &mut [u64], workers: u64, capacity: u64, depth: u64) -> Opened
+    ensures { λ r. ⌜ (now (words .exit), r) ≡ openWords (now (words .entry)) workers capacity depth ⌝ }
+{
+    match Settings::new(workers, capacity, depth) {
+        Built::Settings(s) => {
+            if words.len() < needed(s) {
+                return Opened::Refused(Refusal::Short);
+            }
+            fresh(words, s);
+            Opened::Opened
+        }
+        Built::Refused(r) => Opened::Refused(r),
+    }
+}
