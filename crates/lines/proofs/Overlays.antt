@@ -2,61 +2,37 @@
 use Prim.Native.Nat.{ℕ, zero, suc, _+_, _-_, _/_, _%_, _≤_, _<_}
 use mathlib.Core.Path.{_≡_, refl, sym, _∙_, ap}
 use mathlib.Core.Bool.{Bool, true, false, not}
-use mathlib.Core.List.{List, [], _∷_, _++_, append-assoc, append-nil}
-use native.Mathlib.Nat.{add-zero, add-assoc}
+use mathlib.Core.List.{List, [], _∷_, _++_, append-assoc}
+use native.Mathlib.Nat.{add-assoc}
 use native.Mathlib.Numerals.{add-one}
 use native.Mathlib.Omega.{arith}
 use lib.Dec.{leb}
-use lib.ListN.{length, take, drop, set, length-append, length-drop, take-append-drop}
-use lib.Seq.{take-at, drop-at, drop-append-add, drop-drop, length-take-le, set-split, append-snoc, take-set-le, take-length, paste}
+use lib.ListN.{length, take, drop, set, length-append}
+use lib.Seq.{drop-at, length-take-le, set-split, append-snoc, take-set-le, take-length, paste}
 use borrow.Author.Tests.{le-leb, lt-leb, leb-true, leb-false, not-true, not-false}
 use Rattle.machine.specs.Choice.{if_then_else_}
 use Rattle.lines.specs.Numerals.{digit, digits}
-use Rattle.lines.specs.Printed.{overlay, fits, Wrote}
+use Rattle.lists.specs.Parts.{overlay}
+use Rattle.lists.proofs.PartLaws.{set-overlay, length-overlay, overlay-join}
+use Rattle.lines.specs.Printed.{fits, Wrote}
 use Rattle.lines.proofs.Decimals.{length-digits}
-
-pub overlay-nil : (l : List ℕ) (at : ℕ) → overlay l at [] ≡ l
-unfolding overlay
-overlay-nil l at = rw (add-zero, append-nil, take-append-drop)
 
 -- a whole copy
 pub overlay-paste : (l : List ℕ) (at : ℕ) (xs : List ℕ) → paste l at xs (length xs) ≡ overlay l at xs
 unfolding overlay
 overlay-paste l at xs = rw (take-length xs)
 
-set-overlay : (l : List ℕ) (i b : ℕ) → i < length l → set l i b ≡ overlay l i (b ∷ [])
-unfolding overlay
-set-overlay l i b h = set-split l i b h ∙ rw (append-snoc, add-one)
-
 module _ (l : List ℕ) (at : ℕ) (xs : List ℕ) where
-  head-length : at + length xs ≤ length l → length (take at l ++ xs) ≡ at + length xs
-  head-length h = length-append (take at l) xs ∙ ap (λ (k : ℕ). k + length xs) (length-take-le at l (omega arith))
-
-  pub length-overlay : at + length xs ≤ length l → length (overlay l at xs) ≡ length l
-  unfolding overlay
-  length-overlay h = rw (length-append (take at l ++ xs), head-length h, length-drop) (omega arith)
-
-  joined : at + length xs ≤ length l → (k : ℕ) (ys : List ℕ) → at + length xs ≡ k → overlay (overlay l at xs) k ys ≡ overlay l at (xs ++ ys)
-  unfolding overlay
-  joined h k ys e =
-      let n : length (take at l ++ xs) ≡ k = head-length h ∙ e in
-      rw (take-at (take at l ++ xs) (drop (at + length xs) l) k n)
-      (ap (λ (r : List ℕ). take at l ++ xs ++ ys ++ r)
-      (ap (λ (j : ℕ). drop (j + length ys) (take at l ++ xs ++ drop (at + length xs) l)) (sym n)
-      ∙ drop-append-add (take at l ++ xs) (drop (at + length xs) l) (length ys)
-      ∙ drop-drop (length ys) (at + length xs) l)
-      ∙ rw (length-append xs ys, add-assoc, append-assoc (take at l) xs ys))
-
   -- a part right behind what is written, and a byte
   pub next : {m o : List ℕ} (k : ℕ) (ys : List ℕ) → at + length xs ≤ length l → m ≡ overlay l at xs → o ≡ overlay m k ys
       → at + length xs ≡ k
       → o ≡ overlay l at (xs ++ ys)
-  next k ys h e f g = f ∙ ap (λ (m : List ℕ). overlay m k ys) e ∙ joined h k ys g
+  next k ys h e f g = f ∙ rw (e, ← g) (overlay-join l at xs ys (omega arith))
 
   pub next-byte : {m : List ℕ} (k b : ℕ) → at + length xs < length l → m ≡ overlay l at xs → at + length xs ≡ k
       → set m k b ≡ overlay l at (xs ++ b ∷ [])
   next-byte {m} k b h e g =
-      next k (b ∷ []) (omega arith) e (set-overlay m k b (let n = ap length e ∙ length-overlay (omega arith) in omega arith)) g
+      next k (b ∷ []) (omega arith) e (set-overlay m k b (let n = ap length e ∙ length-overlay l at xs (omega arith) in omega arith)) g
 
 pub byte-then : (l : List ℕ) (at b : ℕ) (ys : List ℕ) → at < length l → overlay (set l at b) (at + 1) ys ≡ overlay l at (b ∷ ys)
 byte-then l at b ys h = next l at (b ∷ []) (at + 1) ys (omega arith) (set-overlay l at b h) refl refl

@@ -7,12 +7,13 @@ use mathlib.Core.List.{List, [], _∷_, _++_}
 use mathlib.Core.Option.{Option, none, some}
 use lib.Dec.{leb}
 use lib.IntN.{ℤ, pos, negsuc}
-use lib.ListN.{length, take, drop}
+use lib.ListN.{length}
 use Rattle.interface.specs.Numbers.{bytes, answerWord, answerTotal}
 use Rattle.interface.specs.declared.Answer.{Answer}
 use Rattle.machine.specs.Choice.{if_then_else_}
 use Rattle.machine.specs.Sequential.{Table}
 use Rattle.machine.specs.Script as Script
+use Rattle.lists.specs.Parts.{overlay}
 use Rattle.lines.specs.declared.print.Decimal.{Decimal}
 use Rattle.lines.specs.declared.print.Reply.{Reply}
 use Rattle.lines.specs.declared.print.Reply.the-variants.{Ok, Refused, Moved, Answered, Unread}
@@ -79,10 +80,6 @@ unfoldable pub pairText : Decimal → Decimal → List ℕ
 pairText a b = decimalText a ++ 32 ∷ [] ++ decimalText b ++ 10 ∷ []
 
 -- ---- buffers
-
--- l with xs written over it from index at on
-unfoldable pub overlay : List ℕ → ℕ → List ℕ → List ℕ
-overlay l at xs = take at l ++ xs ++ drop (at + length xs) l
 
 -- the text has room in the buffer from index at on
 unfoldable pub fits : List ℕ → ℕ → List ℕ → Bool

@@ -7,7 +7,8 @@ ghost use lib.Dec.{leb};
 ghost use lib.ListN.{length};
 ghost use lib.IntN.{pos};
 ghost use Rattle.lines.specs.Numerals.{places as placesOf, digits, decimal, signedDecimal};
-ghost use Rattle.lines.specs.Printed.{overlay, Wrote, printedReply, printedRow, printedEnd, printedAnswer, signOf, decimalText, pairText};
+ghost use Rattle.lists.specs.Parts.{overlay};
+ghost use Rattle.lines.specs.Printed.{Wrote, printedReply, printedRow, printedEnd, printedAnswer, signOf, decimalText, pairText};
 use interface::Answer;
 use interface::Completion;
 

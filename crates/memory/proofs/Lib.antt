@@ -1,4 +1,3 @@
-pub mod PartLaws
 pub mod Regions
 pub mod Runs
 pub mod States

@@ -10,10 +10,9 @@ use mathlib.Core.List.{List, [], _∷_}
 use lib.ListN.{length, getD, set}
 use Rattle.interface.specs.declared.Settings.{Settings}
 use Rattle.machine.specs.Words.{wordsNeeded}
-use Rattle.memory.specs.Parts.{part}
-use Rattle.memory.specs.Layout.{Region, header, slot, worker, entry, record′, startOf, sizeOf, Within, read, write}
-use Rattle.memory.specs.Layout.{poolSize, recordSize, workerSize, workersAt, directoryAt, poolAt}
-use Rattle.memory.proofs.PartLaws.{length-part, getD-part, length-overlay, part-here, part-before, part-after, set-overlay, overlay-inner}
+use Rattle.lists.specs.Parts.{part}
+use Rattle.memory.specs.Layout.{Region, header, slot, worker, entry, record′, startOf, sizeOf, Within, read, write, poolSize, recordSize, workerSize, workersAt, directoryAt, poolAt}
+use Rattle.lists.proofs.PartLaws.{length-part, getD-part, length-overlay, part-here, part-before, part-after, set-overlay, overlay-inner}
 
 -- ---- the layout as five arrays of regions, one behind the other
 

@@ -3,35 +3,19 @@
 use Prim.Native.Nat.{ℕ, zero, suc, _+_, _-_, _≤_, _<_}
 use mathlib.Core.Path.{_≡_, refl, sym, _∙_, ap}
 use mathlib.Core.Logic.{_⊎_, inl, inr, ⊎-elim}
-use mathlib.Core.List.{List, [], _∷_, _++_, append-assoc, append-nil}
-use native.Mathlib.Nat.{add-zero, eq-or-lt-of-le, le-of-suc-le-suc}
+use mathlib.Core.List.{List, _++_}
+use native.Mathlib.Nat.{eq-or-lt-of-le, le-of-suc-le-suc}
 use native.Mathlib.Numerals.{add-one}
 use native.Mathlib.Omega.{arith}
-use lib.ListN.{length, take, drop, getD, set, replicate, length-append, length-drop, length-set, length-replicate, replicate-append-replicate, take-append-drop}
-use lib.Seq.{length-take-le, set-at, take-suc, drop-cons, getD-take, getD-drop, set-append-left, take-set-lt, drop-set-lt, append-snoc, getD-set-same, getD-set-other}
-use Rattle.memory.specs.Parts.{part, overlay}
+use lib.ListN.{length, take, drop, getD, set, replicate, length-append, length-drop, length-set, length-replicate, replicate-append-replicate}
+use lib.Seq.{length-take-le, take-suc, getD-take, getD-drop, set-append-left, take-set-lt, drop-set-lt, getD-set-same, getD-set-other}
+use Rattle.lists.specs.Parts.{part, overlay}
 use Rattle.memory.specs.Loads.{copied, stored}
-use Rattle.memory.proofs.PartLaws.{length-overlay, getD-overlay-in, getD-overlay-before, getD-overlay-after}
+use Rattle.lists.proofs.PartLaws.{overlay-nil, overlay-more, length-overlay, getD-overlay-in, getD-overlay-before, getD-overlay-after}
 
 -- ---- a run laid over words
 
-pub overlay-nil : (l : List ℕ) (at : ℕ) → overlay l at [] ≡ l
-unfolding overlay
-overlay-nil l at = rw (add-zero, append-nil, take-append-drop)
-
 module _ (l : List ℕ) (at : ℕ) (xs : List ℕ) (v : ℕ) where
-  -- the word behind the run, written: the run is one word longer
-  pub overlay-more : at + length xs < length l → set (overlay l at xs) (at + length xs) v ≡ overlay l at (xs ++ v ∷ [])
-  unfolding overlay
-  overlay-more h =
-      let rest : List ℕ = drop (suc (at + length xs)) l in
-      let e : length (take at l ++ xs) ≡ at + length xs = rw (length-append, length-take-le at l (omega arith)) in
-      let next : suc (at + length xs) ≡ at + (length xs + 1) = omega arith in
-      rw (drop-cons l (at + length xs) 0 h, set-at (take at l ++ xs) (getD l (at + length xs) 0) rest v (at + length xs) e, length-append xs (v ∷ []))
-      (sym (append-snoc (take at l ++ xs) v rest)
-      ∙ ap (λ (r : List ℕ). r ++ rest) (append-assoc (take at l) xs (v ∷ []))
-      ∙ ap (λ (k : ℕ). take at l ++ (xs ++ v ∷ []) ++ drop k l) next)
-
   -- a word before the run, written under it
   pub set-before : (i : ℕ) → i < at → at ≤ length l → set (overlay l at xs) i v ≡ overlay (set l i v) at xs
   unfolding overlay

@@ -1,7 +1,7 @@
 -- A total and the word that keeps it: each is read back from the other, at every value; a negative total's word is 2 ^ 63 or more.
 -- Rests on the library's laws of signed integers.
 use Prim.Native.Nat.{ℕ, _≤_, _<_, _^_, _-_}
-use mathlib.Core.Path.{_≡_, refl}
+use mathlib.Core.Path.{_≡_, refl, _∙_, ap}
 use mathlib.Core.Bool.{true, false}
 use native.Mathlib.Omega.{arith}
 use lib.IntN.{ℤ, pos, negsuc}
@@ -47,3 +47,7 @@ high x f e = high-of x f (rw (toZ-ofZ f) at e)
 
 pub low : (x : ℤ) → SFits w64 x → ltZ (toZ w64 (ofZ w64 x)) (pos 0) ≡ false → ofZ w64 x < 2 ^ 63
 low x f e = low-of x f (rw (toZ-ofZ f) at e)
+
+-- a total as a list of totals keeps it
+pub total-kept : (r : ℤ) (x y : ℕ) → r ≡ toZ w64 x → x < 2 ^ 64 → x ≡ y → toZ w64 (ofZ w64 r) ≡ toZ w64 y
+total-kept r x y e f h = ap (toZ w64) (ap (ofZ w64) e ∙ ofZ-toZ {w = w64} {n = x} (record { fits = f }) ∙ h)

@@ -8,9 +8,9 @@ use native.Mathlib.Omega.{arith}
 use lib.ListN.{length, getD, set, length-set}
 use lib.Seq.{getD-set-same, getD-set-other}
 use Rattle.bucket.specs.declared.BucketState.{BucketState}
-use Rattle.memory.specs.Parts.{part, overlay}
+use Rattle.lists.specs.Parts.{part, overlay}
 use Rattle.memory.specs.Loads.{least, stored, loadedState, storedState}
-use Rattle.memory.proofs.PartLaws.{length-part, getD-part, overlay-ext}
+use Rattle.lists.proofs.PartLaws.{length-part, getD-part, overlay-ext}
 use Rattle.memory.proofs.Runs.{Run, stored-run, getD-copied}
 use Rattle.memory.proofs.States.{Sized, least-bound, least-same}
 

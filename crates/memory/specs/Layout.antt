@@ -3,7 +3,7 @@
 use Prim.Native.Nat.{ℕ, _+_, _*_, _^_, _<_}
 use mathlib.Core.List.{List}
 use Rattle.interface.specs.declared.Settings.{Settings}
-use Rattle.memory.specs.Parts.{part, overlay}
+use Rattle.lists.specs.Parts.{part, overlay}
 
 -- ---- regions
 

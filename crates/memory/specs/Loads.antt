@@ -1,12 +1,12 @@
 -- What a bucket record's words are as a bucket state, and the words with a bucket state stored in them. Only the accounts that are there are
 -- copied. Rests on the layout of a bucket record.
-use Prim.Native.Nat.{ℕ, zero, suc, _+_, _-_}
-use mathlib.Core.List.{List, [], _∷_, _++_}
+use Prim.Native.Nat.{ℕ, zero, suc, _+_}
+use mathlib.Core.List.{List}
 use lib.Dec.{ltb}
-use lib.ListN.{length, getD, set, take, replicate}
+use lib.ListN.{getD, set, take, replicate}
 use Rattle.machine.specs.Choice.{if_then_else_}
 use Rattle.bucket.specs.declared.BucketState.{BucketState}
-use Rattle.memory.specs.Parts.{overlay}
+use Rattle.lists.specs.Parts.{overlay}
 use Rattle.memory.specs.Layout.{accountsFrom, totalsFrom, settledFrom, answersFrom}
 
 unfoldable pub least : ℕ → ℕ → ℕ

@@ -6,7 +6,7 @@ ghost use Prim.Native.Nat.{_+_, _-_, _≤_, _<_};
 ghost use lib.ListN.{length, getD, set, replicate};
 ghost use mir.Syntax.{w64};
 ghost use mir.Val.{ofZ, toZ};
-ghost use Rattle.memory.specs.Parts.{part, overlay};
+ghost use Rattle.lists.specs.Parts.{part, overlay};
 ghost use Rattle.memory.specs.Loads.{least, loadedState, storedState};
 use bucket::BucketState;
 

@@ -25,8 +25,8 @@ use Rattle.bucket.specs.Items.{signed, pairs, itemsOf, answerOf, settledOf}
 use Rattle.bucket.proofs.Ties.{full-means}
 use Rattle.memory.specs.Layout.{record′, startOf, totalsFrom, settledFrom, answersFrom}
 use Rattle.memory.specs.Loads.{least, copied, loadedState}
-use Rattle.table.specs.Shape.{word}
-use Rattle.table.specs.Engine.{settledWord, answerWordAt, checkedAt}
+use Rattle.layout.specs.Shape.{word}
+use Rattle.engine.specs.Engine.{settledWord, answerWordAt, checkedAt}
 use Rattle.table.specs.Turns.{foundAt, lookedAt}
 use Rattle.simulation.specs.Meaning.{at, Keeps}
 

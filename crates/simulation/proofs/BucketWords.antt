@@ -24,15 +24,15 @@ use Rattle.bucket.specs.declared.Place.the-variants.{At, Before}
 use Rattle.bucket.specs.State.{sizeOf, fullOf, searchOf, putAt, putOf, removeAt, removeOf, settleOf, carryOf, bit, helpOf, helpedOf, roundOf}
 use Rattle.bucket.specs.Items.{itemsOf, settledOf, bitsOf, slotOf, SoundSlots, Means}
 use Rattle.bucket.proofs.Ties.{round-means}
-use Rattle.memory.specs.Parts.{part}
+use Rattle.lists.specs.Parts.{part}
 use Rattle.memory.specs.Layout.{record′, poolSize, startOf}
 use Rattle.memory.specs.Loads.{least, copied, loadedState, storedState}
 use Rattle.memory.proofs.Regions.{record-inside}
 use Rattle.memory.proofs.Runs.{length-copied}
 use Rattle.memory.proofs.States.{Sized, least-bound}
 use Rattle.memory.proofs.Trips.{Same, length-state, count-word, state-elsewhere, trip}
-use Rattle.table.specs.Shape.{word}
-use Rattle.table.specs.Engine.{roundAt}
+use Rattle.layout.specs.Shape.{word}
+use Rattle.engine.specs.Engine.{roundAt}
 use Rattle.simulation.specs.Meaning.{at}
 
 -- ---- a state loaded

@@ -27,7 +27,7 @@ use Rattle.machine.proofs.Openings.{call-busy, call-kind, call-spent, call-upda
 use Rattle.machine.proofs.Transitions.{placeOf}
 use Rattle.bucket.specs.Items.{signed, updateOf}
 use Rattle.memory.specs.Layout.{worker, startOf}
-use Rattle.table.specs.Shape.{word}
+use Rattle.layout.specs.Shape.{word}
 use Rattle.table.specs.Turns.{begunAt, callIn}
 use Rattle.simulation.specs.Meaning.{at, operationIn, Meaning}
 use Rattle.simulation.proofs.Entering.{at-first, is-busy, is-idle}

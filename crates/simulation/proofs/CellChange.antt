@@ -19,10 +19,9 @@ use Rattle.machine.proofs.Whereabouts.{Holds}
 use Rattle.machine.proofs.Inv.{held}
 use Rattle.machine.proofs.Transitions.{tasksOf}
 use Rattle.memory.specs.Layout.{header, slot, worker, entry, record′, poolSize}
-use Rattle.table.specs.Shape.{word}
+use Rattle.layout.specs.Shape.{word}
 use Rattle.simulation.specs.Meaning.{at, slotIn, nameIn, Keeps, Refers, Live, current, referred, HasState, Agree, WorkerMeans, Meaning}
-use Rattle.simulation.proofs.Frames.{Inside, entry-within, header-start, header-wide, slot-wide, worker-wide, record-wide}
-use Rattle.simulation.proofs.Frames.{SameWords, slot-same, name-same, keeps-same, refers-same, directs-same, marks-same, worker-same}
+use Rattle.simulation.proofs.Frames.{Inside, entry-within, header-start, header-wide, slot-wide, worker-wide, record-wide, SameWords, slot-same, name-same, keeps-same, refers-same, directs-same, marks-same, worker-same}
 use Rattle.simulation.proofs.Entering.{refers-once}
 
 pub live-within : {s : Settings} {l : List ℕ} {m : Machine} (r : ℕ) → Live s l m r → r < poolSize s

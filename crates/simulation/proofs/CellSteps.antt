@@ -20,24 +20,22 @@ use Rattle.machine.specs.BucketPass.{nextState}
 use Rattle.machine.specs.Words.{wordsNeeded}
 use Rattle.machine.specs.Steps.{assignSlot, assignBucket, assignState, assignToggle, counted, reported}
 use Rattle.machine.proofs.Base.{if-eq, if-ne, assign-at, assign-other, assign-elim}
-use Rattle.machine.proofs.Counter.{Two, one, two, PC, phaseOf, announce, readD, flip, inB, readS, readT, slotB, swap}
+use Rattle.machine.proofs.Counter.{Two, one, two, PC, phaseOf, announce, readD, flip, inB, readS, readT, slotB, swap, afterB}
 use Rattle.machine.proofs.Whereabouts.{Holds}
 use Rattle.machine.proofs.Inv.{Task, held, own, Fresh, SeenState, Announced, ReadFacts}
 use Rattle.machine.proofs.Keeping.{goes}
 use Rattle.machine.proofs.Transitions.{taskOf, tasksOf, flippedCells, swappedCells}
-use Rattle.machine.proofs.Counter.{afterB}
 use Rattle.bucket.specs.Items.{bitsOf, updateOf, readSlot, slotOf}
-use Rattle.memory.specs.Parts.{part}
+use Rattle.lists.specs.Parts.{part}
 use Rattle.memory.specs.Layout.{slot, worker, record′, startOf}
-use Rattle.memory.proofs.PartLaws.{length-part, getD-part, length-overlay, getD-overlay-in, getD-overlay-before, getD-overlay-after}
+use Rattle.lists.proofs.PartLaws.{length-part, getD-part, length-overlay, getD-overlay-in, getD-overlay-before, getD-overlay-after}
 use Rattle.memory.proofs.Regions.{region-inside}
-use Rattle.table.specs.Places.{heldBy}
-use Rattle.table.specs.Numbers.{freshNumber}
-use Rattle.table.specs.Engine.{announcedAt, flipBit, flippedAt, roundAt, swappedAt}
+use Rattle.layout.specs.Places.{heldBy}
+use Rattle.layout.specs.Numbers.{freshNumber}
+use Rattle.engine.specs.Engine.{announcedAt, flipBit, flippedAt, roundAt, swappedAt}
 use Rattle.table.specs.Turns.{stepIn, updateAt}
 use Rattle.simulation.specs.Meaning.{at, nameIn, Keeps, Refers, Live, current, referred, HasState, HasDirectory, Agree, WorkerMeans, Meaning}
-use Rattle.simulation.proofs.Frames.{at-here, at-beside, slot-wide, worker-wide, record-wide, name-same, keeps-same, refers-same, directs-same}
-use Rattle.simulation.proofs.Frames.{Inside, elsewhere-inside, set-inside, own-entry, own-worker, own-record}
+use Rattle.simulation.proofs.Frames.{at-here, at-beside, slot-wide, worker-wide, record-wide, name-same, keeps-same, refers-same, directs-same, Inside, elsewhere-inside, set-inside, own-entry, own-worker, own-record}
 use Rattle.simulation.proofs.Entering.{worker-start, refers-once, is-update, raised, raised-beside, update-enters}
 use Rattle.simulation.proofs.OwnWorker.{Ready, Next, going, raised-means, enough₁, own₁, mine, at-mine, keeps-mine, announced-at}
 use Rattle.simulation.proofs.CellChange.{live-within, slot-means, record-means}

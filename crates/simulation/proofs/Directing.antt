@@ -13,11 +13,11 @@ use Rattle.interface.specs.declared.Settings.{Settings}
 use Rattle.machine.specs.Choice.{if_then_else_}
 use Rattle.machine.specs.Words.{wordsNeeded}
 use Rattle.machine.proofs.Base.{eq-elim}
-use Rattle.memory.specs.Parts.{overlay}
+use Rattle.lists.specs.Parts.{overlay}
 use Rattle.memory.specs.Layout.{Region, entry, directoryAt, startOf, sizeOf, Within}
 use Rattle.memory.proofs.Regions.{region-inside, regions-apart}
-use Rattle.memory.proofs.PartLaws.{length-overlay, getD-overlay-in, getD-overlay-before, getD-overlay-after}
-use Rattle.table.specs.Splits.{firstEntry}
+use Rattle.lists.proofs.PartLaws.{length-overlay, getD-overlay-in, getD-overlay-before, getD-overlay-after}
+use Rattle.layout.specs.Records.{firstEntry}
 use Rattle.simulation.specs.Meaning.{at}
 use Rattle.simulation.proofs.Frames.{entry-wide}
 

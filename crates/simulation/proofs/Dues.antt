@@ -22,10 +22,10 @@ use Rattle.memory.specs.Loads.{loadedState}
 use Rattle.memory.proofs.Runs.{getD-copied}
 use Rattle.bucket.specs.State.{bit, prefixOf}
 use Rattle.bucket.specs.Items.{updateOf, readSlot, settledOf}
-use Rattle.table.specs.Shape.{word}
-use Rattle.table.specs.Places.{readAt}
-use Rattle.table.specs.Engine.{settledWord}
-use Rattle.table.specs.Splits.{dueAt, duesAt}
+use Rattle.layout.specs.Shape.{word}
+use Rattle.layout.specs.Places.{readAt}
+use Rattle.engine.specs.Engine.{settledWord}
+use Rattle.engine.specs.Splits.{dueAt, duesAt}
 use Rattle.simulation.specs.Meaning.{nameIn, Keeps}
 use Rattle.simulation.proofs.Entering.{account-of}
 use Rattle.simulation.proofs.WordBits.{bit-set, bit-beside}

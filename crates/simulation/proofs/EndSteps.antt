@@ -20,24 +20,21 @@ use Rattle.machine.specs.BucketPass.{checked}
 use Rattle.machine.specs.DirectoryPass.{copyOf}
 use Rattle.machine.proofs.Whereabouts.{Holds}
 use Rattle.machine.proofs.Counter as Counter
-use Rattle.machine.proofs.Counter.{Two, one, two, PC, idle, look₂, checkS}
+use Rattle.machine.proofs.Counter.{Two, one, two, PC, idle, look₂, checkS, afterC}
 use Rattle.machine.proofs.Inv.{Task, Hold, body, ReadFacts, Looking, about, target, leaf, held, own}
 use Rattle.machine.proofs.Tasks.{Good}
 use Rattle.machine.proofs.Transitions.{placeOf, taskOf, tasksOf, ended, lookupPlace}
-use Rattle.machine.proofs.Counter.{afterC}
 use Rattle.bucket.specs.Items.{answerOf}
 use Rattle.memory.specs.Layout.{worker, startOf}
-use Rattle.table.specs.Shape.{word}
-use Rattle.table.specs.Places.{heldBy}
-use Rattle.table.specs.Engine.{checkedAt}
+use Rattle.layout.specs.Shape.{word}
+use Rattle.layout.specs.Places.{heldBy}
+use Rattle.engine.specs.Engine.{checkedAt}
 use Rattle.table.specs.Turns.{stepIn, updateAt, lookupAt, endedAt, lookedAt, checkAt}
 use Rattle.simulation.specs.Meaning.{at, operationIn, Keeps, Meaning}
 use Rattle.simulation.proofs.Entering.{raised, raised-beside, is-about, lookup-enters}
 use Rattle.simulation.proofs.Answering.{answered, looked-is, checked-is}
 use Rattle.simulation.proofs.Frames.{record-wide, own-record, keeps-same}
-use Rattle.simulation.proofs.OwnWorker.{nowhere, Ready, Next, Words, Free, words-here, words-set, words-first, mine-means, slots-kept, toggle-kept}
-use Rattle.simulation.proofs.OwnWorker.{Onward}
-use Rattle.simulation.proofs.OwnWorker.{own₁, free, mine, at-mine, keeps-mine, announced-at, plan-step, stays}
+use Rattle.simulation.proofs.OwnWorker.{nowhere, Ready, Next, Words, Free, words-here, words-set, words-first, mine-means, slots-kept, toggle-kept, Onward, own₁, free, mine, at-mine, keeps-mine, announced-at, plan-step, stays}
 
 operation-none : (a v : ℕ) → operationIn 0 a v ≡ none
 unfolding operationIn if_then_else_

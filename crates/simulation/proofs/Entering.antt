@@ -33,10 +33,10 @@ use Rattle.machine.proofs.Transitions.{placeOf, taskOf, tasksOf, Transition}
 use Rattle.bucket.specs.Items.{updateOf}
 use Rattle.memory.specs.Layout.{Region, worker, entry, record′, startOf, workersAt, workerSize, recordSize, poolSize, directoryAt, poolAt}
 use Rattle.memory.proofs.Regions.{record-inside, record-starts-apart}
-use Rattle.table.specs.Shape.{word, directoryStart}
-use Rattle.table.specs.Places as Places
-use Rattle.table.specs.Places.{workerAt, within, recordOf, heldBy}
-use Rattle.table.specs.Splits.{recordStart}
+use Rattle.layout.specs.Shape.{word, directoryStart}
+use Rattle.layout.specs.Places as Places
+use Rattle.layout.specs.Places.{workerAt, within, recordOf, heldBy}
+use Rattle.layout.specs.Records.{recordStart}
 use Rattle.table.specs.Turns.{stepIn, operationAt, updateAt, lookupAt}
 use Rattle.simulation.specs.Meaning.{at, operationIn, Directs, Refers, Meaning}
 use Rattle.simulation.proofs.Frames.{at-here, at-beside, worker-wide, OwnWords, set-inside}

@@ -22,15 +22,13 @@ use Rattle.machine.proofs.Whereabouts.{Holds}
 use Rattle.machine.proofs.Inv.{leaf, held, own, DirectoryFresh}
 use Rattle.machine.proofs.Transitions.{tasksOf}
 use Rattle.bucket.specs.Items.{readSlot}
-use Rattle.memory.specs.Parts.{part, overlay}
-use Rattle.memory.specs.Layout.{Region, header, slot, worker, entry, record′, startOf, sizeOf, workerSize, recordSize, poolSize, Within}
-use Rattle.memory.specs.Layout.{totalsFrom, settledFrom, answersFrom}
+use Rattle.lists.specs.Parts.{part, overlay}
+use Rattle.memory.specs.Layout.{Region, header, slot, worker, entry, record′, startOf, sizeOf, workerSize, recordSize, poolSize, Within, totalsFrom, settledFrom, answersFrom}
 use Rattle.memory.specs.Loads.{least, copied, loadedState}
-use Rattle.memory.proofs.PartLaws.{length-part, getD-part, part-ext, length-overlay, getD-overlay-in, getD-overlay-before, getD-overlay-after}
+use Rattle.lists.proofs.PartLaws.{length-part, getD-part, part-ext, length-overlay, getD-overlay-in, getD-overlay-before, getD-overlay-after}
 use Rattle.memory.proofs.Regions.{regions-apart, region-inside}
-use Rattle.table.specs.Shape.{word}
-use Rattle.simulation.specs.Meaning.{at, slotIn, nameIn, Keeps, Directs, Refers, Live, current, referred, HasState, HasDirectory, HasWork, Agree}
-use Rattle.simulation.specs.Meaning.{Marked, Marks, WorkerMeans, Meaning}
+use Rattle.layout.specs.Shape.{word}
+use Rattle.simulation.specs.Meaning.{at, slotIn, nameIn, Keeps, Directs, Refers, Live, current, referred, HasState, HasDirectory, HasWork, Agree, Marked, Marks, WorkerMeans, Meaning}
 
 -- ---- one word
 

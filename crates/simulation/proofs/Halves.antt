@@ -12,8 +12,8 @@ use Rattle.machine.specs.Choice.{if_then_else_}
 use Rattle.machine.specs.Records.{Name, Body, newBucket}
 use Rattle.machine.specs.DirectoryPass.{half}
 use Rattle.memory.specs.Layout.{Region, header, slot, worker, entry, record′, poolSize, startOf, sizeOf, Within}
-use Rattle.table.specs.Shape.{word}
-use Rattle.table.specs.Splits.{firstEntry}
+use Rattle.layout.specs.Shape.{word}
+use Rattle.layout.specs.Records.{firstEntry}
 use Rattle.simulation.specs.Meaning.{at, nameIn, Keeps}
 use Rattle.simulation.proofs.Frames.{worker-wide, SameWords, Inside}
 

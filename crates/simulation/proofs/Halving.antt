@@ -18,25 +18,23 @@ use Rattle.machine.specs.Records.{Name, State, newBucket}
 use Rattle.machine.specs.Words.{wordsNeeded}
 use Rattle.machine.specs.DirectoryPass.{half}
 use Rattle.machine.proofs.Base.{if-elim}
-use Rattle.memory.specs.Parts.{overlay}
-use Rattle.memory.specs.Layout.{Region, header, entry, record′, startOf, sizeOf, Within}
-use Rattle.memory.specs.Layout.{poolSize, recordSize, workerSize, workersAt, directoryAt, poolAt}
+use Rattle.lists.specs.Parts.{overlay}
+use Rattle.memory.specs.Layout.{Region, header, entry, record′, startOf, sizeOf, Within, poolSize, recordSize, workerSize, workersAt, directoryAt, poolAt}
 use Rattle.memory.specs.Loads.{storedState}
 use Rattle.bucket.specs.declared.BucketState.{BucketState}
 use Rattle.bucket.specs.State as State
 use Rattle.bucket.specs.State.{bit, prefixOf, keeps, halfOf}
 use Rattle.bucket.specs.Items.{bitsOf, Means}
 use Rattle.bucket.proofs.Ties.{half-means}
-use Rattle.table.specs.Shape.{word, directoryStart}
-use Rattle.table.specs.Splits.{recordStart, firstEntry, spareOf, madeAt, directedAt, halfAt}
+use Rattle.layout.specs.Shape.{word, directoryStart}
+use Rattle.layout.specs.Records.{recordStart, firstEntry, spareOf}
+use Rattle.engine.specs.Splits.{madeAt, directedAt, halfAt}
 use Rattle.simulation.specs.Meaning.{at, Keeps}
-use Rattle.simulation.proofs.Frames.{at-here, header-start, header-wide, record-wide, keeps-same}
-use Rattle.simulation.proofs.Frames.{Inside, inside-trans, set-inside}
+use Rattle.simulation.proofs.Frames.{at-here, header-start, header-wide, record-wide, keeps-same, Inside, inside-trans, set-inside}
 use Rattle.simulation.proofs.BucketWords.{Stored, stored-words}
 use Rattle.simulation.proofs.Spares.{spare-within, spare-unheld, spare-unnamed}
 use Rattle.simulation.proofs.Directing.{directed-length, directed-entries, directed-other}
-use Rattle.simulation.proofs.Storing.{head-same, record-frame, record-entries, record-others, stored-inside, stored-beside}
-use Rattle.simulation.proofs.Storing.{head-frame, head-entries, head-others}
+use Rattle.simulation.proofs.Storing.{head-same, record-frame, record-entries, record-others, stored-inside, stored-beside, head-frame, head-entries, head-others}
 use Rattle.simulation.proofs.Halves.{Left, Frame, frame-trans, SameRecord, Halved}
 
 -- ---- a half has no more accounts than the whole

@@ -19,12 +19,11 @@ use Rattle.machine.specs.BucketPass.{splittable}
 use Rattle.machine.specs.DirectoryPass.{leafOf, nameOf, plant, plantHalf, deepened, doubled, child, half, split}
 use Rattle.machine.proofs.Base.{if-eq, if-ne}
 use Rattle.machine.proofs.Bits.{bits-below, bits-shorter, bits-child, bits-parent, representative, first-entry, bits-representative}
-use Rattle.machine.proofs.Copies.{Inside, Outside, depthAt, halfAt, leaf-split, Coherent, within, same-leaf, own-leaf}
-use Rattle.machine.proofs.Copies.{refined-split, splittable-below}
+use Rattle.machine.proofs.Copies.{Inside, Outside, depthAt, halfAt, leaf-split, Coherent, within, same-leaf, own-leaf, refined-split, splittable-below}
 use Rattle.machine.proofs.Inv.{leaf, leafBody}
 use Rattle.memory.specs.Layout.{worker, entry, record′, startOf}
-use Rattle.table.specs.Shape.{word}
-use Rattle.table.specs.Splits.{firstEntry}
+use Rattle.layout.specs.Shape.{word}
+use Rattle.layout.specs.Records.{firstEntry}
 use Rattle.simulation.specs.Meaning.{at, nameIn, Keeps, Directs, Refers}
 use Rattle.simulation.proofs.Frames.{name-same, keeps-same}
 use Rattle.simulation.proofs.Halves.{Spare, Deepened, frame-refers, SameRecord, Frame, Halved, frame-trans, same-trans}

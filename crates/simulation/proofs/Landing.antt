@@ -17,7 +17,7 @@ use Rattle.machine.specs.DirectoryPass.{copyOf, leafOf, nameOf, directoryOf, bo
 use Rattle.machine.specs.Words.{wordsNeeded}
 use Rattle.machine.specs.Steps.{counted, created, direct}
 use Rattle.machine.proofs.Base.{assign-at, assign-other}
-use Rattle.machine.proofs.Counter.{Two, one, two, PC, inB, inD, swapD, slotD, state}
+use Rattle.machine.proofs.Counter.{Two, one, two, PC, inB, inD, swapD, slotD, state, afterD}
 use Rattle.machine.proofs.Copies as Copies
 use Rattle.machine.proofs.Copies.{nameAt, depthAt, Coherent, within, bodyMade-made, bodyMade-kept, bucketOf-directoryOf}
 use Rattle.machine.proofs.Inv.{Task, target, leaf, leafBody, held, own, DirectoryFresh, IsMade, Hold, Grown, Worked, ReadFacts}
@@ -27,15 +27,12 @@ use Rattle.machine.proofs.Keeping.{holds-hold}
 use Rattle.machine.proofs.SwapDirectory.{worked, remade, remade-ok, own-same}
 use Rattle.machine.proofs.Tasks.{Good}
 use Rattle.machine.proofs.Transitions.{taskOf, tasksOf, redirectedCells}
-use Rattle.machine.proofs.Counter.{afterD}
 use Rattle.memory.specs.Layout.{Region, Within, header, slot, worker, entry, record′, poolSize}
 use Rattle.memory.proofs.Regions.{region-inside, record-starts-apart}
-use Rattle.table.specs.Shape.{word}
-use Rattle.table.specs.Numbers.{freshDirectory}
-use Rattle.simulation.specs.Meaning.{at, nameIn, Keeps, Directs, Refers, Live, current, referred, HasState, HasDirectory, Agree}
-use Rattle.simulation.specs.Meaning.{WorkerMeans, Meaning}
-use Rattle.simulation.proofs.Frames.{slot-wide, record-wide, entry-wide, entry-within}
-use Rattle.simulation.proofs.Frames.{SameWords, slot-same, name-same, keeps-same, refers-same, worker-same, Inside}
+use Rattle.layout.specs.Shape.{word}
+use Rattle.layout.specs.Numbers.{freshDirectory}
+use Rattle.simulation.specs.Meaning.{at, nameIn, Keeps, Directs, Refers, Live, current, referred, HasState, HasDirectory, Agree, WorkerMeans, Meaning}
+use Rattle.simulation.proofs.Frames.{slot-wide, record-wide, entry-wide, entry-within, SameWords, slot-same, name-same, keeps-same, refers-same, worker-same, Inside}
 use Rattle.simulation.proofs.Entering.{raised, worker-start, refers-once}
 use Rattle.simulation.proofs.OwnWorker.{Ready, nowhere, work-directory, raised-means}
 use Rattle.simulation.proofs.Numbering.{fresh-directory}

@@ -32,9 +32,9 @@ use Rattle.bucket.specs.State.{bit}
 use Rattle.bucket.specs.Items.{updateOf, readSlot}
 use Rattle.memory.specs.Layout.{worker, record′, startOf}
 use Rattle.memory.proofs.Regions.{record-starts-apart}
-use Rattle.table.specs.Shape.{word}
-use Rattle.table.specs.Places.{readAt, recordOf}
-use Rattle.table.specs.Engine.{withBit, settledWord, recordFor, foundBefore, splitsAt, marks, stateStepAt}
+use Rattle.layout.specs.Shape.{word}
+use Rattle.layout.specs.Places.{readAt, recordOf}
+use Rattle.engine.specs.Engine.{withBit, settledWord, recordFor, foundBefore, splitsAt, marks, stateStepAt}
 use Rattle.table.specs.Turns.{updateAt}
 use Rattle.simulation.specs.Meaning.{at, nameIn, accountIn, Keeps, current, HasDirectory, HasWork, Marks, Meaning}
 use Rattle.simulation.proofs.Frames.{record-wide, own-entry, own-record, directs-same, keeps-same, marks-same}
@@ -42,8 +42,7 @@ use Rattle.simulation.proofs.Entering.{account-of, directed-record, rai
 use Rattle.simulation.proofs.Answering.{full-is, ticket-is}
 use Rattle.simulation.proofs.Numbering.{any-some, some-any}
 use Rattle.simulation.proofs.WordBits.{bit-set, bit-beside}
-use Rattle.simulation.proofs.OwnWorker.{Ready, Changed, Onward, nothing-changed, one-word, word-here, goes-on, going, enough₁, own₁}
-use Rattle.simulation.proofs.OwnWorker.{slots-kept, toggle-kept, directory-kept, announced-at, plan-step}
+use Rattle.simulation.proofs.OwnWorker.{Ready, Changed, Onward, nothing-changed, one-word, word-here, goes-on, going, enough₁, own₁, slots-kept, toggle-kept, directory-kept, announced-at, plan-step}
 
 -- ---- words
 

@@ -9,9 +9,9 @@ use mathlib.Core.List.{List}
 use borrow.Author.Tests.{eq-eqb, eqb-true}
 use Rattle.machine.specs.Choice.{if_then_else_, assign}
 use Rattle.machine.proofs.Base.{no-both, if-elim, and-true, and-parts, assign-at, assign-other}
-use Rattle.table.specs.Shape.{word}
-use Rattle.table.specs.Places.{workerAt}
-use Rattle.table.specs.Numbers.{any, leastFree, numberTaken, freshNumber, directoryTaken, freshDirectory}
+use Rattle.layout.specs.Shape.{word}
+use Rattle.layout.specs.Places.{workerAt}
+use Rattle.layout.specs.Numbers.{any, leastFree, numberTaken, freshNumber, directoryTaken, freshDirectory}
 
 -- ---- the least number that is not taken
 

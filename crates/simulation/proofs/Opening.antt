@@ -21,16 +21,15 @@ use Rattle.machine.specs.Words.{wordsNeeded}
 use Rattle.bucket.specs.declared.BucketState.{BucketState}
 use Rattle.bucket.specs.State.{sizeOf, bit}
 use Rattle.bucket.specs.Items.{pairs, itemsOf, settledOf, answerOf, bitsOf, readSlot, Means}
-use Rattle.memory.specs.Parts.{part, overlay}
-use Rattle.memory.specs.Layout.{slot, worker, entry, record′, startOf, workersAt, workerSize, recordSize, poolSize, poolAt}
-use Rattle.memory.specs.Layout.{settledFrom, answersFrom}
+use Rattle.lists.specs.Parts.{part, overlay}
+use Rattle.memory.specs.Layout.{slot, worker, entry, record′, startOf, workersAt, workerSize, recordSize, poolSize, poolAt, settledFrom, answersFrom}
 use Rattle.memory.specs.Loads.{least, copied, loadedState}
-use Rattle.memory.proofs.PartLaws.{getD-part, length-overlay, getD-overlay-in}
+use Rattle.lists.proofs.PartLaws.{getD-part, length-overlay, getD-overlay-in}
 use Rattle.memory.proofs.Regions.{region-inside, record-starts-apart}
 use Rattle.memory.proofs.Runs.{getD-copied}
 use Rattle.memory.proofs.States.{least-same, loaded-sized}
-use Rattle.table.specs.Shape.{word, mark, settingsOf, firstWord, directoryStart, strange, shapeOf}
-use Rattle.table.specs.Splits.{recordStart}
+use Rattle.layout.specs.Shape.{word, mark, settingsOf, firstWord, directoryStart, strange, shapeOf}
+use Rattle.layout.specs.Records.{recordStart}
 use Rattle.table.specs.Turns.{freshWords}
 use Rattle.simulation.specs.Meaning.{at, operationIn, nameIn, Keeps, Directs, Live, current, referred, WorkerMeans, Meaning}
 use Rattle.simulation.proofs.Entering.{record-start, entry-start, directory-start}

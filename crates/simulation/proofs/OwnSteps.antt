@@ -20,33 +20,27 @@ use Rattle.machine.specs.Records.{Worker, Slot, Machine}
 use Rattle.machine.specs.Steps.{withDirectory, withState, withToggle, withSlot, withCopy}
 use Rattle.machine.specs.DirectoryPass.{copyOf, leafOf}
 use Rattle.machine.proofs.Base.{if-ne, assign-at, assign-elim}
-use Rattle.machine.proofs.Whereabouts.{Holds}
+use Rattle.machine.proofs.Whereabouts.{Holds, Past}
 use Rattle.machine.proofs.Counter as Counter
-use Rattle.machine.proofs.Counter.{counter-within, Two, one, two, BStep, DStep, readS, readT, swap, slotB, copyD, swapD, slotD, state, PC, look₁}
-use Rattle.machine.proofs.Counter.{look₂, readD, flip, checkD, checkS, inB, inD}
+use Rattle.machine.proofs.Counter.{counter-within, Two, one, two, BStep, DStep, readS, readT, swap, slotB, copyD, swapD, slotD, state, PC, look₁, look₂, readD, flip, checkD, checkS, inB, inD, afterB, afterD}
 use Rattle.machine.proofs.Inv.{Task, IsMade, ReadFacts, Looking, Fresh, Announced, about, leaf, held, own, DirectoryFresh}
-use Rattle.machine.proofs.Whereabouts.{Past}
 use Rattle.machine.proofs.Tasks.{Good}
 use Rattle.machine.proofs.Transitions.{placeOf, tasksOf, lookupPlace}
-use Rattle.machine.proofs.Counter.{afterB, afterD}
 use Rattle.bucket.specs.State.{bit}
 use Rattle.bucket.specs.Items.{bitsOf, readSlot}
-use Rattle.memory.specs.Parts.{part, overlay}
+use Rattle.lists.specs.Parts.{part, overlay}
 use Rattle.memory.specs.Layout.{slot, worker, record′, startOf, sizeOf}
-use Rattle.memory.proofs.PartLaws.{length-part, getD-part}
+use Rattle.lists.proofs.PartLaws.{length-part, getD-part}
 use Rattle.memory.proofs.Regions.{region-inside}
-use Rattle.table.specs.Shape.{word}
-use Rattle.table.specs.Places.{slotAt, recordOf, heldBy}
-use Rattle.table.specs.Engine.{heldAt, stateReadAt, toggleReadAt, slotReadAt, directoryReadAt, swappedAt}
-use Rattle.table.specs.Splits.{redirectedAt}
+use Rattle.layout.specs.Shape.{word}
+use Rattle.layout.specs.Places.{slotAt, recordOf, heldBy}
+use Rattle.engine.specs.Engine.{heldAt, stateReadAt, toggleReadAt, slotReadAt, directoryReadAt, swappedAt}
+use Rattle.engine.specs.Splits.{redirectedAt}
 use Rattle.table.specs.Turns.{stepIn, updateAt, lookupAt}
 use Rattle.simulation.specs.Meaning.{at, slotIn, nameIn, Directs, Refers, Live, current, HasState, HasDirectory, Meaning}
 use Rattle.simulation.proofs.Entering.{raised, raised-beside, directed-record, refers-once, is-about, lookup-enters}
-use Rattle.simulation.proofs.Frames.{inside-trans, worker-wide, record-wide, slot-near, own-head, own-entry, directs-same, slot-wide, own-slot}
-use Rattle.simulation.proofs.Frames.{overlay-inside, over-before, over-behind, over-here}
-use Rattle.simulation.proofs.OwnWorker.{Ready, Changed, SeenSlots, work-directory, nothing-changed, word-changed, put-here, put-beside}
-use Rattle.simulation.proofs.OwnWorker.{slots-before, slots-kept, toggle-kept, going, Onward, goes-on, enough₁, own₁, held-kept, live-kept}
-use Rattle.simulation.proofs.OwnWorker.{number-kept, directory-kept, few-kept, refers-back, one-word, word-here, mine, word-mine, keeps-mine}
+use Rattle.simulation.proofs.Frames.{inside-trans, worker-wide, record-wide, slot-near, own-head, own-entry, directs-same, slot-wide, own-slot, overlay-inside, over-before, over-behind, over-here}
+use Rattle.simulation.proofs.OwnWorker.{Ready, Changed, SeenSlots, work-directory, nothing-changed, word-changed, put-here, put-beside, slots-before, slots-kept, toggle-kept, going, Onward, goes-on, enough₁, own₁, held-kept, live-kept, number-kept, directory-kept, few-kept, refers-back, one-word, word-here, mine, word-mine, keeps-mine}
 use Rattle.simulation.proofs.OwnWorker.{announced-at, plan-step, stays}
 
 bit-zero : (i : ℕ) → bit 0 i ≡ 0

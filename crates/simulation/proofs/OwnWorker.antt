@@ -19,27 +19,23 @@ use Rattle.machine.specs.Records.{Name, Slot, bucketOf, Cells, Reads, Worker, M
 use Rattle.machine.specs.Words.{wordsNeeded}
 use Rattle.machine.specs.Steps.{counted, reported}
 use Rattle.machine.proofs.Base.{assign-at, assign-elim}
-use Rattle.machine.proofs.Whereabouts.{Holds}
+use Rattle.machine.proofs.Whereabouts.{Holds, Past}
 use Rattle.machine.proofs.Counter.{swapD, state, PC, inD, phaseOf}
 use Rattle.machine.proofs.Inv.{Task, Announced, SlotFacts, about, held, own}
-use Rattle.machine.proofs.Whereabouts.{Past}
 use Rattle.machine.proofs.Keeping.{goes}
 use Rattle.machine.proofs.Tasks.{Good}
 use Rattle.machine.proofs.Transitions.{taskOf, tasksOf}
 use Rattle.bucket.specs.State.{bit}
 use Rattle.bucket.specs.Items.{bitsOf, SoundSlots}
-use Rattle.memory.specs.Parts.{part}
+use Rattle.lists.specs.Parts.{part}
 use Rattle.memory.specs.Layout.{slot, worker, record′, startOf, sizeOf}
-use Rattle.memory.proofs.PartLaws.{getD-part}
-use Rattle.table.specs.Shape.{word}
-use Rattle.table.specs.Places.{heldBy}
+use Rattle.lists.proofs.PartLaws.{getD-part}
+use Rattle.layout.specs.Shape.{word}
+use Rattle.layout.specs.Places.{heldBy}
 use Rattle.table.specs.Turns.{stepIn, updateAt}
-use Rattle.simulation.specs.Meaning.{at, slotIn, nameIn, operationIn, Keeps, Refers, Live, referred, HasState, HasDirectory, HasWork, Agree, Marks}
-use Rattle.simulation.specs.Meaning.{Meaning}
+use Rattle.simulation.specs.Meaning.{at, slotIn, nameIn, operationIn, Keeps, Refers, Live, referred, HasState, HasDirectory, HasWork, Agree, Marks, Meaning}
 use Rattle.simulation.proofs.Entering.{raised, raised-own, raised-count, raised-beside, raised-enough, held-record, update-enters, Follows}
-use Rattle.simulation.proofs.Frames.{at-here, at-beside, set-inside, inside-trans, worker-wide, record-wide, slot-near, name-same, OwnWords}
-use Rattle.simulation.proofs.Frames.{own-head}
-use Rattle.simulation.proofs.Frames.{own-record, own-means}
+use Rattle.simulation.proofs.Frames.{at-here, at-beside, set-inside, inside-trans, worker-wide, record-wide, slot-near, name-same, OwnWords, own-head, own-record, own-means}
 
 -- words that mean a machine, and a worker whose step or call is asked for
 pub record Ready (s : Settings) (l : List ℕ) (m : Machine) (w : ℕ) : Type 0 where

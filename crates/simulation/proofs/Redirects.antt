@@ -17,14 +17,13 @@ use Rattle.machine.specs.DirectoryPass.{leafOf}
 use Rattle.machine.specs.Words.{wordsNeeded}
 use Rattle.machine.specs.Steps.{counted, reported}
 use Rattle.machine.proofs.Base.{if-eq, eq-elim}
-use Rattle.machine.proofs.Counter.{Two, inD, swapD}
+use Rattle.machine.proofs.Counter.{Two, inD, swapD, afterD}
 use Rattle.machine.proofs.Inv.{Task, leaf, leafBody, DirectoryFresh, IsMade, Grown, Worked}
 use Rattle.machine.proofs.Transitions.{taskOf, tasksOf, redirectedCells}
-use Rattle.machine.proofs.Counter.{afterD}
 use Rattle.memory.specs.Layout.{worker, startOf}
-use Rattle.table.specs.Shape.{word}
-use Rattle.table.specs.Numbers.{freshDirectory}
-use Rattle.table.specs.Splits.{resolvedAt, nothingToSplit, redirectedAt}
+use Rattle.layout.specs.Shape.{word}
+use Rattle.layout.specs.Numbers.{freshDirectory}
+use Rattle.engine.specs.Splits.{resolvedAt, nothingToSplit, redirectedAt}
 use Rattle.simulation.specs.Meaning.{at, current, HasDirectory, HasWork, Marked, Marks, Meaning}
 use Rattle.simulation.proofs.Frames.{own-head}
 use Rattle.simulation.proofs.Entering.{update-enters, raised, raised-beside}

@@ -34,11 +34,11 @@ use Rattle.machine.proofs.Advance.{advance}
 use Rattle.machine.proofs.Transfer.{RepliesAlike, transfer}
 use Rattle.machine.proofs.Claim.{demand3}
 use Rattle.machine.proofs.Transitions.{tasksOf}
-use Rattle.memory.specs.Parts.{overlay}
+use Rattle.lists.specs.Parts.{overlay}
 use Rattle.memory.specs.Layout.{worker, startOf}
-use Rattle.table.specs.Shape.{strange, shapeOf}
+use Rattle.layout.specs.Shape.{strange, shapeOf}
 use Rattle.table.specs.Turns.{stepIn, stepWords, callIn, callWords, freshWords, openedWords, openWords}
-use Rattle.table.specs.Rows.{shown, rows, listingWords}
+use Rattle.rows.specs.Rows.{shown, rows, listingWords}
 use Rattle.simulation.specs.Lent.{Typed, AllTyped, listingOn, shownAs, lentWords, Demand3OnWords}
 use Rattle.simulation.specs.Meaning.{Meaning}
 use Rattle.simulation.proofs.Entering.{worker-start}

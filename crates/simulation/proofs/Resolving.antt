@@ -18,16 +18,15 @@ use Rattle.machine.specs.Records.{bucketOf, Name, Body, kept, made, Copy, Slot,
 use Rattle.machine.specs.BucketPass.{splittable}
 use Rattle.machine.specs.DirectoryPass.{copyOf, leafOf, nameOf, plant, takeSlots}
 use Rattle.machine.proofs.Base.{if-elim}
-use Rattle.machine.proofs.Copies.{nameAt, Inside, Coherent, within, name-at, same-leaf, leafOf-copyOf}
+use Rattle.machine.proofs.Copies.{nameAt, Inside, Coherent, within, name-at, same-leaf, leafOf-copyOf, due}
 use Rattle.machine.proofs.Inv.{leaf, leafBody, body, resolved, Grown}
-use Rattle.machine.proofs.Copies.{due}
 use Rattle.machine.proofs.Resolve.{taken-inside, taken-outside}
 use Rattle.memory.specs.Layout.{worker, record′, startOf}
 use Rattle.bucket.specs.State.{bit}
-use Rattle.table.specs.Shape.{word}
-use Rattle.table.specs.Places.{readAt, recordOf}
-use Rattle.table.specs.Engine.{markedAt, recordFor}
-use Rattle.table.specs.Splits.{duesAt, takenAll, resolvedAt}
+use Rattle.layout.specs.Shape.{word}
+use Rattle.layout.specs.Places.{readAt, recordOf}
+use Rattle.engine.specs.Engine.{markedAt, recordFor}
+use Rattle.engine.specs.Splits.{duesAt, takenAll, resolvedAt}
 use Rattle.simulation.specs.Meaning.{at, nameIn, accountIn, Directs}
 use Rattle.simulation.proofs.Frames.{keeps-same, worker-wide}
 use Rattle.simulation.proofs.Entering.{directed-record}

@@ -23,10 +23,9 @@ use Rattle.machine.specs.Calls.{contents}
 use Rattle.machine.proofs.Base.{if-elim, if-false, if-eq, if-ne}
 use Rattle.machine.proofs.Bits.{bits-below, representative, bits-representative}
 use Rattle.machine.proofs.Tables.{Above, Ascending, having-having}
-use Rattle.machine.proofs.Copies.{Coherent, within, leafOf-copyOf}
+use Rattle.machine.proofs.Copies.{Coherent, within, leafOf-copyOf, grove-name, grove-of}
 use Rattle.machine.proofs.Listing.{contents-is}
 use Rattle.machine.proofs.Inv.{leaf, leafBody}
-use Rattle.machine.proofs.Copies.{grove-name, grove-of}
 use Rattle.machine.proofs.Tasks.{Good}
 use Rattle.machine.proofs.Explain.{Parts}
 use Rattle.bucket.specs.declared.BucketState.{BucketState}
@@ -36,9 +35,9 @@ use Rattle.memory.specs.Layout.{record′, startOf, totalsFrom}
 use Rattle.memory.specs.Loads.{least, copied, loadedState}
 use Rattle.memory.proofs.Runs.{getD-copied}
 use Rattle.memory.proofs.States.{least-same}
-use Rattle.table.specs.Shape.{word, directoryStart}
-use Rattle.table.specs.Places as Places
-use Rattle.table.specs.Rows.{entryRecord, rowAt, rowsIn, rowsOf, rowsFrom, rows}
+use Rattle.layout.specs.Shape.{word, directoryStart}
+use Rattle.layout.specs.Places as Places
+use Rattle.rows.specs.Rows.{entryRecord, rowAt, rowsIn, rowsOf, rowsFrom, rows}
 use Rattle.simulation.specs.Meaning.{at, current, Meaning}
 use Rattle.simulation.proofs.Entering.{directed-record, at-first}
 

@@ -15,10 +15,10 @@ use Rattle.interface.specs.declared.Settings.{Settings}
 use Rattle.machine.specs.Choice.{if_then_else_}
 use Rattle.machine.proofs.Base.{no-both, if-elim, if-true, if-false}
 use Rattle.memory.specs.Layout.{worker, record′, poolSize, startOf}
-use Rattle.table.specs.Shape.{word, directoryStart}
-use Rattle.table.specs.Places.{workerAt}
-use Rattle.table.specs.Numbers.{leastFree}
-use Rattle.table.specs.Splits.{recordStart, poolOf, firstEntry, currentAt, heldByAny, usedAt, spareFrom, spareOf}
+use Rattle.layout.specs.Shape.{word, directoryStart}
+use Rattle.layout.specs.Places.{workerAt}
+use Rattle.layout.specs.Numbers.{leastFree}
+use Rattle.layout.specs.Records.{recordStart, poolOf, firstEntry, currentAt, heldByAny, usedAt, spareFrom, spareOf}
 use Rattle.simulation.specs.Meaning.{at}
 use Rattle.simulation.proofs.Numbering.{Among, least-free, any-some, some-any}
 use Rattle.simulation.proofs.Entering.{worker-start, entry-start, record-start, at-first}

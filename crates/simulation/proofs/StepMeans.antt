@@ -11,9 +11,7 @@ use Rattle.machine.specs.Records.{Cells, Reads, Machine}
 use Rattle.machine.specs.Steps.{counted, step}
 use Rattle.machine.proofs.Counter.{slotB, swap, slotD, swapD, state}
 use Rattle.machine.proofs.Inv.{Task}
-use Rattle.machine.proofs.Transitions.{taskOf, tasksOf, Transition}
-use Rattle.machine.proofs.Transitions.{looks, finds, announces, readsD, flips, readsS, readsT, slotsB, lastB, swaps, misses, checksD, answers}
-use Rattle.machine.proofs.Transitions.{passes, copies, slotsD, lastD, resizes, lastState, redirects, missesD}
+use Rattle.machine.proofs.Transitions.{taskOf, tasksOf, Transition, looks, finds, announces, readsD, flips, readsS, readsT, slotsB, lastB, swaps, misses, checksD, answers, passes, copies, slotsD, lastD, resizes, lastState, redirects, missesD}
 use Rattle.table.specs.Turns.{stepIn}
 use Rattle.simulation.specs.Meaning.{Meaning}
 use Rattle.simulation.proofs.Entering.{simulated, simulated-idle}

@@ -15,11 +15,10 @@ use Rattle.machine.specs.Words.{wordsNeeded}
 use Rattle.machine.proofs.Base.{if-elim, if-true, if-false}
 use Rattle.memory.specs.Layout.{header, entry, record′, poolSize, startOf}
 use Rattle.memory.proofs.Regions.{region-inside}
-use Rattle.table.specs.Shape.{word}
-use Rattle.table.specs.Splits.{deepenedAt}
+use Rattle.layout.specs.Shape.{word}
+use Rattle.engine.specs.Splits.{deepenedAt}
 use Rattle.simulation.specs.Meaning.{at}
-use Rattle.simulation.proofs.Frames.{header-start, header-wide, entry-wide, record-wide}
-use Rattle.simulation.proofs.Frames.{Inside, elsewhere-inside, set-inside}
+use Rattle.simulation.proofs.Frames.{header-start, header-wide, entry-wide, record-wide, Inside, elsewhere-inside, set-inside}
 use Rattle.simulation.proofs.BucketWords.{Stored}
 use Rattle.simulation.proofs.Halves.{inside-frame, frame-refl, Frame, SameRecord, Deepened, Restated}
 

@@ -20,8 +20,7 @@ use Rattle.machine.specs.BucketPass.{settledAt, full, holdsBack, splittable, ca
 use Rattle.machine.specs.DirectoryPass.{leafOf, nameOf, plant, child, split, splitLeaf, splitWhile, carryLeaf, takeUpdate, takeSlot, takeSlots}
 use Rattle.machine.specs.Words.{wordsNeeded}
 use Rattle.machine.proofs.Base.{no-both, if-eq, eq-elim, and-parts}
-use Rattle.machine.proofs.Copies.{leaf-split, Coherent, within, own-leaf, MadeIn, refined-takeSlots, splittable-below}
-use Rattle.machine.proofs.Copies.{due}
+use Rattle.machine.proofs.Copies.{leaf-split, Coherent, within, own-leaf, MadeIn, refined-takeSlots, splittable-below, due}
 use Rattle.machine.proofs.Inv.{leaf, IsMade}
 use Rattle.bucket.specs.declared.BucketState.{BucketState}
 use Rattle.bucket.specs.State.{bit, fullOf, carryOf}
@@ -30,9 +29,10 @@ use Rattle.bucket.proofs.Ties.{full-means, carry-means}
 use Rattle.memory.proofs.States.{least-same, least-bound}
 use Rattle.memory.specs.Loads.{loadedState, storedState}
 use Rattle.memory.specs.Layout.{worker, record′, poolSize, startOf}
-use Rattle.table.specs.Shape.{word}
-use Rattle.table.specs.Places.{readAt, recordOf}
-use Rattle.table.specs.Splits.{spareOf, halfAt, deepenedAt, splitAt, splitWhileAt, carriedAt, takenAt, takenAll}
+use Rattle.layout.specs.Shape.{word}
+use Rattle.layout.specs.Places.{readAt, recordOf}
+use Rattle.layout.specs.Records.{spareOf}
+use Rattle.engine.specs.Splits.{halfAt, deepenedAt, splitAt, splitWhileAt, carriedAt, takenAt, takenAll}
 use Rattle.simulation.specs.Meaning.{at, nameIn, Keeps, Directs}
 use Rattle.simulation.proofs.Frames.{worker-wide, keeps-same}
 use Rattle.simulation.proofs.Halves.{Deepened, Halved}

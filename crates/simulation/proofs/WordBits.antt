@@ -11,7 +11,7 @@ use lib.Pow.{pow-add, pow-pos, shr-shr}
 use Rattle.machine.proofs.Base.{eq-elim}
 use Rattle.bucket.specs.State.{bit}
 use Rattle.bucket.specs.Items.{bitsOf}
-use Rattle.table.specs.Engine.{flipBit}
+use Rattle.engine.specs.Engine.{flipBit}
 
 pub bit-below : (x j : ℕ) → bit x j < 2
 unfolding bit

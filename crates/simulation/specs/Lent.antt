@@ -16,10 +16,10 @@ use Rattle.machine.specs.Choice.{if_then_else_}
 use Rattle.machine.specs.Words.{wordsNeeded}
 use Rattle.machine.specs.Calls.{Listing, lists, declines, listingOf}
 use Rattle.machine.specs.History.{System, Entry, calling, stepping, showing, reopening, Linearizable}
-use Rattle.memory.specs.Parts.{overlay}
-use Rattle.table.specs.Shape.{strange, shapeOf}
+use Rattle.lists.specs.Parts.{overlay}
+use Rattle.layout.specs.Shape.{strange, shapeOf}
 use Rattle.table.specs.Turns.{stepWords, callWords, openWords}
-use Rattle.table.specs.Rows.{Shown, rows}
+use Rattle.rows.specs.Rows.{Shown, rows}
 
 -- an account of 32 bits and a total of 64, as the calls take them
 abbrev pub Typed : Entry → Type 0

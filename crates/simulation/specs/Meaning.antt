@@ -19,10 +19,10 @@ use Rattle.machine.proofs.Transitions.{tasksOf}
 use Rattle.machine.proofs.Whereabouts.{Holds, Past, inBuckets, inDirectory, sinceState, sinceCopy}
 use Rattle.bucket.specs.State.{bit}
 use Rattle.bucket.specs.Items.{bitsOf, updateOf, readSlot, SoundSlots, Means}
-use Rattle.memory.specs.Parts.{part}
+use Rattle.lists.specs.Parts.{part}
 use Rattle.memory.specs.Layout.{Region, slot, worker, entry, record′, poolSize, startOf}
 use Rattle.memory.specs.Loads.{loadedState}
-use Rattle.table.specs.Shape.{word, firstWord}
+use Rattle.layout.specs.Shape.{word, firstWord}
 
 -- two comparisons say the same
 pub record Agree (a b c d : ℕ) : Type 0 where

@@ -1,14 +1,10 @@
--- Overlays composed: a run laid behind a run, a word written behind a run, and a fresh table's words laid part by part.
--- Rests on the library's laws of lists and on the definition of a fresh table's words.
+-- A fresh table's words laid part by part, and the cases of opening. Rests on the laws of overlays, and on the definition of a fresh table's words.
 use Prim.Native.Nat.{ℕ, _+_, _-_, _*_, _^_, _≤_, _<_}
-use native.Mathlib.Nat.{add-zero}
-use native.Mathlib.Numerals.{add-one}
 use native.Mathlib.Omega.{arith}
-use mathlib.Core.Path.{_≡_, refl, sym, _∙_, ap}
+use mathlib.Core.Path.{_≡_, refl, sym, _∙_}
 use mathlib.Core.Bool.{Bool, true, false}
-use mathlib.Core.List.{List, [], _∷_, _++_, append-assoc, append-nil}
-use lib.ListN.{length, set, take, drop, replicate, length-append, length-drop, length-replicate, take-append-drop}
-use lib.Seq.{length-take-le, take-at, drop-append-add, drop-drop, set-split, append-snoc}
+use mathlib.Core.List.{List, [], _∷_, _++_}
+use lib.ListN.{length, set, replicate, length-append, length-replicate}
 use borrow.Author.Tests.{le-leb, lt-leb}
 use Rattle.interface.specs.Limits.{inRange, built}
 use Rattle.interface.specs.declared.Settings.{Settings}
@@ -19,48 +15,11 @@ use Rattle.interface.specs.declared.Opened.{Opened}
 use Rattle.interface.proofs.Laws.{range-of, wrong-settings, right-settings}
 use Rattle.machine.specs.Words.{wordsNeeded}
 use Rattle.machine.proofs.Base.{if-true, if-false}
-use Rattle.memory.specs.Parts.{overlay}
-use Rattle.table.specs.Shape.{firstWord, directoryStart}
-use Rattle.table.specs.Splits.{recordStart}
+use Rattle.lists.specs.Parts.{overlay}
+use Rattle.lists.proofs.PartLaws.{overlay-nil, overlay-join, overlay-more}
+use Rattle.layout.specs.Shape.{firstWord, directoryStart}
+use Rattle.layout.specs.Records.{recordStart}
 use Rattle.table.specs.Turns.{freshWords, neededFor, openedWords, openWords}
-
-laid : {A : Type 0} (l : List A) (i : ℕ) (v : A) → i < length l → set l i v ≡ overlay l i (v ∷ [])
-unfolding overlay
-laid l i v h = set-split l i v h ∙ rw (append-snoc, add-one)
-
-module _ {A : Type 0} (l : List A) (at : ℕ) where
-  pub overlay-none : overlay l at [] ≡ l
-  unfolding overlay
-  overlay-none = rw (add-zero, append-nil, take-append-drop)
-
-  module _ (xs : List A) where
-    front : at ≤ length l → length (take at l ++ xs) ≡ at + length xs
-    front h = rw (length-append, length-take-le at l h)
-
-    length-laid : at + length xs ≤ length l → length (overlay l at xs) ≡ length l
-    unfolding overlay
-    length-laid h = rw (length-append (take at l ++ xs), front (omega arith), length-drop) (omega arith)
-
-    -- a run laid behind a run
-    pub overlay-join : (ys : List A) → at ≤ length l → overlay (overlay l at xs) (at + length xs) ys ≡ overlay l at (xs ++ ys)
-    unfolding overlay
-    overlay-join ys h =
-        let p : List A = take at l ++ xs in
-        let rest : List A = drop (at + length xs) l in
-        let e = front h in
-        let n : at + length xs + length ys ≡ at + length (xs ++ ys) = omega (arith, length-append xs ys) in
-        let behind : drop (at + length xs + length ys) (p ++ rest) ≡ drop (at + length (xs ++ ys)) l =
-        ap (λ (k : ℕ). drop (k + length ys) (p ++ rest)) (sym e)
-        ∙ drop-append-add p rest (length ys)
-        ∙ drop-drop (length ys) (at + length xs) l
-        ∙ ap (λ (k : ℕ). drop k l) n in
-        ap (λ (f : List A). f ++ ys ++ drop (at + length xs + length ys) (p ++ rest)) (take-at p rest (at + length xs) e)
-        ∙ ap (λ (r : List A). p ++ ys ++ r) behind
-        ∙ ap (λ (f : List A). f ++ drop (at + length (xs ++ ys)) l) (append-assoc (take at l) xs ys)
-
-    -- a word written behind a run
-    pub overlay-next : (v : A) → at + length xs < length l → set (overlay l at xs) (at + length xs) v ≡ overlay l at (xs ++ v ∷ [])
-    overlay-next v h = laid (overlay l at xs) (at + length xs) v (rw (length-laid (omega arith)) h) ∙ overlay-join (v ∷ []) (omega arith)
 
 -- ---- the words of a fresh table
 
@@ -73,13 +32,13 @@ laid-behind l w n xs ys e k =
 laid-one : (l w : List ℕ) (n v : ℕ) (xs : List ℕ) → w ≡ overlay l 0 xs → n ≡ length xs → n < length l → set w n v ≡ overlay l 0 (xs ++ v ∷ [])
 laid-one l w n v xs e k h =
     let m : n ≡ 0 + length xs = omega arith in
-    rw (e, m) (overlay-next l 0 xs v (omega arith))
+    rw (e, m) (overlay-more l 0 xs v (omega arith))
 
 pub header-laid :
     (l l₁ l₂ l₃ l₄ l₅ : List ℕ) (x y : ℕ) → 5 ≤ length l → l₁ ≡ set l 0 x → l₂ ≡ set l₁ 1 y → l₃ ≡ set l₂ 2 0 → l₄ ≡ set l₃ 3 0 → l₅ ≡ set l₄ 4 1
     → l₅ ≡ overlay l 0 (x ∷ y ∷ 0 ∷ 0 ∷ 1 ∷ [])
 header-laid l l₁ l₂ l₃ l₄ l₅ x y h e₁ e₂ e₃ e₄ e₅ =
-    let f₁ = e₁ ∙ laid-one l l 0 x [] (sym (overlay-none l 0)) refl (omega arith) in
+    let f₁ = e₁ ∙ laid-one l l 0 x [] (sym (overlay-nil l 0)) refl (omega arith) in
     let f₂ = e₂ ∙ laid-one l l₁ 1 y (x ∷ []) f₁ refl (omega arith) in
     let f₃ = e₃ ∙ laid-one l l₂ 2 0 (x ∷ y ∷ []) f₂ refl (omega arith) in
     let f₄ = e₄ ∙ laid-one l l₃ 3 0 (x ∷ y ∷ 0 ∷ []) f₃ refl (omega arith) in

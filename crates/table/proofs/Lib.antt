@@ -1,10 +1,2 @@
-pub mod Bits
-pub mod Cases
 pub mod Fresh
-pub mod Phases
-pub mod Pool
-pub mod Positions
-pub mod RowLaws
-pub mod Searches
-pub mod Splitting
 pub mod TurnLaws

@@ -1,19 +1,19 @@
--- Laws of turns: words that pass the checks fit; the phases of a plan; and each case of a step, a lookup, a run and a call.
+-- Laws of turns: the phases of a plan, and each case of a step, a lookup, a run and a call.
 -- Rests on the definitions of turns, and on the machine's plan.
-use Prim.Native.Nat.{ℕ, zero, suc, _+_, _-_, _/_, _%_, _≤_, _<_}
+use Prim.Native.Nat.{ℕ, zero, suc, _+_, _-_, _%_, _≤_, _<_}
 use native.Mathlib.Numerals.{add-one}
 use native.Mathlib.Omega.{arith}
 use mathlib.Core.Path.{_≡_, refl, sym, _∙_, ap, subst}
 use mathlib.Core.Logic.{_≢_, _⊎_, ⊎-elim}
-use mathlib.Core.Bool.{Bool, true, false, not, _||_, or-true}
+use mathlib.Core.Bool.{Bool, true, false, or-true}
 use mathlib.Core.List.{List, [], _∷_, _++_}
 use mathlib.Core.Option.{Option, none, some}
-use lib.Dec.{ltb, leb, eqb}
+use lib.Dec.{leb, eqb}
 use lib.ListN.{length, getD, set}
 use lib.IntN.{ℤ}
 use mir.Syntax.{w64}
 use mir.Val.{toZ, ofZ}
-use borrow.Author.Tests.{ltb-false, eq-eqb, ne-eqb, lt-ltb, le-ltb, le-leb, lt-leb}
+use borrow.Author.Tests.{eq-eqb, ne-eqb, lt-ltb, le-ltb, le-leb, lt-leb}
 use Rattle.interface.specs.declared.Settings.{Settings}
 use Rattle.interface.specs.declared.Answer.{Answer}
 use Rattle.interface.specs.declared.Stepped.{Stepped}
@@ -22,52 +22,18 @@ use Rattle.interface.specs.declared.Refusal.{Refusal}
 use Rattle.interface.specs.declared.Called.{Called}
 use Rattle.interface.specs.declared.Ran.{Ran}
 use Rattle.machine.specs.Choice.{if_then_else_, _and_}
-use Rattle.machine.specs.Plan.{Phase, announce, readDirectory, flipToggle, readState, readToggle, swapState, checkState, copyDirectory, swapDirectory, readSlot, resizeFor}
-use Rattle.machine.specs.Plan.{each, bucketRound, bucketPass, check, directoryRound, directoryPass, pass, plan, phase}
-use Rattle.machine.proofs.Base.{no-both, if-true, if-false}
+use Rattle.machine.specs.Plan.{Phase, announce, readDirectory, flipToggle, readState, readToggle, swapState, checkState, copyDirectory, swapDirectory, readSlot, resizeFor, each, bucketRound, bucketPass, check, directoryRound, directoryPass, pass, plan, phase}
+use Rattle.machine.proofs.Base.{if-true, if-false}
 use Rattle.memory.specs.Loads.{least}
-use Rattle.table.specs.declared.phase.Phase as Code
-use Rattle.table.specs.Shape.{word, mark, settingsOf, directoryStart, strange, shapeOf, Fits}
-use Rattle.table.specs.Places.{workerAt, heldBy}
-use Rattle.table.specs.Engine.{settledWord, answerWordAt, checkedAt}
+use Rattle.engine.specs.declared.phase.Phase as Code
+use Rattle.layout.specs.Shape.{word, strange, shapeOf, Fits}
+use Rattle.layout.specs.Places.{workerAt, heldBy}
+use Rattle.engine.specs.Engine.{settledWord, answerWordAt, checkedAt}
 use Rattle.bucket.specs.Items.{answerOf}
-use Rattle.table.specs.Turns.{planned, endedAt, checkAt, updateAt, foundAt, lookedAt, lookupAt, operationAt, stepIn, stepWords, begunAt, callIn, callWords, lastOf, orElse, runIn, runWords}
-use Rattle.table.proofs.Positions.{held-inside}
-
--- ---- words that pass the checks
-
-or-right : (a b : Bool) → (a || b) ≡ false → b ≡ false
-or-right true b e = absurd (no-both refl e)
-or-right false b e = e
-
-pub fits-of : (l : List ℕ) → strange l ≡ false → Fits l (shapeOf l)
-unfolding strange settingsOf
-fits-of l e =
-    let before : Bool = ltb (length l) 150 || not (eqb (word l 0 / 2_048) mark) || ltb (length l) (word l 1) in
-    let h = ltb-false (length l) (directoryStart (settingsOf (word l 0) .workers) + 54) (or-right before _ e) in
-    record {
-      least = omega arith;
-      workers = omega arith;
-      least-capacity = omega arith;
-      capacity = omega arith;
-      depth = omega arith;
-      room = h;
-    }
-
--- ---- the first two checks of a step, a run and a call
-
-pub strange-first : {A : Type 0} (l : List ℕ) (x : Bool) (a b : A) → x ≡ strange l → x ≡ true → a ≡ if strange l then a else b
-strange-first l x a b tested e = sym (if-true a b (sym tested ∙ e))
-
-module _ (l : List ℕ) (x : Bool) (g : Settings) (tested : x ≡ strange l) where
-  pub fits-read : x ≡ false → g ≡ shapeOf l → Fits l g
-  fits-read e h = rw h (fits-of l (sym tested ∙ e))
-
-  pub stranger-next : {A : Type 0} (a b c : A) (w : ℕ) → x ≡ false → g ≡ shapeOf l → g .workers ≤ w → b ≡ if strange l then a else if leb (shapeOf l .workers) w then b else c
-  stranger-next a b c w e h n = sym (if-false a _ (sym tested ∙ e) ∙ rw (← h) (if-true b c (le-leb (g .workers) w n)))
-
-  pub both-passed : {A : Type 0} (a b c : A) (w : ℕ) → x ≡ false → g ≡ shapeOf l → w < g .workers → c ≡ if strange l then a else if leb (shapeOf l .workers) w then b else c
-  both-passed a b c w e h n = sym (if-false a _ (sym tested ∙ e) ∙ rw (← h) (if-false b c (lt-leb (g .workers) w n)))
+use Rattle.engine.specs.Phases.{planned}
+use Rattle.table.specs.Turns.{endedAt, checkAt, updateAt, foundAt, lookedAt, lookupAt, operationAt, stepIn, stepWords, begunAt, callIn, callWords, lastOf, orElse, runIn, runWords}
+use Rattle.layout.proofs.Checks.{both-passed}
+use Rattle.layout.proofs.Positions.{held-inside}
 
 -- ---- the workers that a phase names are below n
 

@@ -1,4 +1,4 @@
--- A whole step, a call, an opening and the listing on the words, with their refusals in document 01's order, for any words.
+-- A whole step, a call and an opening on the words, with their refusals in document 01's order, for any words.
 -- Rests on the steps' definitions, the directory swap, and the machine's plan.
 use Prim.Native.Nat.{ℕ, zero, suc, _+_, _-_, _%_, _^_}
 use mathlib.Core.Bool.{not, _||_}
@@ -19,31 +19,17 @@ use Rattle.interface.specs.declared.Opened.{Opened}
 use Rattle.interface.specs.declared.Built.{Built}
 use Rattle.interface.specs.declared.Needed.{Needed}
 use Rattle.interface.specs.declared.Ran.{Ran}
-use Rattle.table.specs.declared.phase.Phase as Code
-use Rattle.machine.specs.Choice.{if_then_else_, _and_}
+use Rattle.machine.specs.Choice.{if_then_else_}
 use Rattle.machine.specs.Plan.{Phase, announce, readDirectory, flipToggle, readState, readToggle, swapState, checkState, copyDirectory, swapDirectory, readSlot, resizeFor, phase}
 use Rattle.machine.specs.Words.{wordsNeeded}
 use Rattle.bucket.specs.Items.{answerOf}
-use Rattle.memory.specs.Parts.{overlay}
+use Rattle.lists.specs.Parts.{overlay}
 use Rattle.memory.specs.Loads.{least}
-use Rattle.table.specs.Shape.{word, strange, shapeOf, firstWord, directoryStart}
-use Rattle.table.specs.Places.{workerAt, heldBy}
-use Rattle.table.specs.Engine.{announcedAt, slotReadAt, heldAt, flippedAt, stateReadAt, toggleReadAt, directoryReadAt, swappedAt, stateStepAt, checkedAt}
-use Rattle.table.specs.Splits.{redirectedAt, recordStart}
-
--- the machine's name for a kind of step
-unfoldable pub planned : Code.Phase → Phase
-planned Code.Phase.Announce = announce
-planned Code.Phase.ReadDirectory = readDirectory
-planned Code.Phase.Flip = flipToggle
-planned Code.Phase.ReadState = readState
-planned Code.Phase.ReadToggle = readToggle
-planned (Code.Phase.ReadSlot j) = readSlot j
-planned Code.Phase.Swap = swapState
-planned Code.Phase.Check = checkState
-planned Code.Phase.CopyDirectory = copyDirectory
-planned (Code.Phase.StateStep j) = resizeFor j
-planned Code.Phase.SwapDirectory = swapDirectory
+use Rattle.layout.specs.Shape.{word, strange, shapeOf, firstWord, directoryStart}
+use Rattle.layout.specs.Places.{workerAt, heldBy}
+use Rattle.engine.specs.Engine.{announcedAt, slotReadAt, heldAt, flippedAt, stateReadAt, toggleReadAt, directoryReadAt, swappedAt, stateStepAt, checkedAt}
+use Rattle.engine.specs.Splits.{redirectedAt}
+use Rattle.layout.specs.Records.{recordStart}
 
 -- ---- one step
 

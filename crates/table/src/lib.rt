@@ -1,14 +1,6 @@
-// The table over lent words: how many words are needed, opening, calls, steps, and the listing. Every public function takes any words and
-// any arguments; its contract equals a definition of specs/ (Turns, Rows).
-mod numbers;
+// The table over lent words: how many words are needed, opening, calls, steps and the listing. Every public function takes any words and any arguments;
+// its contract equals a definition of specs/ (Turns), the listing a definition of crate rows.
 mod opening;
-mod phase;
-mod places;
-mod records;
-mod rows;
-mod shape;
-mod splits;
-mod steps;
 mod turns;
 
 pub use opening::open;

@@ -5,17 +5,17 @@ ghost use Prim.Native.Nat.{_≤_};
 ghost use lib.ListN.{length};
 ghost use Rattle.interface.specs.Limits.{built};
 ghost use Rattle.machine.specs.Words.{wordsNeeded};
-ghost use Rattle.memory.specs.Parts.{overlay};
-ghost use Rattle.table.specs.Shape.{firstWord};
+ghost use Rattle.lists.specs.Parts.{overlay};
+ghost use Rattle.layout.specs.Shape.{firstWord};
 ghost use Rattle.table.specs.Turns.{neededFor, freshWords, openWords};
-use crate::records::needed;
-use crate::shape::MARK;
-use crate::shape::directory_start;
 use interface::Built;
 use interface::Needed;
 use interface::Opened;
 use interface::Refusal;
 use interface::Settings;
+use layout::records::needed;
+use layout::shape::MARK;
+use layout::shape::directory_start;
 
 // How many words a table of these settings needs, or refusal 1.
 pub fn words_needed(workers: u64, capacity: u64, depth: u64) -> Needed

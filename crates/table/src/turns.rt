@@ -2,24 +2,16 @@
 ghost use mathlib.Core.Path.{_≡_};
 ghost use Prim.Native.Nat.{_+_, _≤_, _<_, _%_};
 ghost use lib.ListN.{length};
-ghost use mir.Syntax.{w64};
-ghost use mir.Val.{ofZ};
-ghost use Rattle.memory.specs.Loads.{least};
 ghost use Rattle.machine.specs.Plan.{phase};
-ghost use Rattle.table.specs.Shape.{word, Fits};
-ghost use Rattle.table.specs.Places.{workerAt, heldBy};
-ghost use Rattle.table.specs.Engine.{checkedAt};
+ghost use Rattle.layout.specs.Shape.{word, Fits};
+ghost use Rattle.layout.specs.Places.{workerAt, heldBy};
+ghost use Rattle.engine.specs.Engine.{checkedAt};
 ghost use Rattle.bucket.specs.Items.{answerOf};
-ghost use Rattle.table.specs.Turns.{endedAt, checkAt, updateAt, lookedAt, lookupAt, operationAt, stepIn, stepWords, begunAt, callIn, callWords, runIn, runWords};
-use crate::phase::Phase;
-use crate::phase::phase_of;
-use crate::places::held_by;
-use crate::places::worker_at;
-use crate::rows::size;
-use crate::shape::settings_of;
-use crate::shape::strange_words;
-use crate::splits::swap_directory;
-use crate::steps;
+ghost use Rattle.table.specs.Turns.{endedAt, checkAt, updateAt, lookedAt, lookupAt, operationAt, stepWords, begunAt, callIn, callWords, runIn, runWords};
+use engine::phase::Phase;
+use engine::phase::phase_of;
+use engine::splits::swap_directory;
+use engine::steps;
 use interface::Answer;
 use interface::Called;
 use interface::Completion;
@@ -27,6 +19,11 @@ use interface::Ran;
 use interface::Refusal;
 use interface::Settings;
 use interface::Stepped;
+use layout::places::held_by;
+use layout::places::size;
+use layout::places::worker_at;
+use layout::shape::settings_of;
+use layout::shape::strange_words;
 
 // The answer that a stored number is.
 fn answer_of(x: u64) -> Answer

@@ -4,8 +4,9 @@ use Prim.Native.Nat.{ℕ, _≤_, _-_}
 use mathlib.Core.Path.{_≡_, refl, sym, _∙_, ap}
 use native.Mathlib.Nat.{le-antisymm}
 use lib.ListN.{length}
-use Rattle.memory.specs.Parts.{part, overlay}
-use Rattle.memory.proofs.Runs.{overlay-nil, copy-more}
+use Rattle.lists.specs.Parts.{part, overlay}
+use Rattle.lists.proofs.PartLaws.{overlay-nil}
+use Rattle.memory.proofs.Runs.{copy-more}
 use borrow.Author.Needs.{needs}
 use Rattle.memory.proofs.copy.Statement.{statement}
 use Rattle.memory.proofs.copy.Tie as tie

@@ -5,8 +5,9 @@ use mathlib.Core.Path.{_≡_, refl, sym, _∙_, ap}
 use native.Mathlib.Nat.{sub-self}
 use native.Mathlib.Omega.{arith}
 use lib.ListN.{length, replicate}
-use Rattle.memory.specs.Parts.{overlay}
-use Rattle.memory.proofs.Runs.{overlay-nil, fill-more}
+use Rattle.lists.specs.Parts.{overlay}
+use Rattle.lists.proofs.PartLaws.{overlay-nil}
+use Rattle.memory.proofs.Runs.{fill-more}
 use borrow.Author.Needs.{needs}
 use Rattle.memory.proofs.fill.Statement.{statement}
 use Rattle.memory.proofs.fill.Tie as tie

@@ -7,7 +7,7 @@ use native.Mathlib.Omega.{arith}
 use lib.ListN.{length, length-append, length-set}
 use borrow.Author.Needs.{needs}
 use Rattle.lines.specs.Numerals.{digits, decimal}
-use Rattle.lines.specs.Printed.{overlay}
+use Rattle.lists.specs.Parts.{overlay}
 use Rattle.lines.proofs.Decimals.{length-decimal}
 use Rattle.lines.proofs.Overlays.{wrote, wrote-nothing, has-room, no-room, word-part-feed}
 use Rattle.lines.proofs.print.print_counted.Statement.{statement}

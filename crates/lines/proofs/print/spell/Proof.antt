@@ -6,8 +6,9 @@ use native.Mathlib.Omega.{arith}
 use lib.ListN.{length, length-set}
 use borrow.Author.Needs.{needs}
 use Rattle.lines.specs.Numerals.{digits}
-use Rattle.lines.specs.Printed.{overlay}
-use Rattle.lines.proofs.Overlays.{overlay-nil, spelled}
+use Rattle.lists.specs.Parts.{overlay}
+use Rattle.lists.proofs.PartLaws.{overlay-nil}
+use Rattle.lines.proofs.Overlays.{spelled}
 use Rattle.lines.proofs.print.spell.Statement.{statement}
 use Rattle.lines.proofs.print.spell.Tie as tie
 

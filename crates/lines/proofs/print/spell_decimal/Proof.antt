@@ -7,7 +7,8 @@ use native.Mathlib.Omega.{arith}
 use lib.ListN.{length, length-set}
 use borrow.Author.Needs.{needs}
 use Rattle.lines.specs.Numerals.{digits, decimal}
-use Rattle.lines.specs.Printed.{overlay, decimalText}
+use Rattle.lists.specs.Parts.{overlay}
+use Rattle.lines.specs.Printed.{decimalText}
 use Rattle.lines.proofs.Decimals.{length-digits}
 use Rattle.lines.proofs.Signs.{text-minus, text-plain}
 use Rattle.lines.proofs.Overlays.{byte-then}

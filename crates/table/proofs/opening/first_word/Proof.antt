@@ -1,7 +1,7 @@
 -- `first_word` is the definition `firstWord`.
 -- Rests on nothing.
 use mathlib.Core.Path.{refl}
-use Rattle.table.specs.Shape.{firstWord}
+use Rattle.layout.specs.Shape.{firstWord}
 use borrow.Author.Needs.{needs}
 use Rattle.table.proofs.opening.first_word.Statement.{statement}
 use Rattle.table.proofs.opening.first_word.Tie as tie

@@ -3,8 +3,8 @@
 use native.Mathlib.Omega.{arith}
 use mathlib.Core.Path.{refl}
 use lib.Pow.{pow-mono}
-use Rattle.table.proofs.Bits.{shift-one}
-use Rattle.table.proofs.Positions.{start-bound}
+use Rattle.engine.proofs.Bits.{shift-one}
+use Rattle.layout.proofs.Positions.{start-bound}
 use Rattle.table.proofs.Fresh.{fresh-parts, fresh-laid}
 use borrow.Author.Needs.{needs}
 use Rattle.table.proofs.opening.fresh.Statement.{statement}

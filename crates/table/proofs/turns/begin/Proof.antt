@@ -1,7 +1,7 @@
 -- `begin` writes an operation into a worker's words, as `begunAt` says.
 -- Rests on the bounds of a worker's words.
 use native.Mathlib.Omega.{arith}
-use Rattle.table.proofs.Positions.{placed}
+use Rattle.layout.proofs.Positions.{placed}
 use Rattle.table.specs.Turns.{begunAt}
 use borrow.Author.Needs.{needs}
 use Rattle.table.proofs.turns.begin.Statement.{statement}

@@ -3,7 +3,8 @@
 use native.Mathlib.Omega.{arith}
 use mathlib.Core.Path.{sym, _∙_, ap}
 use mir.Facts.{toZ-ofZ}
-use Rattle.table.proofs.TurnLaws.{fits-of, fits-read, strange-first, stranger-next, call-words}
+use Rattle.layout.proofs.Checks.{fits-of, fits-read, strange-first, stranger-next}
+use Rattle.table.proofs.TurnLaws.{call-words}
 use Rattle.table.specs.Turns.{callIn, callWords}
 use borrow.Author.Needs.{needs}
 use Rattle.table.proofs.turns.call.Statement.{statement}

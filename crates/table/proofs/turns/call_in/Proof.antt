@@ -7,7 +7,7 @@ use mir.Syntax.{w64}
 use mir.Val.{ofZ}
 use mir.Facts.{toZ-ofZ}
 use Rattle.machine.proofs.Base.{if-eq, if-ne}
-use Rattle.table.proofs.Positions.{placed}
+use Rattle.layout.proofs.Positions.{placed}
 use Rattle.table.proofs.TurnLaws.{call-busy, call-kind, call-lookup, call-spent, call-update}
 use borrow.Author.Needs.{needs}
 use Rattle.table.proofs.turns.call_in.Statement.{statement}

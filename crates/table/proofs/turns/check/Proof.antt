@@ -1,7 +1,7 @@
 -- `check` ends an operation, or lets it go on, as `checkAt` says of what `checkedAt` finds: a case for each `return`.
 -- Rests on the laws of a check, and on the bounds of words that fit.
 use native.Mathlib.Omega.{arith}
-use Rattle.table.proofs.Positions.{placed}
+use Rattle.layout.proofs.Positions.{placed}
 use Rattle.table.proofs.TurnLaws.{held-room, check-settled, check-room, check-deep, check-crowded}
 use borrow.Author.Needs.{needs}
 use Rattle.table.proofs.turns.check.Statement.{statement}

@@ -1,7 +1,7 @@
 -- `finish` ends an operation, as `endedAt` says.
 -- Rests on the bounds of a worker's words.
 use native.Mathlib.Omega.{arith}
-use Rattle.table.proofs.Positions.{placed}
+use Rattle.layout.proofs.Positions.{placed}
 use Rattle.table.specs.Turns.{endedAt}
 use borrow.Author.Needs.{needs}
 use Rattle.table.proofs.turns.finish.Statement.{statement}

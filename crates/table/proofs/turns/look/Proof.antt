@@ -3,7 +3,8 @@
 use Prim.Native.Nat.{_≤_, _-_}
 use mathlib.Core.Path.{_≡_, sym, _∙_, ap}
 use Rattle.interface.specs.declared.Answer.{Answer}
-use Rattle.table.proofs.RowLaws.{size-limit, total-kept}
+use Rattle.layout.proofs.Positions.{size-limit}
+use Rattle.memory.proofs.Totals.{total-kept}
 use Rattle.table.proofs.TurnLaws.{found-start, found-here, found-later, found-none}
 use Rattle.table.specs.Turns.{foundAt, lookedAt}
 use borrow.Author.Needs.{needs}

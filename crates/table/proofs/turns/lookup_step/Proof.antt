@@ -5,7 +5,7 @@ use mathlib.Core.Path.{ap}
 use mathlib.Core.List.{List}
 use Prim.Native.Nat.{ℕ}
 use Rattle.interface.specs.declared.Stepped.{Stepped}
-use Rattle.table.proofs.Positions.{placed}
+use Rattle.layout.proofs.Positions.{placed}
 use Rattle.table.proofs.TurnLaws.{held-room, lookup-later}
 use Rattle.table.specs.Turns.{lookupAt}
 use borrow.Author.Needs.{needs}

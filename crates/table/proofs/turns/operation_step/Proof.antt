@@ -3,7 +3,7 @@
 use Prim.Native.Nat.{ℕ, _%_}
 use native.Mathlib.Omega.{arith}
 use mathlib.Core.Path.{ap}
-use Rattle.table.proofs.Positions.{placed}
+use Rattle.layout.proofs.Positions.{placed}
 use Rattle.table.proofs.TurnLaws.{operation-lookup, operation-update}
 use borrow.Author.Needs.{needs}
 use Rattle.table.proofs.turns.operation_step.Statement.{statement}

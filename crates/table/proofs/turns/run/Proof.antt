@@ -3,8 +3,9 @@
 use native.Mathlib.Omega.{arith}
 use mathlib.Core.Path.{sym, _∙_}
 use mathlib.Core.Logic.{⊎-elim}
-use Rattle.table.proofs.Positions.{placed}
-use Rattle.table.proofs.TurnLaws.{fits-of, fits-read, strange-first, stranger-next, run-none, run-goes, least-small, least-large}
+use Rattle.layout.proofs.Positions.{placed}
+use Rattle.layout.proofs.Checks.{fits-of, fits-read, strange-first, stranger-next}
+use Rattle.table.proofs.TurnLaws.{run-none, run-goes, least-small, least-large}
 use Rattle.table.specs.Turns.{runWords}
 use borrow.Author.Needs.{needs}
 use Rattle.table.proofs.turns.run.Statement.{statement}

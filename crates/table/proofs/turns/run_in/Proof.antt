@@ -4,7 +4,7 @@ use Prim.Native.Nat.{_≤_, _-_}
 use native.Mathlib.Omega.{arith}
 use mathlib.Core.Path.{_≡_, refl, sym, _∙_}
 use lib.ListN.{length}
-use Rattle.table.proofs.Positions.{placed, fits-kept}
+use Rattle.layout.proofs.Positions.{placed, fits-kept}
 use Rattle.table.proofs.TurnLaws.{run-start, run-end, run-idle, run-moved, run-answered, run-refused}
 use Rattle.table.specs.Turns.{runIn}
 use borrow.Author.Needs.{needs}

@@ -2,8 +2,9 @@
 -- Rests on the laws of whole calls.
 use native.Mathlib.Omega.{arith}
 use mathlib.Core.Path.{sym, _∙_}
-use Rattle.table.proofs.Positions.{placed}
-use Rattle.table.proofs.TurnLaws.{fits-of, fits-read, strange-first, stranger-next, step-idle, step-goes}
+use Rattle.layout.proofs.Positions.{placed}
+use Rattle.layout.proofs.Checks.{fits-of, fits-read, strange-first, stranger-next}
+use Rattle.table.proofs.TurnLaws.{step-idle, step-goes}
 use Rattle.table.specs.Turns.{stepWords}
 use borrow.Author.Needs.{needs}
 use Rattle.table.proofs.turns.step.Statement.{statement}

@@ -4,8 +4,9 @@ use mathlib.Core.Path.{ap}
 use mathlib.Core.List.{List}
 use Prim.Native.Nat.{ℕ}
 use Rattle.interface.specs.declared.Stepped.{Stepped}
-use Rattle.table.specs.declared.phase.Phase as Code
-use Rattle.table.specs.Turns.{planned, updateAt}
+use Rattle.engine.specs.declared.phase.Phase as Code
+use Rattle.engine.specs.Phases.{planned}
+use Rattle.table.specs.Turns.{updateAt}
 use Rattle.table.proofs.TurnLaws.{slot-below, state-below, updated}
 use borrow.Author.Needs.{needs}
 use Rattle.table.proofs.turns.update_step.Statement.{statement}

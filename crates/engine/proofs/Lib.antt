@@ -1,0 +1,5 @@
+pub mod Bits
+pub mod Cases
+pub mod Lengths
+pub mod Phases
+pub mod Splitting

@@ -1,0 +1,35 @@
+-- `phase_of` gives the step that comes after k own steps.
+-- Rests on the laws of the plan's places.
+use native.Mathlib.Omega.{arith}
+use mathlib.Core.Path.{sym, _∙_}
+use borrow.Author.Needs.{needs}
+use Rattle.engine.specs.Phases.{planned}
+use Rattle.engine.proofs.Phases.{plan-announce, plan-pass}
+use Rattle.engine.proofs.phase.phase_of.Statement.{statement}
+use Rattle.engine.proofs.phase.phase_of.Tie as tie
+
+returns : tie.Need-returns
+unfolding planned
+returns c = sym (plan-announce (c .before .args .n) (c .before .args .k) (c .if1 .taken))
+
+mul-reduce : tie.Need-mul-reduce
+mul-reduce c = search needs
+
+add-reduce : tie.Need-add-reduce
+add-reduce c = search needs
+
+reduce-requires : tie.Need-reduce-requires
+reduce-requires c κs = search needs
+
+pass-phase-requires : tie.Need-pass-phase-requires
+pass-phase-requires c κs = search needs
+
+returns-2 : tie.Need-returns-2
+returns-2 c =
+    let s = c .before .before .before .args in
+    c .pass-phase .ensures ∙ sym (plan-pass (s .n) (s .k) (c .before .reduce .result) (omega arith) (c .before .reduce .ensures))
+
+pub phase-of-spec : {M : Type 1} → statement M
+phase-of-spec =
+    tie.close
+    (tie.spec returns mul-reduce add-reduce reduce-requires pass-phase-requires returns-2)

@@ -1,0 +1,41 @@
+-- `announce` copies a worker's operation into its slot.
+-- Rests on the place of a worker's words.
+use Prim.Native.Nat.{ℕ}
+use native.Mathlib.Omega.{arith}
+use mathlib.Core.Path.{_∙_, ap}
+use mathlib.Core.Logic.{inr}
+use borrow.Author.Needs.{needs}
+use Rattle.lists.specs.Parts.{part, overlay}
+use Rattle.layout.specs.Places.{slotAt}
+use Rattle.engine.specs.Engine.{announcedAt}
+use Rattle.layout.proofs.Positions.{placed}
+use Rattle.engine.proofs.steps.announce.Statement.{statement}
+use Rattle.engine.proofs.steps.announce.Tie as tie
+
+worker-at-requires : tie.Need-worker-at-requires
+worker-at-requires c κs = search needs
+
+mul-copy : tie.Need-mul-copy
+mul-copy c = search needs
+
+add-copy : tie.Need-add-copy
+add-copy c = search needs
+
+copy-requires : tie.Need-copy-requires
+copy-requires c κs =
+    let known = c .before .before .before .pre in
+    let b = placed (known .0) _ (known .1) in (omega arith, (omega arith, inr (omega arith)))
+
+same-length : tie.Need-same-length
+same-length c = search needs
+
+returns : tie.Need-returns
+unfolding announcedAt
+returns c =
+    let s = c .before .before .before .before .before .before .args in
+    let l = s .words .now in
+    c .before .before .copy .ensures ∙ ap (λ (p : ℕ). overlay l (slotAt (s .w)) (part l p 4)) (c .before .before .before .worker-at .ensures)
+
+pub announce-spec : {M : Type 1} → statement M
+announce-spec =
+    tie.close (tie.spec worker-at-requires mul-copy add-copy copy-requires same-length returns)

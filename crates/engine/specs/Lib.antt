@@ -1,0 +1,3 @@
+pub mod Phases
+pub mod Engine
+pub mod Splits

@@ -1,0 +1,216 @@
+// The directory swap: splits in place, and the updates that are taken.
+ghost use mathlib.Core.Path.{_≡_};
+ghost use Prim.Native.Nat.{_+_, _≤_, _<_};
+ghost use lib.ListN.{length};
+ghost use Rattle.layout.specs.Shape.{Fits, Whole};
+ghost use Rattle.layout.specs.Places.{workerAt};
+ghost use Rattle.engine.specs.Splits.{madeAt, directedAt, halfAt, deepenedAt, splitAt, splitWhileAt, carriedAt, takenAt, dueAt, duesAt, takenAll, resolvedAt, nothingToSplit, redirectedAt};
+use crate::steps::settled_word;
+use bucket::BucketState;
+use interface::Settings;
+use layout::numbers::fresh_directory;
+use layout::places::record_of;
+use layout::places::worker_at;
+use layout::records::first_entry;
+use layout::records::needed;
+use layout::records::record_start;
+use layout::records::spare;
+use layout::shape::directory_start;
+
+// A new bucket of depth d and prefix q in the record at r.
+fn make(words: &mut [u64], g: Settings, r: usize, d: u64, q: u64, s: BucketState)
+    requires { ⌜ Fits (now words) g × (r + 54 ≤ length (now words)) ⌝ }
+    ensures { λ _. ⌜ now (words .exit) ≡ madeAt (now (words .entry)) g r d q s ⌝ }
+{
+    memory::put(words, r + 2, 0);
+    memory::put(words, r + 3, d);
+    memory::put(words, r + 4, q);
+    memory::put(words, r + 5, 0);
+    memory::store_state(words, r, g.capacity as usize, g.workers as usize, s);
+}
+
+// The directory's entries of a bucket of depth d and prefix q name the record at r.
+fn direct(words: &mut [u64], g: Settings, d: u64, q: u64, r: usize)
+    requires { ⌜ Whole (now words) g × (d ≤ g .depth) ⌝ }
+    ensures { λ _. ⌜ now (words .exit) ≡ directedAt (now (words .entry)) g d q r ⌝ }
+{
+    let from = directory_start(g) + first_entry(g, d, q);
+    let width: usize = 1 << (g.depth - d);
+    memory::fill(words, from, from + width, r as u64);
+}
+
+// One half of a split, in a spare record.
+fn half(words: &mut [u64], g: Settings, d: u64, q: u64, s: BucketState)
+    requires { ⌜ Whole (now words) g × (d ≤ g .depth) ⌝ }
+    ensures { λ _. ⌜ now (words .exit) ≡ halfAt (now (words .entry)) g d q s ⌝ }
+{
+    let r = spare(words, g);
+    let at = record_start(g, r);
+    make(words, g, at, d, q, s.half(d, q));
+    memory::put(words, 4, r as u64 + 1);
+    direct(words, g, d, q, at);
+}
+
+// The directory's depth is d at least.
+fn deepen(words: &mut [u64], d: u64)
+    requires { ⌜ 54 ≤ length (now words) ⌝ }
+    ensures { λ _. ⌜ now (words .exit) ≡ deepenedAt (now (words .entry)) d ⌝ }
+{
+    if memory::get(words, 2) < d {
+        memory::put(words, 2, d);
+    }
+}
+
+// The bucket in the record at q becomes two.
+fn split(words: &mut [u64], g: Settings, q: usize)
+    requires { ⌜ Whole (now words) g × ((1 ≤ g .depth) × (q + 54 ≤ length (now words))) ⌝ }
+    ensures { λ _. ⌜ now (words .exit) ≡ splitAt (now (words .entry)) g q ⌝ }
+{
+    let d = memory::get(words, q + 3) % g.depth + 1;
+    let p = 2 * (memory::get(words, q + 4) % (1 << (d - 1)));
+    let s = memory::load_state(words, q, g.capacity as usize, g.workers as usize);
+    deepen(words, d);
+    half(words, g, d, p, s);
+    half(words, g, d, p + 1, s);
+}
+
+// The account's bucket split while it is full and below the greatest depth.
+fn split_while(words: &mut [u64], g: Settings, account: u64)
+    requires { ⌜ Whole (now words) g ⌝ }
+    ensures { λ _. ⌜ now (words .exit) ≡ splitWhileAt (now (words .entry)) g account (g .depth) ⌝ }
+{
+    let mut f = g.depth;
+    while 0 < f {
+        let q = record_of(words, g, account);
+        if memory::get(words, q) < g.capacity {
+            return;
+        }
+        if g.depth <= memory::get(words, q + 3) {
+            return;
+        }
+        split(words, g, q);
+        f -= 1;
+    }
+}
+
+// Worker i's update, as worker w has read it, carried out in the record at q.
+fn carry(words: &mut [u64], g: Settings, w: usize, i: usize, q: usize)
+    requires { ⌜ Fits (now words) g × ((w < g .workers) × ((i < g .workers) × (q + 54 ≤ length (now words)))) ⌝ }
+    ensures { λ _. ⌜ now (words .exit) ≡ carriedAt (now (words .entry)) g (workerAt (g .workers) w) i q ⌝ }
+{
+    let o = worker_at(g, w) + 24 + 4 * i;
+    let n = g.workers as usize;
+    let b = g.capacity as usize;
+    let s = memory::load_state(words, q, b, n);
+    let t = s.carry(
+        i,
+        memory::get(words, o),
+        memory::get(words, o + 1),
+        memory::get(words, o + 2),
+        memory::get(words, o + 3),
+    );
+    memory::store_state(words, q, b, n, t);
+}
+
+// Worker i's update taken: splits first, then carried out if there is room.
+fn take(words: &mut [u64], g: Settings, w: usize, i: usize)
+    requires { ⌜ Whole (now words) g × ((w < g .workers) × (i < g .workers)) ⌝ }
+    ensures { λ _. ⌜ now (words .exit) ≡ takenAt (now (words .entry)) g (workerAt (g .workers) w) i ⌝ }
+{
+    let o = worker_at(g, w) + 24 + 4 * i;
+    split_while(words, g, memory::get(words, o + 1));
+    let q = record_of(words, g, memory::get(words, o + 1));
+    if g.capacity <= memory::get(words, q) {
+        return;
+    }
+    carry(words, g, w, i, q);
+}
+
+// Whether worker i's update, as worker w has read it, belongs to the bucket in the record at q and is unsettled there.
+fn due(words: &[u64], g: Settings, w: usize, q: usize, i: usize) -> bool
+    requires { ⌜ Fits (now words) g × ((w < g .workers) × ((i < g .workers) × (q + 54 ≤ length (now words)))) ⌝ }
+    ensures { λ r. ⌜ r ≡ dueAt (now (words .entry)) g (workerAt (g .workers) w) q i ⌝ }
+{
+    let o = worker_at(g, w) + 24 + 4 * i;
+    if memory::get(words, o) == 0 {
+        return false;
+    }
+    if bucket::prefix(memory::get(words, o + 1), memory::get(words, q + 3))
+        != memory::get(words, q + 4)
+    {
+        return false;
+    }
+    settled_word(words, g, q, i) < memory::get(words, o + 3)
+}
+
+// The workers whose update is due there, as bits.
+fn dues(words: &[u64], g: Settings, w: usize, q: usize) -> u64
+    requires { ⌜ Fits (now words) g × ((w < g .workers) × (q + 54 ≤ length (now words))) ⌝ }
+    ensures { λ r. ⌜ r ≡ duesAt (now (words .entry)) g (workerAt (g .workers) w) q (g .workers) ⌝ }
+{
+    let mut bits: u64 = 0;
+    let mut i: usize = 0;
+    while i < g.workers as usize {
+        if due(words, g, w, q, i) {
+            bits += 1 << i;
+        }
+        i += 1;
+    }
+    bits
+}
+
+// The updates of these workers taken, in worker order.
+fn take_all(words: &mut [u64], g: Settings, w: usize, bits: u64)
+    requires { ⌜ Whole (now words) g × (w < g .workers) ⌝ }
+    ensures { λ _. ⌜ now (words .exit) ≡ takenAll (now (words .entry)) g (workerAt (g .workers) w) bits (g .workers) ⌝ }
+{
+    let mut i: usize = 0;
+    while i < g.workers as usize {
+        if (bits >> i) % 2 == 1 {
+            take(words, g, w, i);
+        }
+        i += 1;
+    }
+}
+
+// The buckets that worker w has marked, resolved in the order of their marks.
+fn resolve(words: &mut [u64], g: Settings, w: usize)
+    requires { ⌜ Whole (now words) g × (w < g .workers) ⌝ }
+    ensures { λ _. ⌜ now (words .exit) ≡ resolvedAt (now (words .entry)) g (workerAt (g .workers) w) (g .workers) ⌝ }
+{
+    let p = worker_at(g, w);
+    let mut j: usize = 0;
+    while j < g.workers as usize {
+        if (memory::get(words, p + 9) >> j) % 2 == 1 {
+            let q = record_of(words, g, memory::get(words, p + 24 + 4 * j + 1));
+            let bits = dues(words, g, w, q);
+            take_all(words, g, w, bits);
+        }
+        j += 1;
+    }
+}
+
+// Whether there is nothing to split.
+fn nothing(words: &[u64], g: Settings, w: usize) -> bool
+    requires { ⌜ Fits (now words) g × (w < g .workers) ⌝ }
+    ensures { λ r. ⌜ r ≡ nothingToSplit (now (words .entry)) g (workerAt (g .workers) w) ⌝ }
+{
+    if memory::get(words, worker_at(g, w) + 9) == 0 {
+        return true;
+    }
+    words.len() < needed(g)
+}
+
+pub fn swap_directory(words: &mut [u64], g: Settings, w: usize)
+    requires { ⌜ Fits (now words) g × (w < g .workers) ⌝ }
+    ensures { λ _. ⌜ now (words .exit) ≡ redirectedAt (now (words .entry)) g (workerAt (g .workers) w) ⌝ }
+{
+    if memory::get(words, worker_at(g, w) + 8) != memory::get(words, 3) {
+        return;
+    }
+    let x = fresh_directory(words, g);
+    if !nothing(words, g, w) {
+        resolve(words, g, w);
+    }
+    memory::put(words, 3, x);
+}

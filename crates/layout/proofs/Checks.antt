@@ -1,0 +1,48 @@
+-- Words that pass the checks behind 8 fit, and the first two checks of a call in their order. Rests on the header's definitions.
+use Prim.Native.Nat.{ℕ, _+_, _-_, _/_, _≤_, _<_}
+use native.Mathlib.Omega.{arith}
+use mathlib.Core.Path.{_≡_, refl, sym, _∙_}
+use mathlib.Core.Bool.{Bool, true, false, not, _||_}
+use mathlib.Core.List.{List}
+use lib.Dec.{ltb, leb, eqb}
+use lib.ListN.{length}
+use borrow.Author.Tests.{ltb-false, le-leb, lt-leb}
+use Rattle.interface.specs.declared.Settings.{Settings}
+use Rattle.machine.specs.Choice.{if_then_else_}
+use Rattle.machine.proofs.Base.{no-both, if-true, if-false}
+use Rattle.layout.specs.Shape.{word, mark, settingsOf, directoryStart, strange, shapeOf, Fits}
+
+-- ---- words that pass the checks
+
+pub or-right : (a b : Bool) → (a || b) ≡ false → b ≡ false
+or-right true b e = absurd (no-both refl e)
+or-right false b e = e
+
+pub fits-of : (l : List ℕ) → strange l ≡ false → Fits l (shapeOf l)
+unfolding strange settingsOf
+fits-of l e =
+    let before : Bool = ltb (length l) 150 || not (eqb (word l 0 / 2_048) mark) || ltb (length l) (word l 1) in
+    let h = ltb-false (length l) (directoryStart (settingsOf (word l 0) .workers) + 54) (or-right before _ e) in
+    record {
+      least = omega arith;
+      workers = omega arith;
+      least-capacity = omega arith;
+      capacity = omega arith;
+      depth = omega arith;
+      room = h;
+    }
+
+-- ---- the first two checks of a step, a run and a call
+
+pub strange-first : {A : Type 0} (l : List ℕ) (x : Bool) (a b : A) → x ≡ strange l → x ≡ true → a ≡ if strange l then a else b
+strange-first l x a b tested e = sym (if-true a b (sym tested ∙ e))
+
+module _ (l : List ℕ) (x : Bool) (g : Settings) (tested : x ≡ strange l) where
+  pub fits-read : x ≡ false → g ≡ shapeOf l → Fits l g
+  fits-read e h = rw h (fits-of l (sym tested ∙ e))
+
+  pub stranger-next : {A : Type 0} (a b c : A) (w : ℕ) → x ≡ false → g ≡ shapeOf l → g .workers ≤ w → b ≡ if strange l then a else if leb (shapeOf l .workers) w then b else c
+  stranger-next a b c w e h n = sym (if-false a _ (sym tested ∙ e) ∙ rw (← h) (if-true b c (le-leb (g .workers) w n)))
+
+  pub both-passed : {A : Type 0} (a b c : A) (w : ℕ) → x ≡ false → g ≡ shapeOf l → w < g .workers → c ≡ if strange l then a else if leb (shapeOf l .workers) w then b else c
+  both-passed a b c w e h n = sym (if-false a _ (sym tested ∙ e) ∙ rw (← h) (if-false b c (lt-leb (g .workers) w n)))

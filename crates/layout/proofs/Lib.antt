@@ -1,0 +1,4 @@
+pub mod Checks
+pub mod Pool
+pub mod Positions
+pub mod Searches

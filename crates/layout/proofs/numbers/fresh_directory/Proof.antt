@@ -1,0 +1,69 @@
+-- `fresh_directory` gives the least number that is not taken. The loop's invariant: no number below x is free; the measure: those left.
+-- Rests on the laws of searches.
+use Prim.Native.Nat.{_-_, _≤_}
+use native.Mathlib.Omega.{arith}
+use mathlib.Core.Path.{_≡_, sym, _∙_}
+use borrow.Author.Tests.{not-true, not-false}
+use borrow.Author.Needs.{needs}
+use Rattle.layout.specs.Numbers.{leastFree, directoryTaken, freshDirectory}
+use Rattle.layout.proofs.Searches.{least-hit, least-turn, least-end}
+use Rattle.layout.proofs.numbers.fresh_directory.Statement.{statement}
+use Rattle.layout.proofs.numbers.fresh_directory.Tie as tie
+
+abbrev Inv-loop : tie.InvT-loop
+Inv-loop words g x₀ x =
+    (x ≤ g .workers) × (leastFree (directoryTaken words (g .workers)) x (g .workers - x) ≡ freshDirectory words (g .workers))
+
+abbrev μ-loop : tie.MeasureT-loop
+μ-loop words g x₀ x = g .workers - x
+
+loop-holds : tie.Need-loop-holds Inv-loop μ-loop
+unfolding freshDirectory
+loop-holds c = (search needs, (let e : c .before .args .g .workers - 0 ≡ c .before .args .g .workers = omega arith in rw e))
+
+directory-taken-requires : tie.Need-directory-taken-requires Inv-loop μ-loop
+directory-taken-requires c κs = c .before .before .before .before .pre
+
+returns : tie.Need-returns Inv-loop μ-loop
+returns c =
+    let loop = c .before .before .before .before .loop in
+    let s = c .before .before .before .before .before .before .args in
+    sym
+    (least-hit (directoryTaken (s .words .now) (s .g .workers)) _ _ (sym (c .before .directory-taken .ensures) ∙ not-true _ (c .if2 .taken)))
+    ∙ loop .inv .1
+
+add-x : tie.Need-add-x Inv-loop μ-loop
+add-x c = search needs
+
+loop-less : tie.Need-loop-less Inv-loop μ-loop
+loop-less c = search needs
+
+loop-again : tie.Need-loop-again Inv-loop μ-loop
+loop-again c =
+    let loop = c .before .before .before .before .loop in
+    let if1 = c .before .before .if1 in
+    let s = c .before .before .before .before .before .before .args in (
+      search needs,
+      least-turn (directoryTaken (s .words .now) (s .g .workers)) _ _ (if1 .taken)
+          (sym (c .before .directory-taken .ensures) ∙ not-false _ (c .if2 .left))
+          ∙ loop .inv .1,
+    )
+
+returns-2 : tie.Need-returns-2 Inv-loop μ-loop
+returns-2 c =
+    let s = c .before .before .before .before .args in
+    sym (least-end (directoryTaken (s .words .now) (s .g .workers)) _ _ (c .if1 .left)) ∙ c .before .before .loop .inv .1
+
+pub fresh-directory-spec : {M : Type 1} → statement M
+fresh-directory-spec =
+    tie.close
+    (tie.spec
+    Inv-loop
+    μ-loop
+    loop-holds
+    directory-taken-requires
+    returns
+    add-x
+    loop-less
+    loop-again
+    returns-2)

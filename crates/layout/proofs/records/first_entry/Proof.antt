@@ -1,0 +1,48 @@
+-- `first_entry` gives the first entry of a bucket, and no product leaves the word.
+-- Rests on the laws of entries.
+use Prim.Native.Nat.{_-_, _^_}
+use native.Mathlib.Omega.{arith}
+use mathlib.Core.Path.{_≡_, _∙_}
+use mathlib.Core.Logic.{⊎-elim}
+use lib.Pow.{pow-pos}
+use borrow.Author.Needs.{needs}
+use Rattle.layout.proofs.Pool.{pow-small, shifted, entry-is, width-one, entry-product}
+use Rattle.layout.proofs.records.first_entry.Statement.{statement}
+use Rattle.layout.proofs.records.first_entry.Tie as tie
+
+shl-span : tie.Need-shl-span
+shl-span c = search needs
+
+sub-width : tie.Need-sub-width
+sub-width c = search needs
+
+shl-width : tie.Need-shl-width
+shl-width c = search needs
+
+rem-result : tie.Need-rem-result
+rem-result c =
+    let start = c .before .before .before in
+    omega (arith, pow-small (start .args .g .depth) (start .pre), pow-pos (start .args .g .depth))
+
+mul-result : tie.Need-mul-result
+mul-result c =
+    let start = c .before .before .before .before in
+    let width : c .before .if1 .width ≡ 2 ^ (start .args .g .depth - start .args .d) =
+    ⊎-elim (λ w. w .2 ∙ shifted _ (omega arith)) (λ w. w .1 ∙ width-one _ _ (w .0 .left)) (c .before .if1 .came) in
+    omega (arith, entry-product (start .args .q) _ _ _ _ (start .pre) (omega arith) (shifted _ (start .pre)) width)
+
+rem-result-2 : tie.Need-rem-result-2
+rem-result-2 c =
+    let start = c .before .before .before .before in
+    omega (arith, pow-small (start .args .g .depth) (start .pre), pow-pos (start .args .g .depth))
+
+returns : tie.Need-returns
+returns c =
+    let start = c .before .before .before .before in
+    let width : c .before .if1 .width ≡ 2 ^ (start .args .g .depth - start .args .d) =
+    ⊎-elim (λ w. w .2 ∙ shifted _ (omega arith)) (λ w. w .1 ∙ width-one _ _ (w .0 .left)) (c .before .if1 .came) in
+    entry-is (start .args .g) (start .args .d) (start .args .q) _ _ (shifted _ (start .pre)) width
+
+pub first-entry-spec : {M : Type 1} → statement M
+first-entry-spec =
+    tie.close (tie.spec shl-span sub-width shl-width rem-result mul-result rem-result-2 returns)

@@ -1,0 +1,4 @@
+pub mod Shape
+pub mod Places
+pub mod Numbers
+pub mod Records

@@ -1,0 +1,64 @@
+// Where a worker's words stand, and which bucket record an account or a worker has.
+ghost use mathlib.Core.Path.{_≡_};
+ghost use Prim.Native.Nat.{_+_, _≤_, _<_};
+ghost use lib.ListN.{length};
+ghost use Rattle.memory.specs.Loads.{least};
+ghost use Rattle.layout.specs.Shape.{word, Fits};
+ghost use Rattle.layout.specs.Places.{workerAt, within, placeOf, recordOf, heldBy};
+use crate::shape::directory_start;
+use interface::Settings;
+
+pub fn worker_at(g: Settings, w: usize) -> usize
+    requires { ⌜ (g .workers ≤ 8) × (w ≤ 8) ⌝ }
+    ensures { λ r. ⌜ r ≡ workerAt (g .workers) w ⌝ }
+{
+    let n = g.workers as usize;
+    16 + 4 * n + w * (4 * n + 24)
+}
+
+// A word that is to be a record's place, if a whole record fits there; else 0.
+pub fn within_words(words: &[u64], q: u64) -> usize
+    requires { ⌜ 54 ≤ length (now words) ⌝ }
+    ensures { λ r. ⌜ r ≡ within (now (words .entry)) q ⌝ }
+{
+    let most = words.len() - 54;
+    if q <= most as u64 { q as usize } else { 0 }
+}
+
+// The first m bits of an account.
+pub fn place(account: u64, m: u64) -> usize
+    requires { ⌜ m ≤ 15 ⌝ }
+    ensures { λ r. ⌜ r ≡ placeOf account m ⌝ }
+{
+    ((account % 4294967296) >> (32 - m)) as usize
+}
+
+// The record of an account's bucket, by the directory.
+pub fn record_of(words: &[u64], g: Settings, account: u64) -> usize
+    requires { ⌜ Fits (now words) g ⌝ }
+    ensures { λ r. ⌜ r ≡ recordOf (now (words .entry)) g account ⌝ }
+{
+    let e = directory_start(g) + place(account, g.depth);
+    within_words(words, memory::get_or(words, e))
+}
+
+// The record that worker w holds.
+pub fn held_by(words: &[u64], g: Settings, w: usize) -> usize
+    requires { ⌜ Fits (now words) g × (w < g .workers) ⌝ }
+    ensures { λ r. ⌜ r ≡ heldBy (now (words .entry)) (workerAt (g .workers) w) ⌝ }
+{
+    within_words(words, memory::get(words, worker_at(g, w) + 5))
+}
+
+// How many accounts of the record at q are looked at.
+pub fn size(words: &[u64], g: Settings, q: usize) -> usize
+    requires { ⌜ Fits (now words) g × (q + 54 ≤ length (now words)) ⌝ }
+    ensures { λ r. ⌜ r ≡ least (word (now (words .entry)) q) (g .capacity) ⌝ }
+{
+    let count = memory::get(words, q);
+    if count < g.capacity {
+        count as usize
+    } else {
+        g.capacity as usize
+    }
+}

@@ -1,0 +1,101 @@
+// The bucket records: where they are, how many words all need, which are in use, and the next spare one.
+ghost use mathlib.Core.Path.{_≡_};
+ghost use Prim.Native.Nat.{_+_, _≤_, _<_};
+ghost use lib.ListN.{length};
+ghost use Rattle.machine.specs.Words.{wordsNeeded};
+ghost use Rattle.layout.specs.Shape.{Fits, Whole};
+ghost use Rattle.layout.specs.Records.{recordStart, poolOf, firstEntry, currentAt, heldByAny, usedAt, spareOf};
+use crate::places::worker_at;
+use crate::shape::directory_start;
+use interface::Settings;
+
+// How many bucket records there are.
+fn pool(g: Settings) -> usize
+    requires { ⌜ (g .workers ≤ 8) × (g .depth ≤ 15) ⌝ }
+    ensures { λ r. ⌜ r ≡ poolOf g ⌝ }
+{
+    (1 << g.depth) + g.workers as usize + 2
+}
+
+// Where record r begins.
+pub fn record_start(g: Settings, r: usize) -> usize
+    requires { ⌜ (g .workers ≤ 8) × ((g .capacity ≤ 16) × ((g .depth ≤ 15) × (r ≤ 65_536))) ⌝ }
+    ensures { λ s. ⌜ s ≡ recordStart g r ⌝ }
+{
+    let n = g.workers as usize;
+    let b = g.capacity as usize;
+    directory_start(g) + (1 << g.depth) + r * (2 * b + 2 * n + 6)
+}
+
+// The words that settings in range need.
+pub fn needed(g: Settings) -> usize
+    requires { ⌜ (g .workers ≤ 8) × ((g .capacity ≤ 16) × (g .depth ≤ 15)) ⌝ }
+    ensures { λ r. ⌜ r ≡ wordsNeeded g ⌝ }
+{
+    record_start(g, pool(g)) + 53
+}
+
+// The first entry of a bucket of depth d and prefix q.
+pub fn first_entry(g: Settings, d: u64, q: u64) -> usize
+    requires { ⌜ g .depth ≤ 15 ⌝ }
+    ensures { λ r. ⌜ r ≡ firstEntry g d q ⌝ }
+{
+    let span: u64 = 1 << g.depth;
+    let width: u64 = if d < g.depth { 1 << (g.depth - d) } else { 1 };
+    ((q % span) * width % span) as usize
+}
+
+// Whether the directory names the record at q at its bucket's first entry.
+fn current(words: &[u64], g: Settings, q: usize) -> bool
+    requires { ⌜ Fits (now words) g × (q + 54 ≤ length (now words)) ⌝ }
+    ensures { λ r. ⌜ r ≡ currentAt (now (words .entry)) g q ⌝ }
+{
+    let e = directory_start(g)
+        + first_entry(g, memory::get(words, q + 3), memory::get(words, q + 4));
+    memory::get_or(words, e) == q as u64
+}
+
+// Whether a worker holds the record at q.
+fn held_by_any(words: &[u64], g: Settings, q: usize) -> bool
+    requires { ⌜ Fits (now words) g ⌝ }
+    ensures { λ r. ⌜ r ≡ heldByAny (now (words .entry)) (g .workers) q ⌝ }
+{
+    let mut j = g.workers as usize;
+    while 0 < j {
+        j -= 1;
+        if memory::get(words, worker_at(g, j) + 5) == q as u64 {
+            return true;
+        }
+    }
+    false
+}
+
+// Whether record r is current or held.
+fn used(words: &[u64], g: Settings, r: usize) -> bool
+    requires { ⌜ Whole (now words) g × (r < poolOf g) ⌝ }
+    ensures { λ s. ⌜ s ≡ usedAt (now (words .entry)) g r ⌝ }
+{
+    let q = record_start(g, r);
+    if current(words, g, q) {
+        return true;
+    }
+    held_by_any(words, g, q)
+}
+
+// The next record to use.
+pub fn spare(words: &[u64], g: Settings) -> usize
+    requires { ⌜ Whole (now words) g ⌝ }
+    ensures { λ r. ⌜ r ≡ spareOf (now (words .entry)) g ⌝ }
+{
+    let all = pool(g);
+    let mut r = (memory::get(words, 4) % all as u64) as usize;
+    let mut k = all;
+    while 0 < k {
+        if !used(words, g, r) {
+            return r;
+        }
+        r = if r + 1 < all { r + 1 } else { 0 };
+        k -= 1;
+    }
+    r
+}

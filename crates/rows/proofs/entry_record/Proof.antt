@@ -1,0 +1,38 @@
+-- `entry_record` reads the record that an entry names, as `entryRecord` says.
+-- Rests on the bounds of words that fit.
+use native.Mathlib.Omega.{arith}
+use Rattle.rows.specs.Rows.{entryRecord}
+use Rattle.layout.proofs.Positions.{start-bound}
+use Rattle.rows.proofs.RowLaws.{span-limit}
+use borrow.Author.Needs.{needs}
+use Rattle.rows.proofs.entry_record.Statement.{statement}
+use Rattle.rows.proofs.entry_record.Tie as tie
+use Rattle.rows.proofs.entry_record.Reads as reads
+use Rattle.rows.proofs.entry_record.Lts as lts
+use Rattle.memory.proofs.get_or.Reads as get-or-reads
+use Rattle.layout.proofs.places.within_words.Reads as within-words-reads
+use Rattle.layout.proofs.shape.directory_start.Reads as directory-start-reads
+
+directory-start-requires : tie.Need-directory-start-requires
+directory-start-requires c κs = search needs
+
+add-get-or : tie.Need-add-get-or
+add-get-or c =
+    let start = c .before .before in
+    let f = start .pre .0 in
+    omega (arith, start-bound (start .args .g .workers) (f .workers), span-limit (start .args .g .depth) (f .depth))
+
+get-or-requires : tie.Need-get-or-requires
+get-or-requires c κs = search needs
+
+within-words-requires : tie.Need-within-words-requires
+within-words-requires c κs = search needs
+
+returns : tie.Need-returns
+unfolding entryRecord
+returns c = rw (← c .before .before .directory-start .ensures, ← c .before .get-or .ensures) (c .within-words .ensures)
+
+pub entry-record-spec : {M : Type 1} → statement M
+entry-record-spec =
+    tie.close
+    (tie.spec directory-start-requires add-get-or get-or-requires within-words-requires returns)

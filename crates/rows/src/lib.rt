@@ -1,0 +1,120 @@
+// The listing: for each entry of the directory at depth M in order, those accounts of its bucket whose first M bits are the entry.
+ghost use mathlib.Core.Path.{_≡_};
+ghost use mathlib.Core.List.{map};
+ghost use Prim.Native.Nat.{_+_, _^_, _≤_, _<_};
+ghost use lib.ListN.{length};
+ghost use Rattle.lists.specs.Parts.{overlay};
+ghost use Rattle.layout.specs.Shape.{Fits};
+ghost use Rattle.rows.specs.Rows.{entryRecord, rowsOf, rows, listingWords};
+use interface::Listed;
+use interface::Refusal;
+use interface::Settings;
+use layout::places::place;
+use layout::places::size;
+use layout::places::within_words;
+use layout::shape::directory_start;
+use layout::shape::settings_of;
+use layout::shape::strange_words;
+
+// The record that entry e names.
+fn entry_record(words: &[u64], g: Settings, e: usize) -> usize
+    requires { ⌜ Fits (now words) g × (e < 2 ^ g .depth) ⌝ }
+    ensures { λ r. ⌜ r ≡ entryRecord (now (words .entry)) g e ⌝ }
+{
+    within_words(words, memory::get_or(words, directory_start(g) + e))
+}
+
+// How many rows entry e has.
+fn count_in(words: &[u64], g: Settings, e: usize) -> usize
+    requires { ⌜ Fits (now words) g × (e < 2 ^ g .depth) ⌝ }
+    ensures { λ r. ⌜ r ≡ length (rowsOf (now (words .entry)) g e) ⌝ }
+{
+    let q = entry_record(words, g, e);
+    let c = size(words, g, q);
+    let mut k: usize = 0;
+    let mut i: usize = 0;
+    while i < c {
+        if place(memory::get(words, q + 6 + i), g.depth) == e {
+            k += 1;
+        }
+        i += 1;
+    }
+    k
+}
+
+// How many rows there are.
+fn count(words: &[u64], g: Settings) -> usize
+    requires { ⌜ Fits (now words) g ⌝ }
+    ensures { λ r. ⌜ r ≡ length (rows (now (words .entry)) g) ⌝ }
+{
+    let span: usize = 1 << g.depth;
+    let mut k: usize = 0;
+    let mut e: usize = 0;
+    while e < span {
+        k += count_in(words, g, e);
+        e += 1;
+    }
+    k
+}
+
+// The rows of entry e, written from place k on; the place after them.
+fn write_in(
+    words: &[u64],
+    g: Settings,
+    e: usize,
+    k: usize,
+    accounts: &mut [u32],
+    totals: &mut [i64],
+) -> usize
+    requires { ⌜ Fits (now words) g × ((e < 2 ^ g .depth) × ((k + length (rowsOf (now words) g e) ≤ length (now accounts)) × (k + length (rowsOf (now words) g e) ≤ length (now totals)))) ⌝ }
+    ensures { λ r. ⌜ (r ≡ k + length (rowsOf (now (words .entry)) g e)) × ((now (accounts .exit) ≡ overlay (now (accounts .entry)) k (map (λ x. x .0) (rowsOf (now (words .entry)) g e))) × (now (totals .exit) ≡ overlay (now (totals .entry)) k (map (λ x. x .1) (rowsOf (now (words .entry)) g e)))) ⌝ }
+{
+    let q = entry_record(words, g, e);
+    let b = g.capacity as usize;
+    let c = size(words, g, q);
+    let mut at = k;
+    let mut i: usize = 0;
+    while i < c {
+        let a = memory::get(words, q + 6 + i);
+        if place(a, g.depth) == e {
+            accounts[at] = (a % 4294967296) as u32;
+            totals[at] = memory::total_of(memory::get(words, q + 6 + b + i));
+            at += 1;
+        }
+        i += 1;
+    }
+    at
+}
+
+// All rows written.
+fn write(words: &[u64], g: Settings, accounts: &mut [u32], totals: &mut [i64])
+    requires { ⌜ Fits (now words) g × ((length (rows (now words) g) ≤ length (now accounts)) × (length (rows (now words) g) ≤ length (now totals))) ⌝ }
+    ensures { λ _. ⌜ (now (accounts .exit) ≡ overlay (now (accounts .entry)) 0 (map (λ x. x .0) (rows (now (words .entry)) g))) × (now (totals .exit) ≡ overlay (now (totals .entry)) 0 (map (λ x. x .1) (rows (now (words .entry)) g))) ⌝ }
+{
+    let span: usize = 1 << g.depth;
+    let mut k: usize = 0;
+    let mut e: usize = 0;
+    while e < span {
+        k = write_in(words, g, e, k, accounts, totals);
+        e += 1;
+    }
+}
+
+// The accounts in ascending order with their totals, nothing past the count: checks 8, 10.
+pub fn listing(words: &[u64], accounts: &mut [u32], totals: &mut [i64]) -> Listed
+    ensures { λ r. ⌜ record { accounts = now (accounts .exit); totals = now (totals .exit); listed = r } ≡ listingWords (now (words .entry)) (now (accounts .entry)) (now (totals .entry)) ⌝ }
+{
+    if strange_words(words) {
+        return Listed::Refused(Refusal::Strange);
+    }
+    let g = settings_of(words[0]);
+    let k = count(words, g);
+    if accounts.len() < k {
+        return Listed::Refused(Refusal::Narrow);
+    }
+    if totals.len() < k {
+        return Listed::Refused(Refusal::Narrow);
+    }
+    write(words, g, accounts, totals);
+    Listed::Count(k as u64)
+}
