@@ -22,6 +22,9 @@ pub mod Replanting
 pub mod Replies
 pub mod Resolving
 pub mod RowsMean
+pub mod RunLists
+pub mod RunSteps
+pub mod Runs
 pub mod Spares
 pub mod StepMeans
 pub mod Storing
