@@ -2,9 +2,6 @@
 -- They rest on the definitions of specs/.
 pub mod Splitting
 pub mod Numerals
-pub mod Decimals
-pub mod Overlays
-pub mod Signs
 pub mod Longest
 pub mod Streaming
 pub mod Session

@@ -2,6 +2,5 @@
 -- They rest on the types that src/ declares, on interface's and on the machine.
 pub mod Numerals
 pub mod Grammar
-pub mod Printed
 pub mod Reading
 pub mod Session

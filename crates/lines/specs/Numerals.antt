@@ -1,47 +1,16 @@
--- Decimal numbers as bytes: how one is written, and which bytes are one. 01, The driver: "in decimal"; "Numbers have no leading zeros; a
--- total may start with a minus, but -0 is no number". Rests on nothing but the tests of the machine's specs/Choice.
-use Prim.Native.Nat.{ℕ, zero, suc, _+_, _-_, _*_, _/_, _%_, _^_}
-use mathlib.Core.Bool.{Bool, true, false}
-use mathlib.Core.List.{List, [], _∷_, _++_}
+-- Which bytes are a decimal number. 01, The driver: "in decimal"; "Numbers have no leading zeros; a total may start with a minus, but -0 is no
+-- number". Rests on nothing but the tests of the machine's specs/Choice.
+use Prim.Native.Nat.{ℕ, zero, suc, _+_, _-_, _*_, _^_}
+use mathlib.Core.Bool.{Bool}
+use mathlib.Core.List.{List, [], _∷_}
 use mathlib.Core.Option.{Option, none, some}
-use lib.Dec.{leb, ltb, eqb}
+use lib.Dec.{leb, eqb}
 use lib.IntN.{ℤ, pos, negsuc}
 use Rattle.machine.specs.Choice.{if_then_else_, _and_}
 use Rattle.lines.specs.declared.number.Number.{Number}
 use Rattle.lines.specs.declared.number.Number.the-variants as Number
 use Rattle.lines.specs.declared.number.Signed.{Signed}
 use Rattle.lines.specs.declared.number.Signed.the-variants as Signed
-
--- ---- written
-
--- the byte of a digit below 10: 48 is `0`
-unfoldable pub digit : ℕ → ℕ
-digit d = 48 + d
-
--- the last k digits of n, the most significant first
-unfoldable pub digits : ℕ → ℕ → List ℕ
-digits zero n = []
-digits (suc k) n = digits k (n / 10) ++ digit (n % 10) ∷ []
-
--- how many digits n has, if they are at most suc most
-unfoldable pub placesUpTo : ℕ → ℕ → ℕ
-placesUpTo zero n = 1
-placesUpTo (suc most) n = elim (ltb n 10) [ true ↦ 1 | false ↦ suc (placesUpTo most (n / 10)) ]
-
--- how many digits n has: never more than suc n, as each takes a tenth
-unfoldable pub places : ℕ → ℕ
-places n = placesUpTo n n
-
--- n in decimal
-unfoldable pub decimal : ℕ → List ℕ
-decimal n = digits (places n) n
-
--- 45 is `-`
-unfoldable pub signedDecimal : ℤ → List ℕ
-signedDecimal (pos n) = decimal n
-signedDecimal (negsuc n) = 45 ∷ decimal (suc n)
-
--- ---- read
 
 unfoldable pub isDigit : ℕ → Bool
 isDigit b = leb 48 b and leb b 57

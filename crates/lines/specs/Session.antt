@@ -4,7 +4,7 @@ use mathlib.Core.List.{List, [], _∷_, _++_}
 use mathlib.Core.Option.{Option, none, some}
 use Rattle.machine.specs.Script.{Line, Memory, zeros, Met, driver, meet}
 use Rattle.lines.specs.Grammar.{linesOf, commandOf, lineOf}
-use Rattle.lines.specs.Printed.{printed, printedUnread}
+use Rattle.replies.specs.Printed.{printed, printedUnread}
 
 -- what is printed for a line, and the memory after it
 pub record Told : Type 0 where

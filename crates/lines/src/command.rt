@@ -2,10 +2,8 @@
 // Rests on the numbers of number.rt.
 ghost use mathlib.Core.Path.{_≡_};
 ghost use mathlib.Core.List.{[], _∷_};
-ghost use Rattle.lines.specs.declared.command.Command.the-variants.{Open as Open·, Insert as Insert·};
-ghost use Rattle.lines.specs.declared.command.Command.the-variants.{Delete as Delete·, Lookup as Lookup·, Steps as Steps·};
-ghost use Rattle.lines.specs.Grammar.{commandOf, ofFields, fieldsOf, firstField, letterOf, threeFields, fourFields};
-ghost use Rattle.lines.specs.Grammar.{smallOf, accountOf, totalOf, stepsOf, with2, with3};
+ghost use Rattle.lines.specs.declared.command.Command.the-variants.{Open as Open·, Insert as Insert·, Delete as Delete·, Lookup as Lookup·, Steps as Steps·};
+ghost use Rattle.lines.specs.Grammar.{commandOf, ofFields, fieldsOf, firstField, letterOf, threeFields, fourFields, smallOf, accountOf, totalOf, stepsOf, with2, with3};
 use crate::number::Number;
 use crate::number::Signed;
 use crate::number::read_number;

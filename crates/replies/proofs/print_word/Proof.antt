@@ -1,0 +1,34 @@
+-- `print_word`: the bytes, where they have room.
+-- Rests on the laws that it cites and on the contracts of what is called.
+use mathlib.Core.Path.{refl}
+use borrow.Author.Needs.{needs}
+use Rattle.replies.proofs.Overlays.{wrote, wrote-nothing, has-room, no-room}
+use Rattle.replies.proofs.print_word.Statement.{statement}
+use Rattle.replies.proofs.print_word.Tie as tie
+
+room-requires : tie.Need-room-requires
+room-requires c κs = search needs
+
+returns : tie.Need-returns
+returns c =
+    let s = c .before .before .before .before in
+    let l = s .args .out .now in
+    let at = s .args .at in
+    wrote-nothing l at (s .args .word .now) (no-room _ _ _ (c .before .room .ensures) (c .if1 .taken))
+
+copy-requires : tie.Need-copy-requires
+copy-requires c κs = has-room _ _ _ (c .before .before .room .ensures) (c .before .if1 .left)
+
+same-length : tie.Need-same-length
+same-length c = search needs
+
+returns-2 : tie.Need-returns-2
+returns-2 c =
+    let s = c .before .before .before .before .before .before .before .before in
+    let l = s .args .out .now in
+    let at = s .args .at in
+    wrote l at (s .args .word .now) _ _ (has-room _ _ _ (c .before .before .before .before .before .room .ensures)
+    (c .before .before .before .before .if1 .left)) refl (c .before .before .copy .ensures)
+
+pub print-word-spec : {M : Type 1} → statement M
+print-word-spec = tie.close (tie.spec room-requires returns copy-requires same-length returns-2)

@@ -1,0 +1,87 @@
+-- `spell_decimal`: the digits, behind a minus or not.
+-- Rests on the laws that it cites and on the contracts of what is called.
+use Prim.Native.Nat.{ℕ, suc}
+use mathlib.Core.Path.{_≡_, sym, _∙_, ap}
+use mathlib.Core.List.{List, _∷_}
+use native.Mathlib.Omega.{arith}
+use lib.ListN.{length, length-set}
+use borrow.Author.Needs.{needs}
+use Rattle.replies.specs.Decimals.{digits, decimal}
+use Rattle.lists.specs.Parts.{overlay}
+use Rattle.replies.specs.Printed.{decimalText}
+use Rattle.replies.proofs.DecimalLaws.{length-digits}
+use Rattle.replies.proofs.Signs.{text-minus, text-plain}
+use Rattle.replies.proofs.Overlays.{byte-then}
+use Rattle.replies.proofs.spell_decimal.Statement.{statement}
+use Rattle.replies.proofs.spell_decimal.Tie as tie
+
+text-of : (c : tie.After-places)
+    → digits (c .places .result) (c .before .before .args .d .size) ≡ decimal (c .before .before .args .d .size)
+unfolding decimal
+text-of c = ap (λ (k : ℕ). digits k (c .before .before .args .d .size)) (c .places .ensures .0)
+
+below-size : (c : tie.Then1) → length (decimalText (c .before .before .before .args .d)) ≡ suc (c .before .places .result)
+below-size c =
+    ap length (text-minus (c .before .before .before .args .d) (c .if1 .taken))
+    ∙ ap (λ (l : List ℕ). suc (length l)) (sym (text-of (c .before))) ∙ ap suc (length-digits _ _)
+
+above-size : (c : tie.Else1) → length (decimalText (c .before .before .before .args .d)) ≡ c .before .places .result
+above-size c =
+    ap length (text-plain (c .before .before .before .args .d) (c .if1 .left)) ∙ ap length (sym (text-of (c .before))) ∙ length-digits _ _
+
+places-requires : tie.Need-places-requires
+places-requires c κs = search needs
+
+slice-write-out : tie.Need-slice-write-out
+slice-write-out c = let e = below-size c in omega (arith, c .before .before .before .pre)
+
+add-spell : tie.Need-add-spell
+add-spell c = let e = below-size (c .before) in omega (arith, c .before .before .before .before .pre)
+
+spell-requires : tie.Need-spell-requires
+spell-requires c κs = let e = below-size (c .before) in simp length-set (omega (arith, c .before .before .before .before .pre))
+
+spell-requires-2 : tie.Need-spell-requires-2
+spell-requires-2 c κs = let e = above-size (c .before) in omega (arith, c .before .before .before .before .pre)
+
+same-length : tie.Need-same-length
+same-length c = c .before .before .spell .kept .0 ∙ simp length-set
+
+returns : tie.Need-returns
+returns c =
+    let s = c .before .before .before .before .before .before .before in
+    let g = c .before .before .before .before in
+    let l = s .args .out .now in
+    let at = s .args .at in
+    let e = below-size g in
+    c .before .before .spell .ensures
+    ∙ byte-then l at 45 (digits (g .before .places .result) (s .args .d .size)) (omega (arith, s .pre))
+    ∙ ap (λ (t : List ℕ). overlay l at (45 ∷ t)) (text-of (g .before))
+    ∙ ap (overlay l at) (sym (text-minus (s .args .d) (g .if1 .taken)))
+
+same-length-2 : tie.Need-same-length-2
+same-length-2 c = search needs
+
+returns-2 : tie.Need-returns-2
+returns-2 c =
+    let s = c .before .before .before .before .before .before .before in
+    let g = c .before .before .before .before in
+    let l = s .args .out .now in
+    let at = s .args .at in
+    c .before .before .spell2 .ensures
+    ∙ ap (overlay l at) (text-of (g .before))
+    ∙ ap (overlay l at) (sym (text-plain (s .args .d) (g .if1 .left)))
+
+pub spell-decimal-spec : {M : Type 1} → statement M
+spell-decimal-spec =
+    tie.close
+    (tie.spec
+    places-requires
+    slice-write-out
+    add-spell
+    spell-requires
+    spell-requires-2
+    same-length
+    returns
+    same-length-2
+    returns-2)
