@@ -1,0 +1,101 @@
+//! What operations answer, and what steps give.
+
+use std::fmt;
+
+use crate::Refusal;
+
+/// What an operation answers.
+#[derive(Clone, Copy, Debug, PartialEq, Eq, Hash)]
+pub enum Answer {
+    /// Insert: the account was not there.
+    Added,
+    /// Insert: the account was there.
+    Replaced,
+    /// Delete: the account was there.
+    Removed,
+    /// Delete: the account was not there.
+    Absent,
+    /// Lookup: the account's total.
+    Found(i64),
+    /// Lookup: the account is not there.
+    None,
+    /// Insert or delete: the table holds b accounts that agree with this one in the first M bits. Nothing changed.
+    Crowded,
+}
+
+impl Answer {
+    /// The answer that a number from 16 on is, with the word told for a total.
+    fn of(number: u64, total: u64) -> Answer {
+        match number {
+            17 => Answer::Added,
+            18 => Answer::Replaced,
+            19 => Answer::Removed,
+            20 => Answer::Absent,
+            21 => Answer::Found(total as i64),
+            22 => Answer::None,
+            // 25: the contracts leave no other
+            _ => Answer::Crowded,
+        }
+    }
+}
+
+/// Document 01's word, and the total where there is one: `found 700`.
+impl fmt::Display for Answer {
+    fn fmt(&self, f: &mut fmt::Formatter<'_>) -> fmt::Result {
+        match self {
+            Answer::Added => f.write_str("added"),
+            Answer::Replaced => f.write_str("replaced"),
+            Answer::Removed => f.write_str("removed"),
+            Answer::Absent => f.write_str("absent"),
+            Answer::Found(total) => write!(f, "found {total}"),
+            Answer::None => f.write_str("none"),
+            Answer::Crowded => f.write_str("crowded"),
+        }
+    }
+}
+
+/// What one step gives.
+#[derive(Clone, Copy, Debug, PartialEq, Eq, Hash)]
+pub enum Stepped {
+    /// The operation goes on.
+    Moved,
+    /// The operation has ended and its worker is idle again.
+    Answered {
+        /// The operation's answer.
+        answer: Answer,
+        /// The steps it took in all.
+        steps: u64,
+    },
+}
+
+/// What up to so many steps give.
+#[derive(Clone, Copy, Debug, PartialEq, Eq, Hash)]
+pub enum Ran {
+    /// So many steps were given, and the operation goes on.
+    Moved(u64),
+    /// The operation has ended and its worker is idle again.
+    Answered {
+        /// The operation's answer.
+        answer: Answer,
+        /// The steps it took in all.
+        steps: u64,
+    },
+}
+
+/// What a run's number and report say.
+pub(crate) fn ran(number: u64, report: [u64; 2]) -> Result<Ran, Refusal> {
+    let [steps, total] = report;
+    match number {
+        0 => Ok(Ran::Moved(steps)),
+        1..=15 => Err(Refusal::of(number)),
+        _ => Ok(Ran::Answered { answer: Answer::of(number, total), steps }),
+    }
+}
+
+/// What a step's number and report say.
+pub(crate) fn stepped(number: u64, report: [u64; 2]) -> Result<Stepped, Refusal> {
+    match ran(number, report)? {
+        Ran::Moved(_) => Ok(Stepped::Moved),
+        Ran::Answered { answer, steps } => Ok(Stepped::Answered { answer, steps }),
+    }
+}

@@ -1,0 +1,32 @@
+//! The totals table: a wait-free extendible hash table of accounts and totals over lent 64-bit words, proved in Rattle, behind a safe
+//! interface.
+//!
+//! A table is opened for n workers. An operation (insert, delete, lookup) is handed to a worker, and then takes its steps, one at a time
+//! and interleaved with the others' as the caller likes. A lookup answers at its second step, an update at its step 12n+33 or earlier,
+//! whatever the other workers do.
+//!
+//! ```
+//! use totals::{Answer, Owned, Ran, Refusal, Settings};
+//! let mut owned = Owned::new(Settings::new(2, 2, 1)?)?;
+//! let mut table = owned.table();
+//! table.insert(1, 9, 90)?;
+//! assert_eq!(table.run(1, 3)?, Ran::Moved(3));
+//! table.insert(0, 5, 50)?;
+//! assert_eq!(table.run(0, 99)?, Ran::Answered { answer: Answer::Added, steps: 15 });
+//! // worker 0 has helped worker 1, which is parked
+//! assert_eq!(table.listing()?, [(5, 50), (9, 90)]);
+//! assert_eq!(table.insert(1, 9, 91), Err(Refusal::Busy));
+//! # Ok::<(), Refusal>(())
+//! ```
+#![deny(missing_docs, unsafe_op_in_unsafe_fn)]
+
+mod answer;
+pub mod raw;
+mod refusal;
+mod settings;
+mod table;
+
+pub use answer::{Answer, Ran, Stepped};
+pub use refusal::Refusal;
+pub use settings::Settings;
+pub use table::{Owned, Table};

@@ -1,0 +1,105 @@
+//! Why a call was turned down.
+
+use std::{error, fmt};
+
+/// Why a call was turned down. A refused call has changed no word and no list. Crowded, number 9, is an [`Answer`](crate::Answer).
+///
+/// ```
+/// use totals::{Refusal, Settings};
+/// let refusal = Settings::new(9, 2, 1).unwrap_err();
+/// assert_eq!(refusal, Refusal::Settings);
+/// assert_eq!(refusal.number(), 1);
+/// assert_eq!(refusal.to_string(), "settings: n, b or M is outside its range");
+/// ```
+#[derive(Clone, Copy, Debug, PartialEq, Eq, Hash)]
+pub enum Refusal {
+    /// A setting is outside its range.
+    Settings,
+    /// Fewer words lent than needed.
+    Short,
+    /// The worker's number is n or more; workers count from 0.
+    Stranger,
+    /// A call to a worker whose operation has no answer yet.
+    Busy,
+    /// A step for a worker without operation.
+    Idle,
+    /// No kind of operation; the methods of [`Table`](crate::Table) never give one.
+    Kind,
+    /// An insert or a delete by a worker that has made 65,535 of them.
+    Spent,
+    /// The words are no table.
+    Strange,
+    /// A list is shorter than the count.
+    Narrow,
+}
+
+impl Refusal {
+    /// The refusal that a number other than 0 and below 16 is.
+    pub(crate) fn of(number: u64) -> Refusal {
+        match number {
+            1 => Refusal::Settings,
+            2 => Refusal::Short,
+            3 => Refusal::Stranger,
+            4 => Refusal::Busy,
+            5 => Refusal::Idle,
+            6 => Refusal::Kind,
+            7 => Refusal::Spent,
+            8 => Refusal::Strange,
+            // 10: the contracts leave no other
+            _ => Refusal::Narrow,
+        }
+    }
+
+    /// The refusal's number.
+    pub fn number(self) -> u64 {
+        match self {
+            Refusal::Settings => 1,
+            Refusal::Short => 2,
+            Refusal::Stranger => 3,
+            Refusal::Busy => 4,
+            Refusal::Idle => 5,
+            Refusal::Kind => 6,
+            Refusal::Spent => 7,
+            Refusal::Strange => 8,
+            Refusal::Narrow => 10,
+        }
+    }
+
+    /// The refusal's word.
+    pub fn word(self) -> &'static str {
+        match self {
+            Refusal::Settings => "settings",
+            Refusal::Short => "short",
+            Refusal::Stranger => "stranger",
+            Refusal::Busy => "busy",
+            Refusal::Idle => "idle",
+            Refusal::Kind => "kind",
+            Refusal::Spent => "spent",
+            Refusal::Strange => "strange",
+            Refusal::Narrow => "narrow",
+        }
+    }
+
+    /// When it is given.
+    fn given(self) -> &'static str {
+        match self {
+            Refusal::Settings => "n, b or M is outside its range",
+            Refusal::Short => "fewer words lent than needed",
+            Refusal::Stranger => "worker number is n or more",
+            Refusal::Busy => "a call to a worker whose operation has no answer yet",
+            Refusal::Idle => "a step for a worker without operation",
+            Refusal::Kind => "not 1 insert, 2 delete, 3 lookup",
+            Refusal::Spent => "insert or delete by a worker that has made 65,535 of them",
+            Refusal::Strange => "memory fails the checks",
+            Refusal::Narrow => "accounts or totals list shorter than the count",
+        }
+    }
+}
+
+impl fmt::Display for Refusal {
+    fn fmt(&self, f: &mut fmt::Formatter<'_>) -> fmt::Result {
+        write!(f, "{}: {}", self.word(), self.given())
+    }
+}
+
+impl error::Error for Refusal {}

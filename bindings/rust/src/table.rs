@@ -1,0 +1,199 @@
+//! A table over borrowed words, and one that owns its words.
+
+use crate::answer::{ran, stepped};
+use crate::{raw, Ran, Refusal, Settings, Stepped};
+
+const INSERT: u64 = 1;
+const DELETE: u64 = 2;
+const LOOKUP: u64 = 3;
+
+/// 0 is done, any other number a refusal.
+fn done(number: u64) -> Result<(), Refusal> {
+    match number {
+        0 => Ok(()),
+        _ => Err(Refusal::of(number)),
+    }
+}
+
+/// A table over borrowed words. All of it is in the words: whoever has them can go on later with [`Table::over`].
+///
+/// Over words that hold no table every method is safe: it refuses with [`Refusal::Strange`] where the words fail the checks of
+/// `include/totals.h`, and else works with what they hold. A refused call changes nothing.
+///
+/// ```
+/// use totals::{Answer, Ran, Settings, Table};
+/// let settings = Settings::new(1, 2, 1)?;
+/// let mut words = vec![0; settings.words_needed()];
+/// let mut table = Table::open(&mut words, settings)?;
+/// table.insert(0, 5, 700)?;
+/// assert_eq!(table.run(0, 12)?, Ran::Moved(12));
+/// assert_eq!(table.run(0, 9)?, Ran::Answered { answer: Answer::Added, steps: 13 });
+/// table.lookup(0, 5)?;
+/// assert_eq!(table.run(0, 2)?, Ran::Answered { answer: Answer::Found(700), steps: 2 });
+/// assert_eq!(table.listing()?, [(5, 700)]);
+/// # Ok::<(), totals::Refusal>(())
+/// ```
+#[derive(Debug)]
+pub struct Table<'a> {
+    words: &'a mut [u64],
+}
+
+impl<'a> Table<'a> {
+    /// The most accounts that a table opened with any settings holds.
+    pub const GREATEST_COUNT: usize = 4096;
+
+    /// A fresh, empty table, whatever the words held. Refuses with [`Refusal::Short`].
+    ///
+    /// ```
+    /// use totals::{Refusal, Settings, Table};
+    /// let settings = Settings::new(1, 2, 0)?;
+    /// assert_eq!(Table::open(&mut [0; 149], settings).err(), Some(Refusal::Short));
+    /// assert!(Table::open(&mut [0; 150], settings).is_ok());
+    /// # Ok::<(), Refusal>(())
+    /// ```
+    pub fn open(words: &'a mut [u64], settings: Settings) -> Result<Table<'a>, Refusal> {
+        let (workers, capacity, depth) = (settings.workers(), settings.capacity(), settings.depth());
+        // SAFETY: the pointer and the length are those of a slice that is borrowed for the call.
+        done(unsafe { raw::totals_open(words.as_mut_ptr(), words.len(), workers, capacity, depth) })?;
+        Ok(Table { words })
+    }
+
+    /// The table that the words already hold.
+    ///
+    /// ```
+    /// use totals::{Refusal, Settings, Table};
+    /// let mut words = [0; 150];
+    /// assert_eq!(Table::over(&mut words).lookup(0, 5), Err(Refusal::Strange));
+    /// Table::open(&mut words, Settings::new(1, 2, 0)?)?;
+    /// assert_eq!(Table::over(&mut words).lookup(0, 5), Ok(()));
+    /// # Ok::<(), Refusal>(())
+    /// ```
+    pub fn over(words: &'a mut [u64]) -> Table<'a> {
+        Table { words }
+    }
+
+    /// Hands an operation to a worker.
+    fn call(&mut self, worker: u64, kind: u64, account: u32, total: i64) -> Result<(), Refusal> {
+        // SAFETY: the pointer and the length are those of a slice that is borrowed for the call.
+        done(unsafe { raw::totals_call(self.words.as_mut_ptr(), self.words.len(), worker, kind, account, total) })
+    }
+
+    /// Hands the worker an insert: the account's total is to be `total`. Refuses with `Strange`, `Stranger`, `Busy`, `Spent`, in this order.
+    pub fn insert(&mut self, worker: u64, account: u32, total: i64) -> Result<(), Refusal> {
+        self.call(worker, INSERT, account, total)
+    }
+
+    /// Hands the worker a delete of the account. Refuses as [`Table::insert`].
+    pub fn delete(&mut self, worker: u64, account: u32) -> Result<(), Refusal> {
+        self.call(worker, DELETE, account, 0)
+    }
+
+    /// Hands the worker a lookup of the account. Refuses with `Strange`, `Stranger`, `Busy`, in this order.
+    pub fn lookup(&mut self, worker: u64, account: u32) -> Result<(), Refusal> {
+        self.call(worker, LOOKUP, account, 0)
+    }
+
+    /// One step of the worker's operation. Refuses with `Strange`, `Stranger`, `Idle`, in this order.
+    ///
+    /// ```
+    /// use totals::{Answer, Owned, Refusal, Settings, Stepped};
+    /// let mut owned = Owned::new(Settings::new(2, 2, 1)?)?;
+    /// let mut table = owned.table();
+    /// assert_eq!(table.step(1), Err(Refusal::Idle));
+    /// table.lookup(1, 5)?;
+    /// assert_eq!(table.step(1), Ok(Stepped::Moved));
+    /// assert_eq!(table.step(1), Ok(Stepped::Answered { answer: Answer::None, steps: 2 }));
+    /// # Ok::<(), Refusal>(())
+    /// ```
+    pub fn step(&mut self, worker: u64) -> Result<Stepped, Refusal> {
+        let mut report = [0; 2];
+        // SAFETY: the pointers and the lengths are those of two slices that are borrowed for the call.
+        let number = unsafe { raw::totals_step(self.words.as_mut_ptr(), self.words.len(), worker, report.as_mut_ptr(), report.len()) };
+        stepped(number, report)
+    }
+
+    /// Up to `most` steps of the worker's operation, ending early at its answer; 256 at most, which no operation of an opened table takes.
+    /// Refuses as [`Table::step`].
+    pub fn run(&mut self, worker: u64, most: u64) -> Result<Ran, Refusal> {
+        let mut report = [0; 2];
+        let (words, length) = (self.words.as_mut_ptr(), self.words.len());
+        // SAFETY: the pointers and the lengths are those of two slices that are borrowed for the call.
+        let number = unsafe { raw::totals_run(words, length, worker, most, report.as_mut_ptr(), report.len()) };
+        ran(number, report)
+    }
+
+    /// Writes the accounts in ascending order with their totals to the start of both lists, and nothing past the count, which it gives.
+    /// Refuses with `Strange`, `Narrow`, in this order.
+    ///
+    /// ```
+    /// use totals::{Owned, Settings};
+    /// let mut owned = Owned::new(Settings::new(1, 2, 1)?)?;
+    /// let mut table = owned.table();
+    /// table.insert(0, 5, -700)?;
+    /// table.run(0, 99)?;
+    /// let (mut accounts, mut totals) = ([0; 2], [0; 2]);
+    /// assert_eq!(table.listing_into(&mut accounts, &mut totals)?, 1);
+    /// assert_eq!((accounts, totals), ([5, 0], [-700, 0]));
+    /// # Ok::<(), totals::Refusal>(())
+    /// ```
+    pub fn listing_into(&self, accounts: &mut [u32], totals: &mut [i64]) -> Result<usize, Refusal> {
+        let mut report = [0; 1];
+        // SAFETY: the pointers and the lengths are those of four slices that are borrowed for the call.
+        let number = unsafe {
+            raw::totals_list(
+                self.words.as_ptr(),
+                self.words.len(),
+                accounts.as_mut_ptr(),
+                accounts.len(),
+                totals.as_mut_ptr(),
+                totals.len(),
+                report.as_mut_ptr(),
+                report.len(),
+            )
+        };
+        done(number)?;
+        Ok(report[0] as usize)
+    }
+
+    /// The accounts in ascending order with their totals. Refuses with `Strange`.
+    pub fn listing(&self) -> Result<Vec<(u32, i64)>, Refusal> {
+        // words from elsewhere may name up to 2^15 buckets of 16
+        let most = 16 << 15;
+        let mut places = Self::GREATEST_COUNT;
+        loop {
+            let (mut accounts, mut totals) = (vec![0; places], vec![0; places]);
+            match self.listing_into(&mut accounts, &mut totals) {
+                Ok(count) => return Ok(accounts.into_iter().zip(totals).take(count).collect()),
+                Err(Refusal::Narrow) if places < most => places *= 2,
+                Err(refusal) => return Err(refusal),
+            }
+        }
+    }
+}
+
+/// A table that owns its words.
+///
+/// ```
+/// use totals::{Owned, Settings};
+/// let mut owned = Owned::new(Settings::new(8, 16, 8)?)?;
+/// assert_eq!(owned.table().listing()?, []);
+/// # Ok::<(), totals::Refusal>(())
+/// ```
+#[derive(Debug)]
+pub struct Owned {
+    words: Vec<u64>,
+}
+
+impl Owned {
+    /// A fresh, empty table over as many words as the settings need.
+    pub fn new(settings: Settings) -> Result<Owned, Refusal> {
+        let mut words = vec![0; settings.words_needed()];
+        Table::open(&mut words, settings)?;
+        Ok(Owned { words })
+    }
+
+    /// The table, to be worked on.
+    pub fn table(&mut self) -> Table<'_> {
+        Table::over(&mut self.words)
+    }
+}

@@ -1,0 +1,205 @@
+//! Document 01's session and cases by the safe interface, every refusal, and the words needed for all settings.
+
+use totals::{Answer, Owned, Ran, Refusal, Settings, Stepped, Table};
+
+type Done = Result<(), Refusal>;
+
+fn opened(workers: u64, capacity: u64, depth: u64) -> Result<Owned, Refusal> {
+    Owned::new(Settings::new(workers, capacity, depth)?)
+}
+
+/// The worker's operation ends now.
+fn ends(table: &mut Table, worker: u64, answer: Answer, steps: u64) -> Done {
+    assert_eq!(table.run(worker, 99)?, Ran::Answered { answer, steps });
+    Ok(())
+}
+
+/// Worker 0 has inserted the accounts, each with ten times its number for a total; none was split.
+fn holding(workers: u64, accounts: &[u32]) -> Result<Owned, Refusal> {
+    let mut owned = opened(workers, 2, 1)?;
+    let mut table = owned.table();
+    for &account in accounts {
+        table.insert(0, account, i64::from(account) * 10)?;
+        ends(&mut table, 0, Answer::Added, 2 * workers + 11)?;
+    }
+    Ok(owned)
+}
+
+#[test]
+fn settings_outside_their_range_are_refused() -> Done {
+    for (workers, capacity, depth) in [(0, 2, 1), (9, 2, 1), (1, 1, 1), (1, 17, 1), (1, 2, 9)] {
+        assert_eq!(Settings::new(workers, capacity, depth), Err(Refusal::Settings));
+    }
+    let settings = Settings::new(8, 16, 8)?;
+    let mut words = vec![7; settings.words_needed()];
+    assert!(Table::open(&mut words, settings).is_ok());
+    words.pop();
+    assert_eq!(Table::open(&mut words, settings).err(), Some(Refusal::Short));
+    Ok(())
+}
+
+#[test]
+fn the_words_needed_and_a_fresh_table_for_all_settings() -> Done {
+    for n in Settings::LEAST_WORKERS..=Settings::GREATEST_WORKERS {
+        for b in Settings::LEAST_CAPACITY..=Settings::GREATEST_CAPACITY {
+            for m in Settings::LEAST_DEPTH..=Settings::GREATEST_DEPTH {
+                let settings = Settings::new(n, b, m)?;
+                let span = 1 << m;
+                let needed = 16 + span + 4 * n + n * (4 * n + 24) + (span + n + 2) * (2 * b + 2 * n + 6) + 53;
+                assert_eq!(settings.words_needed() as u64, needed);
+                assert!(needed <= 16 * (2 * n + 1) * span * (b + n + 4));
+                assert_eq!(Owned::new(settings)?.table().listing()?, []);
+            }
+        }
+    }
+    Ok(())
+}
+
+#[test]
+fn the_session() -> Done {
+    let mut owned = opened(1, 2, 1)?;
+    let mut table = owned.table();
+    table.insert(0, 5, 700)?;
+    assert_eq!(table.run(0, 12)?, Ran::Moved(12));
+    assert_eq!(table.run(0, 9)?, Ran::Answered { answer: Answer::Added, steps: 13 });
+    table.lookup(0, 5)?;
+    assert_eq!(table.run(0, 2)?, Ran::Answered { answer: Answer::Found(700), steps: 2 });
+    assert_eq!(table.listing()?, [(5, 700)]);
+    Ok(())
+}
+
+#[test]
+fn a_split_then_crowded() -> Done {
+    let mut owned = holding(1, &[5, 6])?;
+    let mut table = owned.table();
+    table.insert(0, 2147483648, 80)?;
+    ends(&mut table, 0, Answer::Added, 23)?;
+    table.insert(0, 7, 70)?;
+    ends(&mut table, 0, Answer::Crowded, 13)?;
+    table.delete(0, 5)?;
+    ends(&mut table, 0, Answer::Crowded, 13)?;
+    assert_eq!(table.listing()?, [(5, 50), (6, 60), (2147483648, 80)]);
+    Ok(())
+}
+
+#[test]
+fn crowded_straight_away_and_the_split_stays() -> Done {
+    let mut owned = holding(1, &[5, 6])?;
+    let mut table = owned.table();
+    table.insert(0, 7, 70)?;
+    ends(&mut table, 0, Answer::Crowded, 23)?;
+    // nothing is left to split
+    table.insert(0, 2147483648, 80)?;
+    ends(&mut table, 0, Answer::Added, 13)
+}
+
+#[test]
+fn busy_idle_and_stranger() -> Done {
+    let mut owned = opened(2, 2, 1)?;
+    let mut table = owned.table();
+    assert_eq!(table.step(0), Err(Refusal::Idle));
+    assert_eq!(table.run(0, 1), Err(Refusal::Idle));
+    table.insert(0, 5, 7)?;
+    assert_eq!(table.insert(0, 5, 7), Err(Refusal::Busy));
+    assert_eq!(table.lookup(0, 5), Err(Refusal::Busy));
+    assert_eq!(table.delete(2, 5), Err(Refusal::Stranger));
+    assert_eq!(table.step(2), Err(Refusal::Stranger));
+    assert_eq!(table.run(u64::MAX, 1), Err(Refusal::Stranger));
+    assert_eq!(table.step(0), Ok(Stepped::Moved));
+    Ok(())
+}
+
+#[test]
+fn a_lookup_after_a_delete() -> Done {
+    let mut owned = holding(2, &[5])?;
+    let mut table = owned.table();
+    table.lookup(1, 5)?;
+    assert_eq!(table.step(1)?, Stepped::Moved);
+    table.delete(0, 5)?;
+    ends(&mut table, 0, Answer::Removed, 15)?;
+    assert_eq!(table.step(1)?, Stepped::Answered { answer: Answer::None, steps: 2 });
+    table.delete(0, 5)?;
+    ends(&mut table, 0, Answer::Absent, 15)
+}
+
+#[test]
+fn a_helped_insert() -> Done {
+    let mut owned = opened(2, 2, 1)?;
+    let mut table = owned.table();
+    table.insert(1, 9, 90)?;
+    assert_eq!(table.run(1, 3)?, Ran::Moved(3));
+    table.insert(0, 5, 50)?;
+    ends(&mut table, 0, Answer::Added, 15)?;
+    assert_eq!(table.listing()?, [(5, 50), (9, 90)]);
+    ends(&mut table, 1, Answer::Added, 15)
+}
+
+#[test]
+fn the_second_pass_is_needed() -> Done {
+    let mut owned = holding(2, &[5, 6])?;
+    let mut table = owned.table();
+    table.insert(0, 2147483648, 80)?;
+    assert_eq!(table.run(0, 20)?, Ran::Moved(20));
+    table.insert(1, 2147483649, 90)?;
+    assert_eq!(table.run(1, 13)?, Ran::Moved(13));
+    ends(&mut table, 0, Answer::Added, 29)?;
+    ends(&mut table, 1, Answer::Added, 43)
+}
+
+#[test]
+fn update_65535_is_accepted_and_the_next_is_spent() -> Done {
+    let mut owned = holding(1, &[5])?;
+    let mut table = owned.table();
+    for _ in 1..65_535 {
+        table.insert(0, 5, i64::MIN)?;
+        ends(&mut table, 0, Answer::Replaced, 13)?;
+    }
+    assert_eq!(table.insert(0, 5, 7), Err(Refusal::Spent));
+    assert_eq!(table.delete(0, 5), Err(Refusal::Spent));
+    table.lookup(0, 5)?;
+    ends(&mut table, 0, Answer::Found(i64::MIN), 2)
+}
+
+#[test]
+fn words_that_hold_no_table_are_strange() {
+    let mut words = [0; 150];
+    let mut table = Table::over(&mut words);
+    assert_eq!(table.insert(0, 5, 7), Err(Refusal::Strange));
+    assert_eq!(table.step(0), Err(Refusal::Strange));
+    assert_eq!(table.run(0, 9), Err(Refusal::Strange));
+    assert_eq!(table.listing(), Err(Refusal::Strange));
+}
+
+#[test]
+fn a_list_that_is_too_short_is_narrow_and_stays() -> Done {
+    let mut owned = holding(1, &[5, 6])?;
+    let table = owned.table();
+    let (mut accounts, mut totals) = ([1; 2], [1; 2]);
+    assert_eq!(table.listing_into(&mut accounts[..1], &mut totals), Err(Refusal::Narrow));
+    assert_eq!(table.listing_into(&mut accounts, &mut totals[..1]), Err(Refusal::Narrow));
+    assert_eq!((accounts, totals), ([1; 2], [1; 2]));
+    assert_eq!(table.listing_into(&mut accounts, &mut totals), Ok(2));
+    assert_eq!((accounts, totals), ([5, 6], [50, 60]));
+    Ok(())
+}
+
+#[test]
+fn words_and_numbers_of_refusals_and_answers() {
+    let all = [
+        (Refusal::Settings, 1, "settings"),
+        (Refusal::Short, 2, "short"),
+        (Refusal::Stranger, 3, "stranger"),
+        (Refusal::Busy, 4, "busy"),
+        (Refusal::Idle, 5, "idle"),
+        (Refusal::Kind, 6, "kind"),
+        (Refusal::Spent, 7, "spent"),
+        (Refusal::Strange, 8, "strange"),
+        (Refusal::Narrow, 10, "narrow"),
+    ];
+    for (refusal, number, word) in all {
+        assert_eq!((refusal.number(), refusal.word()), (number, word));
+        assert!(refusal.to_string().starts_with(&format!("{word}: ")));
+    }
+    let answers = [Answer::Added, Answer::Replaced, Answer::Removed, Answer::Absent, Answer::Found(-7), Answer::None, Answer::Crowded];
+    assert_eq!(answers.map(|a| a.to_string()), ["added", "replaced", "removed", "absent", "found -7", "none", "crowded"]);
+}

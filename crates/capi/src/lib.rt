@@ -1,0 +1,146 @@
+// The calls of `table` as flat C functions: a slice is a pointer and a length, an answer is a number, and what does not fit into the number
+// goes into a report. Each takes any words and any arguments; its contract equals a definition of specs/Flat. include/totals.h declares them.
+ghost use mathlib.Core.Path.{_≡_};
+ghost use mathlib.Core.List.{[], _∷_};
+ghost use Rattle.interface.specs.Limits.{built};
+ghost use Rattle.table.specs.Turns.{neededFor, openWords, callWords, stepWords, runWords};
+ghost use Rattle.rows.specs.Rows.{listingWords};
+ghost use Rattle.capi.specs.Flat.{neededNumber, openedNumber, calledNumber, endedNumber, steppedNumber, ranNumber, told, totalWord, endedReport, steppedReport, ranReport, flat, reported, written};
+use interface::Answer;
+use interface::Called;
+use interface::Completion;
+use interface::Listed;
+use interface::Needed;
+use interface::Opened;
+use interface::Ran;
+use interface::Stepped;
+
+// A word at the start of a report that has room for it.
+fn tell_one(report: &mut [u64], first: u64)
+    ensures { λ _. ⌜ now (report .exit) ≡ told (now (report .entry)) (first ∷ []) ⌝ }
+{
+    if report.len() < 1 {
+        return;
+    }
+    report[0] = first;
+}
+
+// Two words at the start of a report that has room for both.
+fn tell(report: &mut [u64], first: u64, second: u64)
+    ensures { λ _. ⌜ now (report .exit) ≡ told (now (report .entry)) (first ∷ second ∷ []) ⌝ }
+{
+    if report.len() < 2 {
+        return;
+    }
+    report[0] = first;
+    report[1] = second;
+}
+
+// The total found, as a word; 0 where the answer has none.
+fn total_word(answer: Answer) -> u64
+    ensures { λ r. ⌜ r ≡ totalWord answer ⌝ }
+{
+    match answer {
+        Answer::Added => 0,
+        Answer::Replaced => 0,
+        Answer::Removed => 0,
+        Answer::Absent => 0,
+        Answer::Found(total) => memory::word_of(total),
+        Answer::Missing => 0,
+        Answer::Crowded => 0,
+    }
+}
+
+// An operation's end: its number, and its steps and total in the report.
+fn ended(report: &mut [u64], c: Completion) -> u64
+    ensures { λ r. ⌜ (now (report .exit) ≡ endedReport (now (report .entry)) c) × (r ≡ endedNumber c) ⌝ }
+{
+    let answer = c.answer;
+    tell(report, c.steps, total_word(answer));
+    16 + answer.number()
+}
+
+// How many words a table of these settings needs, or 1 for wrong settings.
+#[no_mangle]
+pub extern "C" fn totals_words_needed(workers: u64, capacity: u64, depth: u64) -> u64
+    ensures { λ r. ⌜ r ≡ neededNumber (neededFor (built workers capacity depth)) ⌝ }
+{
+    match table::words_needed(workers, capacity, depth) {
+        Needed::Words(k) => k,
+        Needed::Refused(r) => r.number(),
+    }
+}
+
+// A fresh table: 0, or 1, 2.
+#[no_mangle]
+pub extern "C" fn totals_open(words: &mut [u64], workers: u64, capacity: u64, depth: u64) -> u64
+    ensures { λ r. ⌜ (now (words .exit), r) ≡ flat openedNumber (openWords (now (words .entry)) workers capacity depth) ⌝ }
+{
+    match table::open(words, workers, capacity, depth) {
+        Opened::Opened => 0,
+        Opened::Refused(r) => r.number(),
+    }
+}
+
+// An operation handed to a worker: 0, or 8, 3, 4, 6, 7.
+#[no_mangle]
+pub extern "C" fn totals_call(
+    words: &mut [u64],
+    worker: u64,
+    kind: u64,
+    account: u32,
+    total: i64,
+) -> u64
+    ensures { λ r. ⌜ (now (words .exit), r) ≡ flat calledNumber (callWords (now (words .entry)) worker kind account total) ⌝ }
+{
+    match table::call(words, worker, kind, account, total) {
+        Called::Accepted => 0,
+        Called::Refused(r) => r.number(),
+    }
+}
+
+// One step of a worker: 0 where its operation goes on, 16 and the answer's number where it ended, or 8, 3, 5.
+#[no_mangle]
+pub extern "C" fn totals_step(words: &mut [u64], worker: u64, report: &mut [u64]) -> u64
+    ensures { λ r. ⌜ record { words = now (words .exit); report = now (report .exit); number = r } ≡ reported steppedNumber steppedReport (now (report .entry)) (stepWords (now (words .entry)) worker) ⌝ }
+{
+    match table::step(words, worker) {
+        Stepped::Moved => 0,
+        Stepped::Answered(c) => ended(report, c),
+        Stepped::Refused(r) => r.number(),
+    }
+}
+
+// Up to so many steps of a worker, ending early at an answer: as a step, and the steps given are reported where the operation goes on.
+#[no_mangle]
+pub extern "C" fn totals_run(words: &mut [u64], worker: u64, most: u64, report: &mut [u64]) -> u64
+    ensures { λ r. ⌜ record { words = now (words .exit); report = now (report .exit); number = r } ≡ reported ranNumber ranReport (now (report .entry)) (runWords (now (words .entry)) worker most) ⌝ }
+{
+    match table::run(words, worker, most) {
+        Ran::Moved(k) => {
+            tell(report, k, 0);
+            0
+        }
+        Ran::Answered(c) => ended(report, c),
+        Ran::Refused(r) => r.number(),
+    }
+}
+
+// The accounts in ascending order with their totals: 0 and the count reported, or 8, 10.
+#[no_mangle]
+pub extern "C" fn totals_list(
+    words: &[u64],
+    accounts: &mut [u32],
+    totals: &mut [i64],
+    report: &mut [u64],
+) -> u64
+    ensures { λ r. ⌜ record { accounts = now (accounts .exit); totals = now (totals .exit); report = now (report .exit); number = r } ≡ written (now (report .entry)) (listingWords (now (words .entry)) (now (accounts .entry)) (now (totals .entry))) ⌝ }
+{
+    match table::listing(words, accounts, totals) {
+        Listed::Count(k) => {
+            tell_one(report, k);
+            0
+        }
+        Listed::Refused(r) => r.number(),
+    }
+}
