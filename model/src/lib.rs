@@ -5,6 +5,7 @@
 pub mod check;
 pub mod explain;
 pub mod fault;
+pub mod input;
 pub mod invariants;
 pub mod judge;
 pub mod lines;
@@ -20,6 +21,7 @@ pub mod refusal;
 pub mod search;
 pub mod settings;
 pub mod shrink;
+pub mod spoil;
 mod steps;
 pub mod task;
 pub mod totals;

@@ -1,9 +1,10 @@
-//! The commands: totals, search, replay, faults.
+//! The commands: totals, lines, search, replay, faults.
 #![forbid(unsafe_code)]
 
 use model::check::Counts;
 use model::explain::UNDECIDED;
 use model::fault::Fault;
+use model::input::Input;
 use model::lines::{read_line, Line};
 use model::search::{search, verdict, By, Failure};
 use model::totals::{self, next_line};
@@ -12,6 +13,7 @@ use std::process::ExitCode;
 
 const USAGE: &str = "usage:
   model totals [--fault NAME]
+  model lines SEED COUNT
   model search --seed S --steps N [--fault NAME] [--external]
   model replay [--fault NAME]
   model faults
@@ -32,6 +34,9 @@ fn main() -> ExitCode {
         .map(|argument| argument.to_string_lossy().into_owned())
         .collect();
     let command = arguments.first().map(String::as_str);
+    if command == Some("lines") {
+        return lines(&arguments[1..]);
+    }
     let Some(options) = options(arguments.get(1..).unwrap_or(&[])) else {
         return usage();
     };
@@ -48,6 +53,10 @@ fn main() -> ExitCode {
         Some("faults") if arguments.len() == 1 => faults(),
         _ => return usage(),
     };
+    ended(outcome)
+}
+
+fn ended(outcome: io::Result<u8>) -> ExitCode {
     match outcome {
         Ok(code) => ExitCode::from(code),
         Err(error) => {
@@ -75,6 +84,28 @@ fn options(arguments: &[String]) -> Option<Options> {
         }
     }
     Some(options)
+}
+
+/// Writes so many lines of random input; an odd seed's last line has no line feed.
+fn lines(arguments: &[String]) -> ExitCode {
+    let numbers: Option<Vec<u64>> = arguments.iter().map(|word| word.parse().ok()).collect();
+    match numbers.as_deref() {
+        Some([seed, count]) => ended(write_lines(*seed, *count)),
+        _ => usage(),
+    }
+}
+
+fn write_lines(seed: u64, count: u64) -> io::Result<u8> {
+    let mut out = io::BufWriter::new(io::stdout().lock());
+    let mut input = Input::new(seed);
+    for place in 1..=count {
+        out.write_all(&input.next_line())?;
+        if place < count || seed % 2 == 0 {
+            out.write_all(b"\n")?;
+        }
+    }
+    out.flush()?;
+    Ok(0)
 }
 
 fn run_search(seed: u64, steps: u64, options: &Options) -> io::Result<u8> {

@@ -46,6 +46,19 @@ fn unknown_arguments_get_the_usage_and_exit_2() {
 }
 
 #[test]
+fn lines_writes_so_many_lines_and_no_last_feed_for_an_odd_seed() {
+    for (seed, feeds) in [("8", 40), ("9", 39)] {
+        let output = run(&["lines", seed, "40"], b"");
+        assert_eq!(output.status.code(), Some(0));
+        let found = output.stdout.iter().filter(|byte| **byte == b'\n').count();
+        assert_eq!(found, feeds, "seed {seed}");
+    }
+    for wrong in [&["lines"][..], &["lines", "1"], &["lines", "1", "x"]] {
+        assert_eq!(run(wrong, b"").status.code(), Some(2), "{wrong:?}");
+    }
+}
+
+#[test]
 fn totals_answers_standard_input() {
     let input = b"O 1 2 1\nI 0 5 700\nS 0 12\nS 0 9\nL 0 5\nS 0 2\nT";
     let output = run(&["totals"], input);

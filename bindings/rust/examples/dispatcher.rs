@@ -1,0 +1,135 @@
+//! The report run of `examples/c/dispatcher.c`: three workers post twelve invoices; a dispatcher gives each a few steps at a time. Worker 2
+//! is parked in the middle of an update until the others have finished: they carry it out. Nothing is allocated for the table.
+
+use std::error::Error;
+use std::io::{self, Write};
+
+use totals::{Answer, Ran, Settings, Table};
+
+const WORKERS: usize = 3;
+const CAPACITY: usize = 4;
+const DEPTH: usize = 2;
+/// As many as [`Settings::words_needed`] says; [`Table::open`] refuses fewer.
+const WORDS: usize = 373;
+/// The most accounts that the table can hold.
+const PLACES: usize = CAPACITY << DEPTH;
+
+/// Accounts and cents, per worker. Posting is a lookup, then an insert of the new total. Nobody else may post to the account in between:
+/// its invoices go to one worker.
+const INVOICES: [[(u32, i64); 4]; WORKERS] = [
+    [(1010, 12500), (2000000010, 4000), (1010, -2500), (3000000010, 900)],
+    [(1020, 7300), (2000000020, 1500), (1020, 2900), (4000000010, 6000)],
+    [(1030, 8800), (1030, 450), (3000000020, 5000), (4000000020, 150)],
+];
+
+/// The turns, in a fixed, mixed order: a worker, and how many steps it gets.
+const ORDER: [(usize, u64); 8] = [(0, 7), (2, 5), (1, 9), (1, 2), (0, 4), (2, 3), (0, 6), (1, 8)];
+
+type Done = Result<(), Box<dyn Error>>;
+
+#[derive(Clone, Copy)]
+enum Stage {
+    Resting,
+    LookingUp,
+    Posting,
+}
+
+/// The number of a worker's invoice, and what it does about it.
+#[derive(Clone, Copy)]
+struct Worker {
+    invoice: usize,
+    stage: Stage,
+}
+
+struct Dispatcher<'a, W> {
+    table: Table<'a>,
+    workers: [Worker; WORKERS],
+    out: W,
+}
+
+impl<W: Write> Dispatcher<'_, W> {
+    /// After the lookup's answer comes the insert, after the insert's the next invoice.
+    fn answered(&mut self, w: usize, answer: Answer, steps: u64) -> Done {
+        let worker = &mut self.workers[w];
+        let (account, cents) = INVOICES[w][worker.invoice];
+        if let Stage::LookingUp = worker.stage {
+            let found = if let Answer::Found(total) = answer { total } else { 0 };
+            worker.stage = Stage::Posting;
+            self.table.insert(w as u64, account, found + cents)?;
+        } else {
+            // crowded is an answer too: nothing was changed
+            writeln!(self.out, "worker {w} posts {cents} to {account}: {answer}, {steps} steps")?;
+            *worker = Worker { invoice: worker.invoice + 1, stage: Stage::Resting };
+        }
+        Ok(())
+    }
+
+    /// One turn: a resting worker starts on its next invoice; then up to so many steps.
+    fn turn(&mut self, w: usize, steps: u64) -> Done {
+        let worker = &mut self.workers[w];
+        if let Stage::Resting = worker.stage {
+            self.table.lookup(w as u64, INVOICES[w][worker.invoice].0)?;
+            worker.stage = Stage::LookingUp;
+        }
+        match self.table.run(w as u64, steps)? {
+            // a page break; the worker is parked until its next turn, wherever its operation is
+            Ran::Moved(_) => Ok(()),
+            Ran::Answered { answer, steps } => self.answered(w, answer, steps),
+        }
+    }
+
+    fn has_invoices(&self, w: usize) -> bool {
+        self.workers[w].invoice < INVOICES[w].len()
+    }
+
+    /// Turns in the order, so many at most, until all is posted. The parked worker gets none.
+    fn dispatch(&mut self, turns: usize, parked: Option<usize>) -> Done {
+        for (w, steps) in ORDER.into_iter().cycle().take(turns) {
+            if !(0..WORKERS).any(|w| Some(w) != parked && self.has_invoices(w)) {
+                break;
+            }
+            if Some(w) != parked && self.has_invoices(w) {
+                self.turn(w, steps)?;
+            }
+        }
+        Ok(())
+    }
+
+    /// The rest of a worker's operation: it never takes as many steps as this.
+    fn finish(&mut self, w: usize, what: &str, account: u32) -> Done {
+        match self.table.run(w as u64, 256)? {
+            Ran::Answered { answer, steps } => writeln!(self.out, "worker {w} {what} {account}: {answer}, {steps} steps")?,
+            Ran::Moved(steps) => writeln!(self.out, "worker {w} {what} {account}: no answer after {steps} steps")?,
+        }
+        Ok(())
+    }
+
+    /// All accounts with their totals, ascending; parked workers do not matter.
+    fn show(&mut self, title: &str) -> Done {
+        let (mut accounts, mut totals) = ([0; PLACES], [0; PLACES]);
+        let count = self.table.listing_into(&mut accounts, &mut totals)?;
+        writeln!(self.out, "{title}: {count} accounts")?;
+        for (account, total) in accounts.iter().zip(totals).take(count) {
+            writeln!(self.out, "{account:10} {total:6}")?;
+        }
+        Ok(())
+    }
+}
+
+fn main() -> Done {
+    let settings = Settings::new(WORKERS as u64, CAPACITY as u64, DEPTH as u64)?;
+    let mut words = [0; WORDS];
+    let table = Table::open(&mut words, settings)?;
+    let workers = [Worker { invoice: 0, stage: Stage::Resting }; WORKERS];
+    let mut run = Dispatcher { table, workers, out: io::stdout().lock() };
+    run.dispatch(30, None)?;
+    run.show("worker 2 is parked, posting 450 to 1030")?;
+    run.dispatch(usize::MAX, Some(2))?;
+    run.show("worker 2 is still parked")?;
+    run.dispatch(usize::MAX, None)?;
+    run.table.lookup(0, 1010)?;
+    run.finish(0, "looks up", 1010)?;
+    run.table.delete(1, 4000000020)?;
+    run.finish(1, "deletes", 4000000020)?;
+    run.show("at the end")
+}

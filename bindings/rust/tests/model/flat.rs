@@ -1,0 +1,113 @@
+//! A table by the C functions, with guards around whatever is lent.
+
+use crate::lent::Lent;
+use crate::{number_of, Interface, Outcome, Rows};
+use model::prng::Prng;
+use model::settings::Settings;
+use totals::raw;
+
+pub struct Flat {
+    words: Lent<u64>,
+    prng: Prng,
+}
+
+impl Flat {
+    pub fn new(seed: u64) -> Flat {
+        Flat { words: Lent::new(&[], 0), prng: Prng::new(seed) }
+    }
+
+    /// A report of 0 to 3 places.
+    fn report(&mut self) -> Lent<u64> {
+        let items: Vec<u64> = (0..self.prng.below(4)).map(|_| self.prng.draw()).collect();
+        Lent::new(&items, self.prng.draw())
+    }
+
+    /// The words, to be compared later, where a call is to be refused.
+    fn kept(&self, refused: bool) -> Option<Vec<u64>> {
+        refused.then(|| self.words.items().to_vec())
+    }
+
+    /// No guard was written, and no word by a refused call.
+    fn unchanged(&self, kept: Option<Vec<u64>>) {
+        assert!(self.words.intact(), "a word outside the lent ones was written");
+        assert!(kept.is_none_or(|kept| kept == self.words.items()), "a refused call changed a word");
+    }
+}
+
+/// A report has what was told at its start, if it fits, and else what it had.
+fn told(report: &Lent<u64>, mut before: Vec<u64>, told: &[u64]) {
+    assert!(report.intact(), "a word outside the report was written");
+    if told.len() <= before.len() {
+        before[..told.len()].copy_from_slice(told);
+    }
+    assert_eq!(report.items(), before);
+}
+
+impl Interface for Flat {
+    fn open(&mut self, [workers, capacity, depth]: [u64; 3], length: usize, want: Result<(), u8>) {
+        if want.is_ok() {
+            // what the words held stays in them, cut or lengthened
+            let mut words = self.words.items().to_vec();
+            words.resize(length, self.prng.draw());
+            self.words = Lent::new(&words, self.prng.draw());
+        }
+        let needed = unsafe { raw::totals_words_needed(workers, capacity, depth) };
+        assert_eq!(needed, Settings::new(workers, capacity, depth).map_or_else(u64::from, |settings| settings.words()));
+        let kept = self.kept(want.is_err());
+        let w = &mut self.words.items_mut()[..length];
+        let number = unsafe { raw::totals_open(w.as_mut_ptr(), w.len(), workers, capacity, depth) };
+        assert_eq!(number, number_of(want));
+        self.unchanged(kept);
+    }
+
+    fn call(&mut self, worker: u64, kind: u64, account: u32, total: i64, want: Result<(), u8>) {
+        let kept = self.kept(want.is_err());
+        let w = self.words.items_mut();
+        let number = unsafe { raw::totals_call(w.as_mut_ptr(), w.len(), worker, kind, account, total) };
+        assert_eq!(number, number_of(want));
+        self.unchanged(kept);
+    }
+
+    fn step(&mut self, worker: u64, want: Outcome) {
+        let kept = self.kept(want.is_refused());
+        let mut report = self.report();
+        let before = report.items().to_vec();
+        let (w, r) = (self.words.items_mut(), report.items_mut());
+        let number = unsafe { raw::totals_step(w.as_mut_ptr(), w.len(), worker, r.as_mut_ptr(), r.len()) };
+        assert_eq!(number, want.number());
+        let says = if let Outcome::Moved(_) = want { None } else { want.told() };
+        told(&report, before, says.as_ref().map_or(&[], |words| words));
+        self.unchanged(kept);
+    }
+
+    fn run(&mut self, worker: u64, most: u64, want: Outcome) {
+        let kept = self.kept(want.is_refused());
+        let mut report = self.report();
+        let before = report.items().to_vec();
+        let (w, r) = (self.words.items_mut(), report.items_mut());
+        let number = unsafe { raw::totals_run(w.as_mut_ptr(), w.len(), worker, most, r.as_mut_ptr(), r.len()) };
+        assert_eq!(number, want.number());
+        told(&report, before, want.told().as_ref().map_or(&[], |words| words));
+        self.unchanged(kept);
+    }
+
+    fn list(&mut self, accounts: usize, totals: usize, want: Result<Rows, u8>) {
+        let kept = self.kept(true);
+        let (mut want_accounts, mut want_totals) = (vec![7; accounts], vec![-7; totals]);
+        let (mut accounts, mut totals) = (Lent::new(&want_accounts, 9), Lent::new(&want_totals, 9));
+        let mut report = self.report();
+        let before = report.items().to_vec();
+        let (w, a, t, r) = (self.words.items(), accounts.items_mut(), totals.items_mut(), report.items_mut());
+        let number =
+            unsafe { raw::totals_list(w.as_ptr(), w.len(), a.as_mut_ptr(), a.len(), t.as_mut_ptr(), t.len(), r.as_mut_ptr(), r.len()) };
+        assert_eq!(number, number_of(want.as_ref().map(|_| ()).map_err(|number| *number)));
+        let count = want.as_ref().map(|rows| vec![rows.len() as u64]).unwrap_or_default();
+        told(&report, before, &count);
+        for (i, (account, total)) in want.into_iter().flatten().enumerate() {
+            (want_accounts[i], want_totals[i]) = (account, total);
+        }
+        assert!(accounts.intact() && totals.intact(), "a place outside the lists was written");
+        assert!(accounts.items() == want_accounts && totals.items() == want_totals, "another listing");
+        self.unchanged(kept);
+    }
+}

@@ -1,0 +1,256 @@
+//! Random orders of calls, single steps, runs and listings by the safe interface and by the C functions, held against the second model:
+//! every refusal, answer, step count and listing is the model's. Damaged words are the business of `foreign`.
+mod flat;
+#[path = "../foreign/lent.rs"]
+mod lent;
+mod orders;
+mod safe;
+
+use flat::Flat;
+use model::machine::{Machine, Stepped, MOST_TICKETS};
+use model::prng::Prng;
+use model::records::Answer;
+use orders::{Entry, Orders};
+use safe::Safe;
+use std::collections::BTreeSet;
+
+pub type Rows = Vec<(u32, i64)>;
+
+/// What steps give.
+#[derive(Clone, Copy, Debug)]
+pub enum Outcome {
+    /// So many steps were given.
+    Moved(u64),
+    /// The answer, and the operation's steps in all.
+    Answered(Answer, u64),
+    Refused(u8),
+}
+
+impl Outcome {
+    fn is_refused(self) -> bool {
+        matches!(self, Outcome::Refused(_))
+    }
+
+    /// The number that C gets.
+    fn number(self) -> u64 {
+        match self {
+            Outcome::Moved(_) => 0,
+            Outcome::Answered(answer, _) => 16 + answer_number(answer),
+            Outcome::Refused(number) => u64::from(number),
+        }
+    }
+
+    /// What a run tells in its report.
+    fn told(self) -> Option<[u64; 2]> {
+        match self {
+            Outcome::Moved(steps) => Some([steps, 0]),
+            Outcome::Answered(Answer::Found(total), steps) => Some([steps, total as u64]),
+            Outcome::Answered(_, steps) => Some([steps, 0]),
+            Outcome::Refused(_) => None,
+        }
+    }
+}
+
+fn answer_number(answer: Answer) -> u64 {
+    match answer {
+        Answer::Added => 1,
+        Answer::Replaced => 2,
+        Answer::Removed => 3,
+        Answer::Absent => 4,
+        Answer::Found(_) => 5,
+        Answer::None => 6,
+        Answer::Crowded => 9,
+    }
+}
+
+/// 0, or a refusal's number.
+fn number_of(result: Result<(), u8>) -> u64 {
+    result.err().map_or(0, u64::from)
+}
+
+/// One of the two interfaces, over words of its own. Each call is held against what the model gave.
+pub trait Interface {
+    fn open(&mut self, settings: [u64; 3], length: usize, want: Result<(), u8>);
+    fn call(&mut self, worker: u64, kind: u64, account: u32, total: i64, want: Result<(), u8>);
+    fn step(&mut self, worker: u64, want: Outcome);
+    fn run(&mut self, worker: u64, most: u64, want: Outcome);
+    fn list(&mut self, accounts: usize, totals: usize, want: Result<Rows, u8>);
+}
+
+/// A table by an interface and by the model, and how often each call gave each number.
+struct Pair<I> {
+    table: I,
+    machine: Machine,
+    counts: [[u64; 26]; 5],
+    /// How many updates were answered by the first, second, third and fourth check.
+    checks: [u64; 4],
+    /// Of the order under way.
+    seed: u64,
+}
+
+/// Says where a test failed.
+impl<I> Drop for Pair<I> {
+    fn drop(&mut self) {
+        if std::thread::panicking() {
+            println!("seed {}, after {} calls in all", self.seed, self.counts.iter().flatten().sum::<u64>());
+        }
+    }
+}
+
+const NAMES: [&str; 5] = ["open", "call", "step", "run", "list"];
+
+impl<I: Interface> Pair<I> {
+    fn new(table: I) -> Pair<I> {
+        let machine = Machine::open(1, 2, 0, 150).expect("the least settings");
+        let mut pair = Pair { table, machine, counts: Default::default(), checks: [0; 4], seed: 0 };
+        pair.enter(Entry::Open([1, 2, 0], 150));
+        pair
+    }
+
+    /// One entry, by the model and by the interface.
+    fn enter(&mut self, entry: Entry) {
+        let (name, number) = match entry {
+            Entry::Open([n, b, m], length) => {
+                let want = Machine::open(n, b, m, length as u64).map(|machine| self.machine = machine);
+                self.table.open([n, b, m], length, want);
+                (0, number_of(want))
+            }
+            Entry::Call { worker, kind, account, total } => {
+                let want = self.machine.call(worker as usize, kind, account, total);
+                self.table.call(worker, kind, account, total, want);
+                (1, number_of(want))
+            }
+            Entry::Step(worker) => {
+                let want = self.steps(worker, 1);
+                self.table.step(worker, want);
+                (2, want.number())
+            }
+            Entry::Run(worker, most) => {
+                let want = self.steps(worker, most);
+                self.table.run(worker, most, want);
+                (3, want.number())
+            }
+            Entry::List(accounts, totals) => {
+                let want = self.machine.listing(accounts, totals);
+                let number = want.as_ref().err().map_or(0, |number| u64::from(*number));
+                self.table.list(accounts, totals, want);
+                (4, number)
+            }
+        };
+        self.counts[name][number as usize] += 1;
+    }
+
+    /// Up to so many steps by the model; 256 at most, which no operation takes.
+    fn steps(&mut self, worker: u64, most: u64) -> Outcome {
+        let w = worker as usize;
+        if self.machine.workers.get(w).is_none_or(|worker| worker.task.is_none()) {
+            return outcome(self.machine.step(w).stepped);
+        }
+        for _ in 0..most.min(256) {
+            let report = self.machine.step(w);
+            if let Some(check) = usize::from(report.answering_check()).checked_sub(1) {
+                self.checks[check] += 1;
+            }
+            if report.stepped != Stepped::Moved {
+                return outcome(report.stepped);
+            }
+        }
+        Outcome::Moved(most)
+    }
+
+    fn calls(&self) -> u64 {
+        self.counts.iter().flatten().sum()
+    }
+
+    fn print(&self, title: &str) {
+        println!("{title}: {} calls; updates answered by each check {:?}", self.calls(), self.checks);
+        for (name, counts) in NAMES.iter().zip(&self.counts) {
+            let given: Vec<String> = (0..).zip(counts).filter(|(_, n)| **n > 0).map(|(k, n)| format!("{k}: {n}")).collect();
+            println!("  {name:5} {}", given.join(", "));
+        }
+    }
+
+    /// A call gave each of these numbers more than a hundred times, and no other.
+    fn gave(&self, name: &str, numbers: &[usize]) {
+        let call = NAMES.iter().position(|n| *n == name).expect("a call");
+        for (number, times) in self.counts[call].iter().enumerate() {
+            let right = if numbers.contains(&number) { *times > 100 } else { *times == 0 };
+            assert!(right, "{name} gave {number} {times} times");
+        }
+    }
+}
+
+fn outcome(stepped: Stepped) -> Outcome {
+    match stepped {
+        Stepped::Moved => Outcome::Moved(1),
+        Stepped::Answered { answer, steps } => Outcome::Answered(answer, steps),
+        Stepped::Refused(number) => Outcome::Refused(number),
+    }
+}
+
+/// Orders from so many seeds, each on the words that the one before left.
+fn random_orders(title: &str, table: impl Interface, seeds: u64, any_kind: bool) {
+    let mut pair = Pair::new(table);
+    let mut values = BTreeSet::new();
+    for seed in 0..seeds {
+        pair.seed = seed;
+        let mut orders = Orders::new(seed, any_kind);
+        let opening = orders.opening();
+        let s = orders.settings;
+        values.extend([('n', s.workers), ('b', s.bucket_size), ('M', s.greatest_depth as usize)]);
+        pair.enter(opening);
+        for _ in 0..1000 {
+            let entry = orders.next(&pair.machine);
+            pair.enter(entry);
+        }
+    }
+    pair.print(title);
+    assert_eq!(values.len(), 8 + 15 + 9, "every n, b and M comes up");
+    assert!(pair.calls() > 2_000_000 && pair.checks.iter().all(|updates| *updates > 10), "{:?}", pair.checks);
+    pair.gave("open", &[0, 1, 2]);
+    pair.gave("call", if any_kind { &[0, 3, 4, 6] } else { &[0, 3, 4] });
+    pair.gave("step", &[0, 3, 5, 17, 18, 19, 20, 21, 22, 25]);
+    pair.gave("run", &[0, 3, 5, 17, 18, 19, 20, 21, 22, 25]);
+    pair.gave("list", &[0, 10]);
+}
+
+/// Updates of worker 0 until it has none left, and after; worker 1 gets a few steps now and then.
+fn until_spent(title: &str, table: impl Interface) {
+    let mut pair = Pair::new(table);
+    let mut prng = Prng::new(7);
+    pair.enter(Entry::Open([2, 3, 2], 400));
+    for update in 0..u64::from(MOST_TICKETS) + 200 {
+        let account = |prng: &mut Prng| (prng.below(4) as u32) << 30 | prng.below(2) as u32;
+        pair.enter(Entry::Call { worker: 0, kind: prng.between(1, 2), account: account(&mut prng), total: update as i64 });
+        pair.enter(Entry::Run(0, 99));
+        if prng.percent(20) {
+            pair.enter(Entry::Call { worker: 1, kind: prng.between(1, 3), account: account(&mut prng), total: -1 });
+            pair.enter(Entry::Run(1, prng.between(1, 30)));
+        }
+    }
+    pair.enter(Entry::Call { worker: 0, kind: 3, account: 0, total: 0 });
+    pair.enter(Entry::Run(0, 2));
+    pair.enter(Entry::List(12, 12));
+    pair.print(title);
+    assert_eq!((pair.counts[1][7], pair.machine.workers[0].last_ticket), (200, MOST_TICKETS));
+}
+
+#[test]
+fn safe_interface() {
+    random_orders("safe interface", Safe::default(), 2000, false);
+}
+
+#[test]
+fn c_functions() {
+    random_orders("C functions", Flat::new(1), 2000, true);
+}
+
+#[test]
+fn safe_interface_until_spent() {
+    until_spent("safe interface until spent", Safe::default());
+}
+
+#[test]
+fn c_functions_until_spent() {
+    until_spent("C functions until spent", Flat::new(2));
+}

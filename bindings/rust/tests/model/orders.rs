@@ -1,0 +1,190 @@
+//! Random orders: every setting, workers parked for long, calls that are refused, lists of any length; all a function of the seed.
+
+use model::lines::Line;
+use model::machine::Machine;
+use model::prng::Prng;
+use model::random::Generator;
+use model::settings::Settings;
+use model::totals::kind_number;
+
+/// One entry of an order.
+pub enum Entry {
+    /// Settings n, b and M, and how many words are lent.
+    Open([u64; 3], usize),
+    Call {
+        worker: u64,
+        kind: u64,
+        account: u32,
+        total: i64,
+    },
+    Step(u64),
+    /// Up to so many steps.
+    Run(u64, u64),
+    /// Places in the accounts list, and in the totals list.
+    List(usize, usize),
+}
+
+pub struct Orders {
+    prng: Prng,
+    pub settings: Settings,
+    /// Draws orders in which workers overtake each other; the settings are its own then.
+    overtaking: Option<Generator>,
+    /// Whether a call may have a kind that there is not.
+    any_kind: bool,
+    pool: Vec<u32>,
+    /// Per worker how many entries it is parked for.
+    parked: Vec<u64>,
+    /// A worker that takes so many single steps, unless its operation ends before.
+    single: (u64, u64),
+}
+
+impl Orders {
+    pub fn new(seed: u64, any_kind: bool) -> Orders {
+        let mut prng = Prng::new(seed);
+        let overtaking = prng.percent(50).then(|| Generator::new(prng.draw(), false));
+        let settings = overtaking.as_ref().map_or_else(|| any_settings(&mut prng), |generator| generator.settings);
+        let pool = pool(&mut prng, settings);
+        Orders { parked: vec![0; settings.workers], single: (0, 0), prng, settings, overtaking, any_kind, pool }
+    }
+
+    /// The opening that the order starts with: as many words as are needed, or up to two more.
+    pub fn opening(&mut self) -> Entry {
+        Entry::Open(numbers(self.settings), self.settings.words() as usize + self.prng.below(3) as usize)
+    }
+
+    /// The next entry for a machine in this state.
+    pub fn next(&mut self, machine: &Machine) -> Entry {
+        let (worker, steps) = self.single;
+        if steps > 0 && is_busy(machine, worker) {
+            self.single.1 -= 1;
+            return Entry::Step(worker);
+        }
+        self.single.1 = 0;
+        if self.prng.percent(6) {
+            return self.anything(machine);
+        }
+        match &mut self.overtaking {
+            Some(generator) => {
+                let line = generator.next(machine);
+                self.of_line(line, machine)
+            }
+            None => self.work(machine),
+        }
+    }
+
+    fn of_line(&mut self, line: Line, machine: &Machine) -> Entry {
+        match line {
+            Line::Open { n, b, m } => Entry::Open([n, b, m], 0),
+            Line::Call { kind, worker, account, total } => Entry::Call { worker: worker as u64, kind: kind_number(kind), account, total },
+            Line::Step { worker, count } => self.steps(worker as u64, count),
+            Line::List => self.list(machine),
+        }
+    }
+
+    /// So many steps, at once or one by one.
+    fn steps(&mut self, worker: u64, count: u64) -> Entry {
+        if self.prng.percent(60) {
+            return Entry::Run(worker, count);
+        }
+        self.single = (worker, count - 1);
+        Entry::Step(worker)
+    }
+
+    /// A call to an idle worker or steps of a busy one, of those that are not parked.
+    fn work(&mut self, machine: &Machine) -> Entry {
+        self.parked.iter_mut().for_each(|entries| *entries = entries.saturating_sub(1));
+        let free: Vec<usize> = (0..self.parked.len()).filter(|w| self.parked[*w] == 0).collect();
+        let worker = self.prng.pick(&free).unwrap_or(0);
+        if !is_busy(machine, worker as u64) {
+            return self.call(worker as u64);
+        }
+        if self.prng.percent(10) {
+            self.parked[worker] = self.prng.between(1, 150);
+        }
+        let most = if self.prng.percent(50) { 4 } else { 60 };
+        let count = self.prng.between(1, most);
+        self.steps(worker as u64, count)
+    }
+
+    fn call(&mut self, worker: u64) -> Entry {
+        let kind = self.prng.pick(&[1, 1, 1, 1, 2, 2, 3]).unwrap_or(1);
+        let account = self.prng.pick(&self.pool).unwrap_or(0);
+        let total = self.prng.pick(&[i64::MIN, i64::MAX, 0, -1]).filter(|_| self.prng.percent(20));
+        Entry::Call { worker, kind, account, total: total.unwrap_or_else(|| self.prng.draw() as i64) }
+    }
+
+    /// An entry that is mostly refused, or asks for more than there is.
+    fn anything(&mut self, machine: &Machine) -> Entry {
+        let workers = machine.settings.workers as u64;
+        let worker = match self.prng.percent(20) {
+            true => self.prng.pick(&[workers, workers + 1, 1 << 32, u64::MAX]).unwrap_or(workers),
+            false => self.prng.below(workers),
+        };
+        match self.prng.below(8) {
+            0 => Entry::Open(wrong_settings(&mut self.prng), machine.settings.words() as usize),
+            1 => {
+                let settings = any_settings(&mut self.prng);
+                Entry::Open(numbers(settings), self.prng.below(settings.words().min(machine.settings.words())) as usize)
+            }
+            2 => self.list(machine),
+            3 => Entry::Step(worker),
+            4 => Entry::Run(worker, self.prng.pick(&[0, 1, 255, 256, 257, u64::MAX]).unwrap_or(0)),
+            5 if self.any_kind => match self.call(worker) {
+                Entry::Call { account, total, .. } => {
+                    Entry::Call { worker, kind: self.prng.pick(&[0, 4, 5, u64::MAX]).unwrap_or(0), account, total }
+                }
+                other => other,
+            },
+            _ => self.call(worker),
+        }
+    }
+
+    /// Lists that are a place too short, fit, are longer, or hold any listing.
+    fn list(&mut self, machine: &Machine) -> Entry {
+        let count = machine.items().len();
+        let mut places = || match self.prng.below(6) {
+            0 => count.saturating_sub(1),
+            1 => self.prng.below(count as u64 + 1) as usize,
+            2 => totals::Table::GREATEST_COUNT,
+            longer => count + longer as usize - 3,
+        };
+        Entry::List(places(), places())
+    }
+}
+
+fn is_busy(machine: &Machine, worker: u64) -> bool {
+    machine.workers.get(worker as usize).is_some_and(|worker| worker.task.is_some())
+}
+
+fn numbers(settings: Settings) -> [u64; 3] {
+    [settings.workers as u64, settings.bucket_size as u64, u64::from(settings.greatest_depth)]
+}
+
+/// All settings come up; small ones more often, since they split and crowd sooner.
+fn any_settings(prng: &mut Prng) -> Settings {
+    let bucket_size = prng.between(2, 16).min(prng.between(2, 16));
+    let greatest_depth = prng.between(0, 8).min(prng.between(0, 8));
+    Settings { workers: prng.between(1, 8) as usize, bucket_size: bucket_size as usize, greatest_depth: greatest_depth as u32 }
+}
+
+fn wrong_settings(prng: &mut Prng) -> [u64; 3] {
+    let mut settings = numbers(any_settings(prng));
+    let wrong = [(0, 0), (0, 9), (0, u64::MAX), (1, 0), (1, 1), (1, 17), (1, 1 << 32), (2, 9), (2, u64::MAX)];
+    let (place, number) = prng.pick(&wrong).unwrap_or((0, 0));
+    settings[place] = number;
+    settings
+}
+
+/// Accounts that fill buckets: few prefixes, a bit more or less deep than the table can be, and a few accounts in each.
+fn pool(prng: &mut Prng, settings: Settings) -> Vec<u32> {
+    let bits = (settings.greatest_depth + prng.below(3) as u32).saturating_sub(1).max(1);
+    let most = if prng.percent(20) { 200 } else { 8 };
+    let prefixes = prng.between(1, most);
+    let each = prng.between(1, settings.bucket_size as u64 + 1);
+    let mut pool = vec![0, u32::MAX, 1 << 31];
+    for _ in 0..prefixes {
+        let prefix = (prng.draw() as u32) >> (32 - bits) << (32 - bits);
+        pool.extend((0..each as u32).map(|low| prefix | low));
+    }
+    pool
+}

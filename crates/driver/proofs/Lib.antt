@@ -1,0 +1,11 @@
+-- Laws that belong to no one function.
+-- They rest on the definitions of specs/.
+pub mod Responding
+pub mod Outputs
+pub mod Bytes
+pub mod Bounds
+pub mod Lengths
+pub mod Small
+pub mod Texts
+pub mod Feeds
+pub mod Parts

@@ -1,0 +1,22 @@
+-- `put_reply`: what the printer wrote of a reply is put behind the used bytes.
+-- Rests on the laws that it cites and on the contract of what is called.
+use native.Mathlib.Omega.{arith}
+use Rattle.driver.proofs.Outputs.{wrote-put, wrote-within}
+use borrow.Author.Needs.{needs}
+use Rattle.driver.proofs.answers.put_reply.Statement.{statement}
+use Rattle.driver.proofs.answers.put_reply.Tie as tie
+
+print-reply-requires : tie.Need-print-reply-requires
+print-reply-requires c κs = search needs
+
+add-result : tie.Need-add-result
+add-result c = omega (arith, wrote-within (c .before .before .print-reply .ensures) 18446744073709551615 (omega arith) (omega arith))
+
+same-length : tie.Need-same-length
+same-length c = search needs
+
+returns : tie.Need-returns
+returns c = wrote-put (c .before .before .print-reply .ensures)
+
+pub put-reply-spec : {M : Type 1} → statement M
+put-reply-spec = tie.close (tie.spec print-reply-requires add-result same-length returns)

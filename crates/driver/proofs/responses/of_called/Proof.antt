@@ -1,0 +1,26 @@
+-- `of_called`: by the answer of the call.
+-- Rests on the contracts of what is called.
+use Rattle.driver.specs.Responses.{ofCalled}
+use borrow.Author.Needs.{needs}
+use Rattle.driver.proofs.responses.of_called.Statement.{statement}
+use Rattle.driver.proofs.responses.of_called.Tie as tie
+
+enum-told : tie.Need-enum-told
+enum-told c = search needs
+
+enum-known-a : tie.Need-enum-known-a
+enum-known-a c = search needs
+
+number-requires : tie.Need-number-requires
+number-requires c κs = search needs
+
+returns : tie.Need-returns
+unfolding ofCalled
+returns c = rw (c .enum-told .given .1)
+
+returns-2 : tie.Need-returns-2
+unfolding ofCalled
+returns-2 c = rw (c .before .before .a .given .1, c .number .ensures)
+
+pub of-called-spec : {M : Type 1} → statement M
+of-called-spec = tie.close (tie.spec enum-told enum-known-a number-requires returns returns-2)

@@ -1,0 +1,42 @@
+-- `of_ran`: by the answer of the run.
+-- Rests on the contracts of what is called.
+use Rattle.driver.specs.Responses.{ofRan}
+use borrow.Author.Needs.{needs}
+use Rattle.driver.proofs.responses.of_ran.Statement.{statement}
+use Rattle.driver.proofs.responses.of_ran.Tie as tie
+
+enum-known-a : tie.Need-enum-known-a
+enum-known-a c = search needs
+
+enum-known-a-2 : tie.Need-enum-known-a-2
+enum-known-a-2 c = search needs
+
+enum-known-a-3 : tie.Need-enum-known-a-3
+enum-known-a-3 c = search needs
+
+number-requires : tie.Need-number-requires
+number-requires c κs = search needs
+
+returns : tie.Need-returns
+unfolding ofRan
+returns c = rw (c .before .a .given .1)
+
+returns-2 : tie.Need-returns-2
+unfolding ofRan
+returns-2 c = rw (c .before .a2 .given .1)
+
+returns-3 : tie.Need-returns-3
+unfolding ofRan
+returns-3 c = rw (c .before .before .a3 .given .1, c .number .ensures)
+
+pub of-ran-spec : {M : Type 1} → statement M
+of-ran-spec =
+    tie.close
+    (tie.spec
+    enum-known-a
+    enum-known-a-2
+    enum-known-a-3
+    number-requires
+    returns
+    returns-2
+    returns-3)

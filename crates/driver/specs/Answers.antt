@@ -1,0 +1,79 @@
+-- What is printed for a command, behind the bytes of a buffer that are used. 01, The driver: "`T` prints account and total, ascending,
+-- then `end` and the count." Rests on specs/Responses, the table's listing and the lines' texts.
+use Prim.Native.Nat.{ℕ, zero, suc, _+_}
+use mathlib.Core.Bool.{Bool, true, false}
+use mathlib.Core.List.{List, [], _∷_}
+use lib.IntN.{ℤ, pos}
+use lib.ListN.{length, getD}
+use Rattle.interface.specs.Numbers.{numberOf}
+use Rattle.interface.specs.declared.Listed.{Listed}
+use Rattle.machine.specs.Choice.{if_then_else_}
+use Rattle.rows.specs.Rows.{Shown, listingWords}
+use Rattle.lines.specs.declared.command.Command.{Command}
+use Rattle.replies.specs.declared.Reply.{Reply}
+use Rattle.lists.specs.Parts.{overlay}
+use Rattle.replies.specs.Printed.{fits, printedReply, printedRow, printedEnd}
+use Rattle.driver.specs.Responses.{responded}
+
+-- ---- output
+
+-- a buffer, of which the first bytes are used
+pub record Output : Type 0 where
+  pub bytes : List ℕ
+  pub used : ℕ
+
+-- a text behind the used bytes, where it has room
+unfoldable pub put : Output → List ℕ → Output
+put o xs =
+    if fits (o .bytes) (o .used) xs then record { bytes = overlay (o .bytes) (o .used) xs; used = o .used + length xs } else o
+
+unfoldable pub putRows : Output → List (ℕ × ℤ) → Output
+putRows o [] = o
+putRows o (e ∷ t) = putRows (put o (printedRow (e .0) (e .1))) t
+
+-- n rows of two lists, from place i on
+unfoldable pub rowsAt : List ℕ → List ℤ → ℕ → ℕ → List (ℕ × ℤ)
+rowsAt accounts totals i zero = []
+rowsAt accounts totals i (suc n) = (getD accounts i 0, getD totals i (pos 0)) ∷ rowsAt accounts totals (suc i) n
+
+-- the listing's rows and its end, or its refusal
+unfoldable pub putListed : Output → List ℕ → List ℤ → Listed → Output
+putListed o accounts totals (Listed.Count n) = put (putRows o (rowsAt accounts totals 0 n)) (printedEnd n)
+putListed o accounts totals (Listed.Refused r) = put o (printedReply (Reply.Refused (numberOf r)))
+
+-- ---- answers
+
+-- what the program lends, and its output
+pub record State : Type 0 where
+  pub words : List ℕ
+  pub accounts : List ℕ
+  pub totals : List ℤ
+  pub output : Output
+
+-- after the listing answered so
+unfoldable pub listedAs : State → Shown → State
+listedAs s x = record {
+  words = s .words;
+  accounts = x .accounts;
+  totals = x .totals;
+  output = putListed (s .output) (x .accounts) (x .totals) (x .listed);
+}
+
+unfoldable pub listed : State → State
+listed s = listedAs s (listingWords (s .words) (s .accounts) (s .totals))
+
+-- after a command left these words and this reply
+unfoldable pub repliedAs : State → List ℕ × Reply → State
+repliedAs s x = record { words = x .0; accounts = s .accounts; totals = s .totals; output = put (s .output) (printedReply (x .1)) }
+
+unfoldable pub isList : Command → Bool
+isList (Command.Open n b M) = false
+isList (Command.Insert w a t) = false
+isList (Command.Delete w a) = false
+isList (Command.Lookup w a) = false
+isList (Command.Steps w k) = false
+isList Command.List = true
+isList Command.Unread = false
+
+unfoldable pub answered : State → Command → State
+answered s c = if isList c then listed s else repliedAs s (responded (s .words) c)

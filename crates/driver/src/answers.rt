@@ -1,0 +1,93 @@
+// What a command is met with, printed into a caller's buffer behind the bytes that are used. Each function answers how many bytes are
+// used then; a line for which there is no room is left out.
+ghost use mathlib.Core.Path.{_≡_};
+ghost use Prim.Native.Nat.{_≤_};
+ghost use lib.ListN.{length};
+ghost use Rattle.replies.specs.Printed.{printedReply, printedRow, printedEnd};
+ghost use Rattle.driver.specs.Answers.{Output, State, put, putRows, rowsAt, listed, isList, answered};
+use crate::responses::respond;
+use interface::Listed;
+use lines::Command;
+use replies::Reply;
+
+// Carries a command out, and prints what it is met with.
+pub fn answer(
+    words: &mut [u64],
+    accounts: &mut [u32],
+    totals: &mut [i64],
+    out: &mut [u8],
+    used: usize,
+    c: Command,
+) -> usize
+    ensures { λ r. ⌜ _≡_ {A = State} (record { words = now (words .exit); accounts = now (accounts .exit); totals = now (totals .exit); output = record { bytes = now (out .exit); used = r } }) (answered (record { words = now (words .entry); accounts = now (accounts .entry); totals = now (totals .entry); output = record { bytes = now (out .entry); used = used } }) c) ⌝ }
+{
+    if is_list(c) {
+        return show(words, accounts, totals, out, used);
+    }
+    put_reply(out, used, respond(words, c))
+}
+
+fn is_list(c: Command) -> bool
+    ensures { λ r. ⌜ r ≡ isList c ⌝ }
+{
+    match c {
+        Command::Open(_, _, _) => false,
+        Command::Insert(_, _, _) => false,
+        Command::Delete(_, _) => false,
+        Command::Lookup(_, _) => false,
+        Command::Steps(_, _) => false,
+        Command::List => true,
+        Command::Unread => false,
+    }
+}
+
+// The listing's rows and its end, or its refusal.
+fn show(
+    words: &[u64],
+    accounts: &mut [u32],
+    totals: &mut [i64],
+    out: &mut [u8],
+    used: usize,
+) -> usize
+    ensures { λ r. ⌜ _≡_ {A = State} (record { words = now (words .entry); accounts = now (accounts .exit); totals = now (totals .exit); output = record { bytes = now (out .exit); used = r } }) (listed (record { words = now (words .entry); accounts = now (accounts .entry); totals = now (totals .entry); output = record { bytes = now (out .entry); used = used } })) ⌝ }
+{
+    match table::listing(words, accounts, totals) {
+        Listed::Count(count) => {
+            let next = put_rows(accounts, totals, count as usize, out, used);
+            put_end(out, next, count)
+        }
+        Listed::Refused(why) => put_reply(out, used, Reply::Refused(why.number())),
+    }
+}
+
+// The first rows of the two lists.
+fn put_rows(accounts: &[u32], totals: &[i64], count: usize, out: &mut [u8], used: usize) -> usize
+    requires { ⌜ (count ≤ length (now accounts)) × (count ≤ length (now totals)) ⌝ }
+    ensures { λ r. ⌜ _≡_ {A = Output} (record { bytes = now (out .exit); used = r }) (putRows (record { bytes = now (out .entry); used = used }) (rowsAt (now (accounts .entry)) (now (totals .entry)) 0 count)) ⌝ }
+{
+    let mut used = used;
+    let mut i: usize = 0;
+    while i < count {
+        used = put_row(out, used, accounts[i], totals[i]);
+        i += 1;
+    }
+    used
+}
+
+fn put_row(out: &mut [u8], used: usize, account: u32, total: i64) -> usize
+    ensures { λ r. ⌜ _≡_ {A = Output} (record { bytes = now (out .exit); used = r }) (put (record { bytes = now (out .entry); used = used }) (printedRow account total)) ⌝ }
+{
+    used + replies::print_row(out, used, account, total)
+}
+
+fn put_end(out: &mut [u8], used: usize, count: u64) -> usize
+    ensures { λ r. ⌜ _≡_ {A = Output} (record { bytes = now (out .exit); used = r }) (put (record { bytes = now (out .entry); used = used }) (printedEnd count)) ⌝ }
+{
+    used + replies::print_end(out, used, count)
+}
+
+fn put_reply(out: &mut [u8], used: usize, reply: Reply) -> usize
+    ensures { λ r. ⌜ _≡_ {A = Output} (record { bytes = now (out .exit); used = r }) (put (record { bytes = now (out .entry); used = used }) (printedReply reply)) ⌝ }
+{
+    used + replies::print_reply(out, used, reply)
+}

@@ -1,0 +1,278 @@
+//! Random input for `totals`, all a function of the seed: sessions of every setting that fits the lent
+//! words, with lines that are refused or cannot be read in between.
+
+use crate::fault::Fault;
+use crate::lines::Line;
+use crate::prng::Prng;
+use crate::random::Generator;
+use crate::records::Kind;
+use crate::settings::Settings;
+use crate::spoil::spoiled;
+use crate::totals::{Driver, LENT};
+
+/// How many steps a line asks for.
+#[derive(Clone, Copy)]
+enum Pace {
+    Single,
+    Few,
+    Mixed,
+    /// Mostly whole operations.
+    Whole,
+}
+
+/// Draws lines, and runs them on a driver of its own, so that it knows which workers are idle.
+pub struct Input {
+    prng: Prng,
+    driver: Driver,
+    /// Lines left in this session, or before the first.
+    left: u64,
+    /// Draws the session's lines, if they are orders as `search` tries them.
+    orders: Option<Generator>,
+    settings: Settings,
+    pace: Pace,
+    /// Per worker how many lines it is parked for.
+    parked: Vec<u64>,
+    /// The accounts: one of these prefixes above a number below the range, or anything.
+    prefixes: Vec<u32>,
+    range: u64,
+    deletes: u64,
+    lookups: u64,
+    listings: u64,
+}
+
+impl Input {
+    pub fn new(seed: u64) -> Input {
+        Input {
+            prng: Prng::new(seed),
+            driver: Driver::with_fault(Fault::None),
+            left: 10,
+            orders: None,
+            settings: Settings {
+                workers: 1,
+                bucket_size: 2,
+                greatest_depth: 0,
+            },
+            pace: Pace::Single,
+            parked: vec![0],
+            prefixes: vec![0],
+            range: 1,
+            deletes: 0,
+            lookups: 0,
+            listings: 0,
+        }
+    }
+
+    /// The next line, without its line feed. A session's opening is always a good one.
+    pub fn next_line(&mut self) -> Vec<u8> {
+        let opens = self.left == 0;
+        let line = if opens { self.begin() } else { self.draw() };
+        if !opens && self.prng.below(60) == 0 {
+            return spoiled(&mut self.prng, &line);
+        }
+        self.driver.answer_line(&line);
+        line.to_string().into_bytes()
+    }
+
+    fn draw(&mut self) -> Line {
+        self.left -= 1;
+        if self.prng.percent(3) {
+            return self.turned_down();
+        }
+        if self.prng.below(1000) < self.listings {
+            return Line::List;
+        }
+        match (&mut self.orders, &self.driver.machine) {
+            (Some(orders), Some(machine)) => orders.next(machine),
+            (None, Some(_)) => self.work(),
+            (_, None) => self.turned_down(),
+        }
+    }
+
+    /// Draws a new session, and opens it.
+    fn begin(&mut self) -> Line {
+        let filling = self.prng.percent(3);
+        self.left = match filling {
+            true => self.prng.between(2_000, 8_000),
+            false => self.prng.between(20, 500),
+        };
+        let orders = Generator::new(self.prng.draw(), false);
+        self.listings = if filling { 1 } else { self.prng.between(2, 30) };
+        if !filling && self.prng.percent(50) {
+            let opening = orders.opening();
+            self.settings = orders.settings;
+            self.orders = Some(orders);
+            return opening;
+        }
+        self.orders = None;
+        self.settings = fitting(&mut self.prng);
+        self.draw_accounts(filling);
+        self.parked = vec![0; self.settings.workers];
+        self.pace = match self.prng.below(4) {
+            _ if filling => Pace::Whole,
+            0 => Pace::Single,
+            1 => Pace::Few,
+            2 => Pace::Mixed,
+            _ => Pace::Whole,
+        };
+        self.deletes = self.prng.between(0, if filling { 10 } else { 50 });
+        self.lookups = self.prng.between(0, 30);
+        opening(&self.settings)
+    }
+
+    /// Few prefixes and a small range fill buckets, split them and crowd them.
+    fn draw_accounts(&mut self, filling: bool) {
+        let depth = self.settings.greatest_depth;
+        let bits = (depth + self.prng.below(3) as u32).max(1);
+        let most = if filling { 256 } else { 6 };
+        let count = self.prng.between(if filling { 64 } else { 1 }, most);
+        let prng = &mut self.prng;
+        self.prefixes = (0..count)
+            .map(|_| (prng.draw() as u32) >> (32 - bits) << (32 - bits))
+            .collect();
+        let size = self.settings.bucket_size as u64;
+        self.range = match prng.percent(70) {
+            true => prng.between(1, size - 1),
+            false => prng.between(size, size * 2),
+        };
+    }
+
+    fn account(&mut self) -> u32 {
+        if self.prng.below(100) == 0 {
+            let ends = [0, 1, u32::MAX, 1 << 31, (1 << 31) - 1];
+            return self.prng.pick(&ends).unwrap_or(0);
+        }
+        if self.prng.below(50) == 0 {
+            return self.prng.draw() as u32;
+        }
+        self.prng.pick(&self.prefixes).unwrap_or(0) | self.prng.below(self.range) as u32
+    }
+
+    fn total(&mut self) -> i64 {
+        match self.prng.below(8) {
+            0 => self.prng.pick(&[i64::MIN, i64::MAX, 0, -1]).unwrap_or(0),
+            1 => self.prng.draw() as i64,
+            _ => self.prng.below(2_000) as i64 - 1_000,
+        }
+    }
+
+    /// A call to an idle worker or a step of a busy one, of those that are not parked.
+    fn work(&mut self) -> Line {
+        for lines in &mut self.parked {
+            *lines = lines.saturating_sub(1);
+        }
+        let all = 0..self.settings.workers;
+        let free: Vec<usize> = all.filter(|w| self.parked[*w] == 0).collect();
+        let any = self.prng.below(self.settings.workers as u64) as usize;
+        let worker = self.prng.pick(&free).unwrap_or(any);
+        if self.is_idle(worker) {
+            return self.call(worker);
+        }
+        if self.prng.percent(4) {
+            self.parked[worker] = self.prng.between(1, 120);
+        }
+        let count = self.count();
+        Line::Step { worker, count }
+    }
+
+    fn is_idle(&self, worker: usize) -> bool {
+        let machine = self.driver.machine.as_ref();
+        machine.is_some_and(|machine| machine.workers[worker].task.is_none())
+    }
+
+    fn call(&mut self, worker: usize) -> Line {
+        let kind = match self.prng.below(100) {
+            chance if chance < self.deletes => Kind::Delete,
+            chance if chance < self.deletes + self.lookups => Kind::Lookup,
+            _ => Kind::Insert,
+        };
+        let total = match kind {
+            Kind::Insert => self.total(),
+            _ => 0,
+        };
+        Line::Call {
+            kind,
+            worker,
+            account: self.account(),
+            total,
+        }
+    }
+
+    fn count(&mut self) -> u64 {
+        match self.pace {
+            Pace::Single => 1,
+            Pace::Few => self.prng.between(1, 5),
+            Pace::Mixed => self.prng.between(1, 60),
+            Pace::Whole if self.prng.percent(95) => self.prng.between(129, 9_999),
+            Pace::Whole => self.prng.between(1, 40),
+        }
+    }
+
+    /// A line that is mostly turned down: whatever the worker is doing, or an opening out of range.
+    fn turned_down(&mut self) -> Line {
+        let near = self.settings.workers as u64 + 1;
+        let worker = match self.prng.percent(10) {
+            true => self.prng.between(0, 65_535) as usize,
+            false => self.prng.below(near) as usize,
+        };
+        match self.prng.below(8) {
+            0 => wrong_opening(&mut self.prng),
+            1 => opening(&any_settings(&mut self.prng, |settings| {
+                settings.words() > LENT
+            })),
+            2..=4 => self.call(worker),
+            _ => Line::Step {
+                worker,
+                count: self.count(),
+            },
+        }
+    }
+}
+
+fn opening(settings: &Settings) -> Line {
+    Line::Open {
+        n: settings.workers as u64,
+        b: settings.bucket_size as u64,
+        m: u64::from(settings.greatest_depth),
+    }
+}
+
+/// Settings in their ranges that pass the test.
+fn any_settings(prng: &mut Prng, test: impl Fn(&Settings) -> bool) -> Settings {
+    loop {
+        let settings = Settings {
+            workers: prng.between(1, Settings::MOST_WORKERS) as usize,
+            bucket_size: prng.between(Settings::LEAST_BUCKET_SIZE, Settings::MOST_BUCKET_SIZE)
+                as usize,
+            greatest_depth: prng.between(0, Settings::MOST_DEPTH) as u32,
+        };
+        if test(&settings) {
+            return settings;
+        }
+    }
+}
+
+fn fitting(prng: &mut Prng) -> Settings {
+    any_settings(prng, |settings| settings.words() <= LENT)
+}
+
+/// An opening with a setting outside its range.
+fn wrong_opening(prng: &mut Prng) -> Line {
+    let wrong = [
+        (0, 2, 1),
+        (9, 2, 1),
+        (1, 1, 1),
+        (1, 0, 1),
+        (1, 17, 1),
+        (1, 2, 9),
+    ];
+    let far = (
+        prng.below(65_536),
+        prng.below(65_536),
+        prng.between(9, 65_535),
+    );
+    let (n, b, m) = match prng.percent(80) {
+        true => prng.pick(&wrong).unwrap_or(far),
+        false => far,
+    };
+    Line::Open { n, b, m }
+}

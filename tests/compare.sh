@@ -1,0 +1,69 @@
+#!/usr/bin/env bash
+# Random input, answered by the compiled program and by the second model: every byte has to agree, and every sort of answer has to occur.
+# compare.sh [SEED LINES]...: without arguments, fixed seeds of 400,000 lines in all, and each wrong machine of the model has to be told
+# from the program by the last of them.
+set -u
+cd "$(dirname "$0")/.." || exit 2
+. tests/common.sh
+[ $(($# % 2)) -eq 0 ] || { echo "usage: compare.sh [SEED LINES]..." && exit 2; }
+
+# compare SEED LINES
+compare() {
+  "$model" lines "$1" "$2" >"$run/input" && "$model" totals <"$run/input" >"$run/model" && "$totals" <"$run/input" >"$run/totals"
+  local status=$?
+  [ "$status" -eq 0 ] && { cmp "$run/totals" "$run/model" || status=1; }
+  check "$status" "seed $1: $2 lines, $(wc -c <"$run/totals") bytes of output"
+  [ "$status" -eq 0 ] || diff "$run/totals" "$run/model" | head -n 6
+  cat "$run/totals" >>"$run/all"
+}
+
+# every sort of output line that document 01 has for the program, but 7 (tests/spent.sh), and no other
+sorts='ok
+refused 1
+refused 2
+refused 3
+refused 4
+refused 5
+refused 8
+moved [0-9]+
+answered added [0-9]+
+answered replaced [0-9]+
+answered removed [0-9]+
+answered absent [0-9]+
+answered found -?[0-9]+ 2
+answered none 2
+answered crowded [0-9]+
+unread
+[0-9]+ -?[0-9]+
+end [0-9]+'
+
+occurs() {
+  local sort count
+  while read -r sort; do
+    count=$(grep -cxE "$sort" "$run/all")
+    [ "$count" -gt 0 ]
+    check $? "occurs: $sort ($count times)"
+  done <<<"$sorts"
+  ! grep -qvxE "$sorts" "$run/all"
+  check $? "nothing else occurs"
+}
+
+# the last input, on the model's wrong machines
+told_apart() {
+  local fault
+  for fault in $("$model" faults); do
+    ! "$model" totals --fault "$fault" <"$run/input" 2>/dev/null | cmp -s - "$run/totals"
+    check $? "told from the wrong machine $fault"
+  done
+}
+
+given=$#
+[ "$given" -gt 0 ] || set -- 1 100000 2 100000 3 100000 4 100000
+: >"$run/all"
+while [ $# -gt 0 ]; do
+  compare "$1" "$2"
+  shift 2
+done
+occurs
+[ "$given" -gt 0 ] || told_apart
+finish

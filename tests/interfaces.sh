@@ -1,0 +1,134 @@
+#!/usr/bin/env bash
+# The interfaces for C and Rust: the header, the library's symbols, both examples, the Rust crate's tests, and the lines of `totals` over
+# the C interface against the second model. The last line is 'N passed, M failed'; the exit status is 0 only if M is 0.
+# interfaces.sh [SEED LINES]...: without arguments, fixed seeds of 600,000 lines in all.
+set -u
+cd "$(dirname "$0")/.." || exit 2
+[ $# -gt 0 ] || set -- 11 200000 12 200000 13 200000
+run=$(mktemp -d) || exit 2
+trap 'rm -rf "$run"' EXIT
+passed=0
+failed=0
+library=target/staticlib/libcapi.a
+strict=(-Wall -Wextra -pedantic -Werror -Iinclude)
+model=model/target/release/model
+
+# check STATUS TEXT: counts a test that passed where STATUS is 0
+check() {
+  if [ "$1" -eq 0 ]; then
+    passed=$((passed + 1))
+    echo "ok      $2"
+  else
+    failed=$((failed + 1))
+    echo "FAILED  $2"
+  fi
+}
+
+build() {
+  ./build.sh
+  check $? "build.sh"
+  cargo build --quiet --release --offline --manifest-path model/Cargo.toml --target-dir model/target
+  check $? "the second model is built"
+}
+
+# the header twice and nothing else, as each language, by each compiler that is there
+header() {
+  local compiler
+  printf '#include "totals.h"\n#include "totals.h"\n' >"$run/header.h"
+  for compiler in cc clang; do
+    command -v "$compiler" >/dev/null || continue
+    "$compiler" -std=c99 "${strict[@]}" -fsyntax-only -x c "$run/header.h"
+    check $? "the header as C99 by $compiler"
+  done
+  printf '#include "totals.h"\nint main() { return totals_words_needed(1, 2, 0) != TOTALS_LEAST_WORDS; }\n' >"$run/linked.cc"
+  for compiler in c++ clang++; do
+    command -v "$compiler" >/dev/null || continue
+    "$compiler" -std=c++11 "${strict[@]}" -fsyntax-only -x c++ "$run/header.h"
+    check $? "the header as C++11 by $compiler"
+    "$compiler" -std=c++11 "${strict[@]}" "$run/linked.cc" "$library" -o "$run/linked" && "$run/linked"
+    check $? "a C++ program linked by $compiler"
+  done
+}
+
+# the library has the header's functions and no more, and calls nothing but memcpy and memset
+symbols() {
+  sed -nE 's/^uint64_t (totals_[a-z_]+)\(.*$/\1/p' include/totals.h | sort >"$run/declared"
+  nm -g --defined-only "$library" | awk 'NF == 3 { print $3 }' | sort | diff "$run/declared" -
+  check $? "the library exports the $(wc -l <"$run/declared") functions of the header and no more"
+  nm -g --undefined-only "$library" | awk 'NF == 2 && $2 != "memcpy" && $2 != "memset" { print; other = 1 } END { exit other }'
+  check $? "the library calls memcpy and memset only"
+}
+
+# example PROGRAM TEXT: the program prints the stored output, and nothing to standard error
+example() {
+  "$1" >"$run/output" 2>"$run/error" && [ ! -s "$run/error" ] && diff "$run/output" examples/dispatcher.out
+  check $? "$2"
+}
+
+examples() {
+  example target/examples/dispatcher "the C example prints the stored output"
+  example bindings/rust/target/release/examples/dispatcher "the Rust example prints the stored output"
+}
+
+# adds the counts of the crate's tests; a run that failed without a count is one failure
+crate() {
+  local status a b p=0 f=0
+  cargo test --offline --manifest-path bindings/rust/Cargo.toml --target-dir bindings/rust/target >"$run/log" 2>&1
+  status=$?
+  while read -r a b; do
+    p=$((p + a))
+    f=$((f + b))
+  done < <(sed -nE 's/^test result: .* ([0-9]+) passed; ([0-9]+) failed;.*$/\1 \2/p' "$run/log")
+  [ "$status" -eq 0 ] && [ "$p" -gt 0 ] || [ "$f" -gt 0 ] || f=1
+  [ "$f" -eq 0 ] || cat "$run/log"
+  echo "        the Rust crate's tests: $p passed, $f failed"
+  passed=$((passed + p))
+  failed=$((failed + f))
+}
+
+# compare PROGRAM SEED LINES TEXT: random lines are met with the same bytes by the program and by the model
+compare() {
+  "$model" lines "$2" "$3" >"$run/input" && "$model" totals <"$run/input" >"$run/model" &&
+    "$1" <"$run/input" >"$run/output" 2>"$run/error" && [ ! -s "$run/error" ] && cmp "$run/output" "$run/model"
+  check $? "seed $2: $3 lines $4, $(wc -c <"$run/output") bytes as from the model"
+}
+
+lines() {
+  local sorts='answered absent,answered added,answered crowded,answered found,answered none,answered removed,answered replaced'
+  sorts+=',end,moved,ok,refused 1,refused 2,refused 3,refused 4,refused 5,refused 8,row,unread,'
+  cc -std=c99 -O2 "${strict[@]}" tests/c/lines.c "$library" -o "$run/lines"
+  check $? "the program for lines over the C interface is built"
+  while [ $# -ge 2 ]; do
+    compare "$run/lines" "$1" "$2" "over the C interface"
+    cat "$run/output" >>"$run/all"
+    shift 2
+  done
+  [ "$(awk '{ print /^(answered|refused) / ? $1 " " $2 : /^[0-9]/ ? "row" : $1 }' "$run/all" | sort -u | tr '\n' ',')" = "$sorts" ]
+  check $? "every sort of line comes up, and no other"
+}
+
+# both C programs once more with the compiler's own checks of memory and arithmetic
+sanitized() {
+  local checks=(-std=c99 -g -fsanitize=address,undefined -fno-sanitize-recover=all)
+  printf 'int main(void) { return 0; }\n' >"$run/nothing.c"
+  if ! { cc "${checks[@]}" "$run/nothing.c" -o "$run/nothing" && "$run/nothing"; } >/dev/null 2>&1; then
+    echo "        -fsanitize=address,undefined is not available: not tried"
+    return
+  fi
+  cc "${checks[@]}" "${strict[@]}" examples/c/dispatcher.c "$library" -o "$run/dispatcher"
+  check $? "the C example is built with -fsanitize=address,undefined"
+  example "$run/dispatcher" "it prints the stored output"
+  cc "${checks[@]}" "${strict[@]}" tests/c/lines.c "$library" -o "$run/lines"
+  check $? "the program for lines is built with -fsanitize=address,undefined"
+  compare "$run/lines" 14 50000 "with these checks"
+}
+
+build
+header
+symbols
+examples
+crate
+lines "$@"
+sanitized
+echo "$passed passed, $failed failed"
+[ "$failed" -eq 0 ]
