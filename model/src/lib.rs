@@ -25,5 +25,6 @@ pub mod spoil;
 mod steps;
 pub mod task;
 pub mod totals;
+pub mod trace;
 pub mod violation;
 pub mod working;

@@ -1,4 +1,4 @@
-//! The commands: totals, lines, search, replay, faults.
+//! The commands: totals, lines, search, replay, faults, trace.
 #![forbid(unsafe_code)]
 
 use model::check::Counts;
@@ -8,6 +8,7 @@ use model::input::Input;
 use model::lines::{read_line, Line};
 use model::search::{search, verdict, By, Failure};
 use model::totals::{self, next_line};
+use model::trace::command::trace;
 use std::io::{self, Write};
 use std::process::ExitCode;
 
@@ -17,6 +18,7 @@ const USAGE: &str = "usage:
   model search --seed S --steps N [--fault NAME] [--external]
   model replay [--fault NAME]
   model faults
+  model trace FILE
 ";
 
 /// The options that may follow a command.
@@ -33,6 +35,11 @@ fn main() -> ExitCode {
         .skip(1)
         .map(|argument| argument.to_string_lossy().into_owned())
         .collect();
+    if let [command, file] = &arguments[..] {
+        if command == "trace" {
+            return exit_code(trace(file));
+        }
+    }
     let command = arguments.first().map(String::as_str);
     if command == Some("lines") {
         return lines(&arguments[1..]);
@@ -53,10 +60,10 @@ fn main() -> ExitCode {
         Some("faults") if arguments.len() == 1 => faults(),
         _ => return usage(),
     };
-    ended(outcome)
+    exit_code(outcome)
 }
 
-fn ended(outcome: io::Result<u8>) -> ExitCode {
+fn exit_code(outcome: io::Result<u8>) -> ExitCode {
     match outcome {
         Ok(code) => ExitCode::from(code),
         Err(error) => {
@@ -90,7 +97,7 @@ fn options(arguments: &[String]) -> Option<Options> {
 fn lines(arguments: &[String]) -> ExitCode {
     let numbers: Option<Vec<u64>> = arguments.iter().map(|word| word.parse().ok()).collect();
     match numbers.as_deref() {
-        Some([seed, count]) => ended(write_lines(*seed, *count)),
+        Some([seed, count]) => exit_code(write_lines(*seed, *count)),
         _ => usage(),
     }
 }

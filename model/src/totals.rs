@@ -12,7 +12,7 @@ pub const LENT: u64 = 8_192;
 /// Places in the lists that the program lends.
 pub const PLACES: usize = 4_096;
 /// No line that can be read is longer than this; the rest of a longer line is dropped.
-const LONGEST: usize = 64;
+pub const LONGEST: usize = 64;
 
 /// The program's memory: no machine before the first accepted opening.
 #[derive(Debug, Default)]
