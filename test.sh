@@ -1,6 +1,6 @@
 #!/usr/bin/env bash
-# All tests: the layout of the Rattle files, the proofs with their must-fail edits (rt ci), the second model's tests, and the compiled
-# library against its source as Rust.
+# All tests: the layout of the Rattle files, the proofs with their must-fail edits (rt ci), the second model's tests, the program and the
+# interfaces for C and Rust against the model, foreign memory, and the compiled library against its source as Rust.
 # The last line is 'N passed, M failed'; the exit status is 0 only if M is 0.
 set -u
 cd "$(dirname "$0")" || exit 2
@@ -33,7 +33,14 @@ echo "== second model: cargo test"
 cargo test --release --offline --manifest-path model/Cargo.toml 2>&1 | tee "$log"
 count "${PIPESTATUS[0]}" 's/^test result: .* ([0-9]+) passed; ([0-9]+) failed;.*$/\1 \2/p'
 
-echo "== compiled library: rt staticlib, cargo test"
+# the scripts print their own 'N passed, M failed'
+for script in compare spent edges interfaces; do
+  echo "== tests/$script.sh"
+  "tests/$script.sh" 2>&1 | tee "$log"
+  count "${PIPESTATUS[0]}" 's/^([0-9]+) passed, ([0-9]+) failed$/\1 \2/p'
+done
+
+echo "== benchmark's answers: rt staticlib, cargo test"
 rt staticlib leaves >"$log" 2>&1 || { cat "$log"; failed=$((failed + 1)); }
 cargo test --release --offline --manifest-path bench/Cargo.toml 2>&1 | tee "$log"
 count "${PIPESTATUS[0]}" 's/^test result: .* ([0-9]+) passed; ([0-9]+) failed;.*$/\1 \2/p'

@@ -5,24 +5,10 @@
 set -u
 cd "$(dirname "$0")/.." || exit 2
 [ $# -gt 0 ] || set -- 11 200000 12 200000 13 200000
-run=$(mktemp -d) || exit 2
-trap 'rm -rf "$run"' EXIT
-passed=0
-failed=0
+. tests/counts.sh
 library=target/staticlib/libcapi.a
 strict=(-Wall -Wextra -pedantic -Werror -Iinclude)
 model=model/target/release/model
-
-# check STATUS TEXT: counts a test that passed where STATUS is 0
-check() {
-  if [ "$1" -eq 0 ]; then
-    passed=$((passed + 1))
-    echo "ok      $2"
-  else
-    failed=$((failed + 1))
-    echo "FAILED  $2"
-  fi
-}
 
 build() {
   ./build.sh
@@ -130,5 +116,4 @@ examples
 crate
 lines "$@"
 sanitized
-echo "$passed passed, $failed failed"
-[ "$failed" -eq 0 ]
+finish
