@@ -41,7 +41,9 @@ for script in compare spent edges interfaces; do
 done
 
 echo "== benchmark's answers: rt staticlib, cargo test"
-rt staticlib leaves >"$log" 2>&1 || { cat "$log"; failed=$((failed + 1)); }
+for library in capi leaves; do
+  rt staticlib "$library" >"$log" 2>&1 || { cat "$log"; failed=$((failed + 1)); }
+done
 cargo test --release --offline --manifest-path bench/Cargo.toml 2>&1 | tee "$log"
 count "${PIPESTATUS[0]}" 's/^test result: .* ([0-9]+) passed; ([0-9]+) failed;.*$/\1 \2/p'
 

@@ -4,14 +4,15 @@
 set -euo pipefail
 cd "$(dirname "$0")/.."
 rt staticlib leaves >/dev/null
-cargo build --release --offline --quiet --manifest-path bench/Cargo.toml
+rt staticlib capi >/dev/null
+cargo build --release --offline --quiet --manifest-path bench/Cargo.toml --bin leaves
 times=1000
 
 # the instructions of one call
 count() {
   local side=$1 operation=$2 accounts=$3 workers=$4 symbol=$5
   valgrind --tool=callgrind --callgrind-out-file=/dev/null --collect-atstart=no --toggle-collect="$symbol" \
-    bench/target/release/bench "$side" "$operation" "$accounts" "$workers" "$times" 2>&1 >/dev/null |
+    bench/target/release/leaves "$side" "$operation" "$accounts" "$workers" "$times" 2>&1 >/dev/null |
     sed -nE 's/.*Collected : ([0-9]+).*/\1/p' | awk -v t="$times" '{ printf "%.0f", $1 / t }'
 }
 

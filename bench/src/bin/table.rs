@@ -1,0 +1,151 @@
+// The same work on every side. `table count` runs each case once and names it, for callgrind, which writes one dump a case;
+// `table time` prints nanoseconds an operation. table.sh makes tables of both.
+use bench::sides::{Map, Proved, Same, Table};
+use bench::turns::{by_run, by_steps, on_map};
+use bench::twin::Twin;
+use bench::work::{even, work, Operation, Work};
+use std::time::Instant;
+
+// proved library, same source as Rust, hand-written twin, each by single steps and by run; then the locked map
+const SIDES: [&str; 7] = [
+    "steps", "run", "same", "same-run", "twin", "twin-run", "map",
+];
+const WORKS: [&str; 4] = ["inserts", "lookups", "mixed", "growing"];
+const WORKERS: [u64; 3] = [1, 2, 8];
+
+// A sum that changes with any answer, whatever the order of answers.
+fn mark(place: usize, code: u64, total: i64) -> u64 {
+    (place as u64 + 1).wrapping_mul(code.wrapping_mul(1_000_003).wrapping_add(total as u64))
+}
+
+// callgrind counts anew from each entry of a function named measured_.., and there only what the compared functions do
+#[inline(never)]
+fn measured_steps<T: Table>(table: &mut T, n: u64, operations: &[Operation]) -> u64 {
+    let mut sum = 0u64;
+    by_steps(table, n, operations, |place, r| {
+        sum = sum.wrapping_add(mark(place, r.code, r.total))
+    });
+    sum
+}
+
+#[inline(never)]
+fn measured_run<T: Table>(table: &mut T, n: u64, operations: &[Operation]) -> u64 {
+    let mut sum = 0u64;
+    by_run(table, n, operations, |place, r| {
+        sum = sum.wrapping_add(mark(place, r.code, r.total))
+    });
+    sum
+}
+
+#[inline(never)]
+fn measured_map(map: &Map, operations: &[Operation]) -> u64 {
+    let mut sum = 0u64;
+    on_map(map, operations, |place, (code, total)| {
+        sum = sum.wrapping_add(mark(place, code, total))
+    });
+    sum
+}
+
+// callgrind writes a dump at each entry: the case is named in the order of the dumps
+#[inline(never)]
+fn counted(w: &Work, side: &str) {
+    println!("{} {} {side} {}", w.name, w.workers, w.measured.len());
+}
+
+// The time of the measured operations, and the sum of their answers.
+fn timed(f: impl FnOnce() -> u64) -> (f64, u64) {
+    let start = Instant::now();
+    let sum = f();
+    (start.elapsed().as_nanos() as f64, sum)
+}
+
+fn on_table<T: Table>(steps: bool, w: &Work) -> (f64, u64) {
+    let mut table = T::open(w.workers, w.capacity, w.depth);
+    by_run(&mut table, w.workers, &w.filling, |_, _| {});
+    if steps {
+        timed(|| measured_steps(&mut table, w.workers, &w.measured))
+    } else {
+        timed(|| measured_run(&mut table, w.workers, &w.measured))
+    }
+}
+
+fn on_side(side: &str, w: &Work) -> (f64, u64) {
+    match side {
+        "steps" => on_table::<Proved>(true, w),
+        "run" => on_table::<Proved>(false, w),
+        "same" => on_table::<Same>(true, w),
+        "same-run" => on_table::<Same>(false, w),
+        "twin" => on_table::<Twin>(true, w),
+        "twin-run" => on_table::<Twin>(false, w),
+        _ => {
+            let map = Map::default();
+            on_map(&map, &w.filling, |_, _| {});
+            timed(|| measured_map(&map, &w.measured))
+        }
+    }
+}
+
+// The answers of single steps agree with each other, those of `run` with the map's.
+fn assert_equal(w: &Work, sums: &[u64; 7]) {
+    let [steps, run, same, same_run, twin, twin_run, map] = *sums;
+    assert_eq!([steps; 2], [same, twin], "{} n {}", w.name, w.workers);
+    assert_eq!(
+        [run; 3],
+        [same_run, twin_run, map],
+        "{} n {}",
+        w.name,
+        w.workers
+    );
+}
+
+// One line a case, in the order of callgrind's dumps: work, workers, side, operations.
+fn count() {
+    for name in WORKS {
+        for n in WORKERS {
+            let w = work(name, n, 4000);
+            let sums = SIDES.map(|side| {
+                let (_, sum) = on_side(side, &w);
+                counted(&w, side);
+                sum
+            });
+            assert_equal(&w, &sums);
+        }
+    }
+    for depth in [0, 4, 8] {
+        let w = even(depth, 4000);
+        for side in ["steps", "run"] {
+            on_side(side, &w);
+            counted(&w, side);
+        }
+    }
+}
+
+// Nanoseconds an operation, the least of so many rounds in which every side has its turn.
+fn time() {
+    for name in WORKS {
+        for n in WORKERS {
+            let w = work(name, n, 40_000);
+            let mut least = [f64::MAX; SIDES.len()];
+            for _ in 0..9 {
+                for (i, side) in SIDES.iter().enumerate() {
+                    least[i] = least[i].min(on_side(side, &w).0 / w.measured.len() as f64);
+                }
+            }
+            SIDES
+                .iter()
+                .zip(least)
+                .for_each(|(side, t)| println!("{name} {n} {side} {t:.1}"));
+        }
+    }
+}
+
+fn main() {
+    match std::env::args().nth(1).as_deref() {
+        Some("count") => count(),
+        Some("time") => time(),
+        _ => {
+            eprintln!("usage: table (count|time)");
+            std::process::exit(2);
+        }
+    }
+}

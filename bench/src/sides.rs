@@ -1,0 +1,278 @@
+// The compared tables behind one trait, and a locked map.
+use crate::same::capi::capi;
+use crate::twin::{Answer, Kind, Stepped, Twin};
+use crate::work::{Operation, DELETE, INSERT};
+use std::collections::HashMap;
+use std::hint::black_box;
+use std::sync::Mutex;
+
+// 0 moved, a refusal's number, or 16 and the answer's number with the steps of the operation and the total found.
+#[derive(Clone, Copy, PartialEq, Eq, Debug)]
+pub struct Reply {
+    pub code: u64,
+    pub steps: u64,
+    pub total: i64,
+}
+
+impl Reply {
+    fn new(code: u64, report: [u64; 2]) -> Reply {
+        Reply {
+            code,
+            steps: report[0],
+            total: report[1] as i64,
+        }
+    }
+
+    // of up to so many steps; what is reported where none of them answered, the steps given, is left out
+    fn of_run(code: u64, report: [u64; 2]) -> Reply {
+        Reply::new(code, if code == 0 { [0; 2] } else { report })
+    }
+}
+
+pub trait Table {
+    fn open(workers: u64, capacity: u64, depth: u64) -> Self;
+    fn call(&mut self, worker: u64, o: Operation) -> u64;
+    fn step(&mut self, worker: u64) -> Reply;
+    fn run(&mut self, worker: u64, most: u64) -> Reply;
+    fn rows(&self) -> Vec<(u32, i64)>;
+}
+
+extern "C" {
+    fn totals_words_needed(workers: u64, capacity: u64, depth: u64) -> u64;
+    fn totals_open(words: *mut u64, len: usize, workers: u64, capacity: u64, depth: u64) -> u64;
+    fn totals_call(
+        words: *mut u64,
+        len: usize,
+        worker: u64,
+        kind: u64,
+        account: u32,
+        total: i64,
+    ) -> u64;
+    fn totals_step(
+        words: *mut u64,
+        len: usize,
+        worker: u64,
+        report: *mut u64,
+        places: usize,
+    ) -> u64;
+    fn totals_run(
+        words: *mut u64,
+        len: usize,
+        worker: u64,
+        most: u64,
+        report: *mut u64,
+        places: usize,
+    ) -> u64;
+    fn totals_list(
+        words: *const u64,
+        len: usize,
+        accounts: *mut u32,
+        account_places: usize,
+        totals: *mut i64,
+        total_places: usize,
+        report: *mut u64,
+        places: usize,
+    ) -> u64;
+}
+
+const PLACES: usize = 4096;
+
+// The proved library.
+pub struct Proved(pub Vec<u64>);
+
+impl Table for Proved {
+    fn open(workers: u64, capacity: u64, depth: u64) -> Proved {
+        let needed = unsafe { totals_words_needed(workers, capacity, depth) };
+        let mut words = vec![0; black_box(needed as usize)];
+        let opened =
+            unsafe { totals_open(words.as_mut_ptr(), words.len(), workers, capacity, depth) };
+        assert_eq!(opened, 0);
+        Proved(words)
+    }
+
+    fn call(&mut self, worker: u64, o: Operation) -> u64 {
+        unsafe {
+            totals_call(
+                self.0.as_mut_ptr(),
+                self.0.len(),
+                worker,
+                o.kind,
+                o.account,
+                o.total,
+            )
+        }
+    }
+
+    fn step(&mut self, worker: u64) -> Reply {
+        let mut report = [0; 2];
+        let code = unsafe {
+            totals_step(
+                self.0.as_mut_ptr(),
+                self.0.len(),
+                worker,
+                report.as_mut_ptr(),
+                2,
+            )
+        };
+        Reply::new(code, report)
+    }
+
+    fn run(&mut self, worker: u64, most: u64) -> Reply {
+        let mut report = [0; 2];
+        let code = unsafe {
+            totals_run(
+                self.0.as_mut_ptr(),
+                self.0.len(),
+                worker,
+                most,
+                report.as_mut_ptr(),
+                2,
+            )
+        };
+        Reply::of_run(code, report)
+    }
+
+    fn rows(&self) -> Vec<(u32, i64)> {
+        let (words, mut a, mut t, mut report) = (&self.0, [0; PLACES], [0; PLACES], [0; 2]);
+        let (a_at, t_at) = (a.as_mut_ptr(), t.as_mut_ptr());
+        let code = unsafe {
+            totals_list(
+                words.as_ptr(),
+                words.len(),
+                a_at,
+                PLACES,
+                t_at,
+                PLACES,
+                report.as_mut_ptr(),
+                2,
+            )
+        };
+        assert_eq!(code, 0);
+        (0..report[0] as usize).map(|i| (a[i], t[i])).collect()
+    }
+}
+
+// The same source compiled as Rust.
+pub struct Same(pub Vec<u64>);
+
+impl Table for Same {
+    fn open(workers: u64, capacity: u64, depth: u64) -> Same {
+        let mut words =
+            vec![0; black_box(capi::same_totals_words_needed(workers, capacity, depth) as usize)];
+        assert_eq!(
+            capi::same_totals_open(&mut words, workers, capacity, depth),
+            0
+        );
+        Same(words)
+    }
+
+    fn call(&mut self, worker: u64, o: Operation) -> u64 {
+        capi::same_totals_call(&mut self.0, worker, o.kind, o.account, o.total)
+    }
+
+    fn step(&mut self, worker: u64) -> Reply {
+        let mut report = [0; 2];
+        let code = capi::same_totals_step(&mut self.0, worker, black_box(&mut report));
+        Reply::new(code, report)
+    }
+
+    fn run(&mut self, worker: u64, most: u64) -> Reply {
+        let mut report = [0; 2];
+        let code = capi::same_totals_run(&mut self.0, worker, most, black_box(&mut report));
+        Reply::of_run(code, report)
+    }
+
+    fn rows(&self) -> Vec<(u32, i64)> {
+        let (mut a, mut t, mut report) = ([0; PLACES], [0; PLACES], [0; 2]);
+        assert_eq!(
+            capi::same_totals_list(&self.0, &mut a, &mut t, &mut report),
+            0
+        );
+        (0..report[0] as usize).map(|i| (a[i], t[i])).collect()
+    }
+}
+
+fn reply_of(stepped: Stepped) -> Reply {
+    let (code, steps, total) = match stepped {
+        Stepped::Moved => (0, 0, 0),
+        Stepped::Refused(number) => (u64::from(number), 0, 0),
+        Stepped::Answered(Answer::Added, k) => (17, k, 0),
+        Stepped::Answered(Answer::Replaced, k) => (18, k, 0),
+        Stepped::Answered(Answer::Removed, k) => (19, k, 0),
+        Stepped::Answered(Answer::Absent, k) => (20, k, 0),
+        Stepped::Answered(Answer::Found(total), k) => (21, k, total),
+        Stepped::Answered(Answer::Missing, k) => (22, k, 0),
+        Stepped::Answered(Answer::Crowded, k) => (25, k, 0),
+    };
+    Reply {
+        code,
+        steps: u64::from(steps),
+        total,
+    }
+}
+
+impl Table for Twin {
+    fn open(workers: u64, capacity: u64, depth: u64) -> Twin {
+        Twin::new(workers as usize, capacity as usize, depth as u32)
+    }
+
+    fn call(&mut self, worker: u64, o: Operation) -> u64 {
+        let kind = match o.kind {
+            INSERT => Kind::Insert,
+            DELETE => Kind::Delete,
+            _ => Kind::Lookup,
+        };
+        u64::from(Twin::call(self, worker as usize, kind, o.account, o.total))
+    }
+
+    fn step(&mut self, worker: u64) -> Reply {
+        reply_of(Twin::step(self, worker as usize))
+    }
+
+    fn run(&mut self, worker: u64, most: u64) -> Reply {
+        reply_of(Twin::run(self, worker as usize, most as u32))
+    }
+
+    fn rows(&self) -> Vec<(u32, i64)> {
+        Twin::rows(self)
+    }
+}
+
+// The standard library's map behind a lock, as it comes: its hash keys are drawn anew in each run, all else here is fixed.
+#[derive(Default)]
+pub struct Map(Mutex<HashMap<u32, i64>>);
+
+impl Map {
+    // The answer's code and the total found.
+    #[inline(never)]
+    pub fn operate(&self, o: Operation) -> (u64, i64) {
+        let mut map = self.0.lock().unwrap();
+        match o.kind {
+            INSERT => (
+                if map.insert(o.account, o.total).is_some() {
+                    18
+                } else {
+                    17
+                },
+                0,
+            ),
+            DELETE => (
+                if map.remove(&o.account).is_some() {
+                    19
+                } else {
+                    20
+                },
+                0,
+            ),
+            _ => map.get(&o.account).map_or((22, 0), |total| (21, *total)),
+        }
+    }
+
+    // The accounts in ascending order with their totals.
+    pub fn rows(&self) -> Vec<(u32, i64)> {
+        let map = self.0.lock().unwrap();
+        let mut rows: Vec<(u32, i64)> = map.iter().map(|(a, t)| (*a, *t)).collect();
+        rows.sort_unstable();
+        rows
+    }
+}

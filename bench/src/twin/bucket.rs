@@ -1,0 +1,141 @@
+// A bucket and the updates that its state takes.
+
+#[derive(Clone, Copy, PartialEq, Eq, Debug)]
+pub enum Answer {
+    Added,
+    Replaced,
+    Removed,
+    Absent,
+    Found(i64),
+    Missing,
+    Crowded,
+}
+
+#[derive(Clone, Copy, PartialEq, Eq)]
+pub enum Kind {
+    Insert,
+    Delete,
+    Lookup,
+}
+
+// An announced update.
+#[derive(Clone, Copy)]
+pub struct Update {
+    pub kind: Kind,
+    pub account: u32,
+    pub total: i64,
+    pub ticket: u32,
+}
+
+// Accounts ascending with their totals, the first `count` of each. The version goes up at each swap of the state.
+#[derive(Clone)]
+pub struct Bucket {
+    pub depth: u32,
+    pub prefix: u32,
+    pub toggle: u8,
+    pub applied: u8,
+    pub version: u32,
+    pub count: usize,
+    pub accounts: [u32; 16],
+    pub totals: [i64; 16],
+    pub settled: [u32; 8],
+    pub answers: [Answer; 8],
+}
+
+// The first d bits of an account.
+pub fn first_bits(account: u32, d: u32) -> u32 {
+    (u64::from(account) >> (32 - d)) as u32
+}
+
+impl Bucket {
+    pub fn new(depth: u32, prefix: u32) -> Bucket {
+        Bucket {
+            depth,
+            prefix,
+            toggle: 0,
+            applied: 0,
+            version: 0,
+            count: 0,
+            accounts: [0; 16],
+            totals: [0; 16],
+            settled: [0; 8],
+            answers: [Answer::Missing; 8],
+        }
+    }
+
+    // Where the account stands, or where it belongs.
+    fn search(&self, account: u32) -> Result<usize, usize> {
+        let place = self.accounts[..self.count]
+            .iter()
+            .position(|a| *a >= account);
+        match place {
+            Some(i) if self.accounts[i] == account => Ok(i),
+            Some(i) => Err(i),
+            None => Err(self.count),
+        }
+    }
+
+    pub fn look(&self, account: u32) -> Answer {
+        match self.accounts[..self.count]
+            .iter()
+            .position(|a| *a == account)
+        {
+            Some(i) => Answer::Found(self.totals[i]),
+            None => Answer::Missing,
+        }
+    }
+
+    fn insert(&mut self, account: u32, total: i64) -> Answer {
+        match self.search(account) {
+            Ok(i) => {
+                self.totals[i] = total;
+                Answer::Replaced
+            }
+            Err(i) => {
+                self.accounts.copy_within(i..self.count, i + 1);
+                self.totals.copy_within(i..self.count, i + 1);
+                self.accounts[i] = account;
+                self.totals[i] = total;
+                self.count += 1;
+                Answer::Added
+            }
+        }
+    }
+
+    fn delete(&mut self, account: u32) -> Answer {
+        match self.search(account) {
+            Ok(i) => {
+                self.accounts.copy_within(i + 1..self.count, i);
+                self.totals.copy_within(i + 1..self.count, i);
+                self.count -= 1;
+                Answer::Removed
+            }
+            Err(_) => Answer::Absent,
+        }
+    }
+
+    // Worker j's update carried out and settled.
+    pub fn carry(&mut self, j: usize, update: &Update) {
+        let answer = match update.kind {
+            Kind::Insert => self.insert(update.account, update.total),
+            _ => self.delete(update.account),
+        };
+        self.settled[j] = update.ticket;
+        self.answers[j] = answer;
+    }
+
+    // The half whose accounts have one more bit.
+    pub fn half(&self, bit: u32) -> Bucket {
+        let mut half = Bucket::new(self.depth + 1, 2 * self.prefix + bit);
+        half.settled = self.settled;
+        half.answers = self.answers;
+        for i in 0..self.count {
+            if first_bits(self.accounts[i], half.depth) == half.prefix {
+                half.accounts[half.count] = self.accounts[i];
+                half.totals[half.count] = self.totals[i];
+                half.count += 1;
+            }
+        }
+        half
+    }
+}

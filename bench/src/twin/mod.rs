@@ -1,0 +1,280 @@
+// Document 01's method written by hand in Rust: a directory, buckets with state, toggle, applied bits and settled tickets, slots, two
+// passes, step by step. A twin of the table for comparison, with no use of its sources.
+mod bucket;
+mod phase;
+
+use bucket::{first_bits, Bucket, Update};
+pub use bucket::{Answer, Kind};
+use phase::{phase, Phase};
+
+#[derive(Clone, Copy, PartialEq, Eq, Debug)]
+pub enum Stepped {
+    Moved,
+    Answered(Answer, u32),
+    Refused(u8),
+}
+
+// What a worker is about, and what it has read: its bucket and that state's version, the toggle, the directory's version, the slots. A bit
+// of `marked` for each worker whose bucket is to be split.
+#[derive(Clone)]
+struct Worker {
+    operation: Option<Update>,
+    last_ticket: u32,
+    steps: u32,
+    bucket: usize,
+    version: u32,
+    toggle: u8,
+    directory_version: u32,
+    marked: u8,
+    slots: [Option<Update>; 8],
+}
+
+// The directory is kept at the greatest depth: a bucket stands at all entries that begin with its prefix.
+pub struct Twin {
+    n: usize,
+    capacity: usize,
+    greatest: u32,
+    directory: Vec<usize>,
+    directory_version: u32,
+    buckets: Vec<Bucket>,
+    slots: [Option<Update>; 8],
+    workers: Vec<Worker>,
+}
+
+impl Twin {
+    pub fn new(n: usize, capacity: usize, greatest: u32) -> Twin {
+        let worker = Worker {
+            operation: None,
+            last_ticket: 0,
+            steps: 0,
+            bucket: 0,
+            version: 0,
+            toggle: 0,
+            directory_version: 0,
+            marked: 0,
+            slots: [None; 8],
+        };
+        Twin {
+            n,
+            capacity,
+            greatest,
+            directory: vec![0; 1 << greatest],
+            directory_version: 0,
+            buckets: vec![Bucket::new(0, 0)],
+            slots: [None; 8],
+            workers: vec![worker; n],
+        }
+    }
+
+    #[inline(never)]
+    pub fn call(&mut self, w: usize, kind: Kind, account: u32, total: i64) -> u8 {
+        let Some(worker) = self.workers.get_mut(w) else {
+            return 3;
+        };
+        if worker.operation.is_some() {
+            return 4;
+        }
+        if kind != Kind::Lookup {
+            if worker.last_ticket == 65535 {
+                return 7;
+            }
+            worker.last_ticket += 1;
+        }
+        worker.operation = Some(Update {
+            kind,
+            account,
+            total,
+            ticket: worker.last_ticket,
+        });
+        worker.steps = 0;
+        0
+    }
+
+    #[inline(never)]
+    pub fn step(&mut self, w: usize) -> Stepped {
+        self.advance(w)
+    }
+
+    // Up to so many steps, ending early at an answer.
+    #[inline(never)]
+    pub fn run(&mut self, w: usize, most: u32) -> Stepped {
+        let Some(worker) = self.workers.get(w) else {
+            return Stepped::Refused(3);
+        };
+        if worker.operation.is_none() {
+            return Stepped::Refused(5);
+        }
+        for _ in 0..most {
+            let stepped = self.advance(w);
+            if stepped != Stepped::Moved {
+                return stepped;
+            }
+        }
+        Stepped::Moved
+    }
+
+    // The accounts in ascending order with their totals; a bucket's entries are neighbours.
+    pub fn rows(&self) -> Vec<(u32, i64)> {
+        let mut entries = self.directory.clone();
+        entries.dedup();
+        let buckets = entries.iter().map(|i| &self.buckets[*i]);
+        buckets
+            .flat_map(|b| (0..b.count).map(|k| (b.accounts[k], b.totals[k])))
+            .collect()
+    }
+
+    #[inline(always)]
+    fn advance(&mut self, w: usize) -> Stepped {
+        let Some(worker) = self.workers.get_mut(w) else {
+            return Stepped::Refused(3);
+        };
+        let Some(operation) = worker.operation else {
+            return Stepped::Refused(5);
+        };
+        let k = worker.steps;
+        worker.steps += 1;
+        let answer = match operation.kind {
+            Kind::Lookup if k == 0 => {
+                self.read_directory(w, operation.account);
+                None
+            }
+            Kind::Lookup => Some(self.buckets[worker.bucket].look(operation.account)),
+            _ => self.update_step(w, &operation, phase(k as usize, self.n)),
+        };
+        let Some(answer) = answer else {
+            return Stepped::Moved;
+        };
+        self.workers[w].operation = None;
+        Stepped::Answered(answer, k + 1)
+    }
+
+    #[inline(always)]
+    fn update_step(&mut self, w: usize, update: &Update, phase: Phase) -> Option<Answer> {
+        let worker = &mut self.workers[w];
+        let bucket = &mut self.buckets[worker.bucket];
+        match phase {
+            Phase::Announce => self.slots[w] = Some(*update),
+            Phase::ReadDirectory => self.read_directory(w, update.account),
+            Phase::Flip => bucket.toggle ^= 1 << w,
+            Phase::ReadState => worker.version = bucket.version,
+            Phase::ReadToggle => worker.toggle = bucket.toggle,
+            Phase::ReadSlot(j) => worker.slots[j] = self.slots[j],
+            Phase::Swap => self.swap(w),
+            Phase::Check => return self.check(w, update),
+            Phase::CopyDirectory => {
+                worker.directory_version = self.directory_version;
+                worker.marked = 0;
+            }
+            Phase::StateStep(j) => self.state_step(w, j),
+            Phase::SwapDirectory => self.swap_directory(w),
+        }
+        None
+    }
+
+    fn bucket_of(&self, account: u32) -> usize {
+        self.directory[first_bits(account, self.greatest) as usize]
+    }
+
+    fn read_directory(&mut self, w: usize, account: u32) {
+        self.workers[w].bucket = self.bucket_of(account);
+    }
+
+    fn swap(&mut self, w: usize) {
+        let worker = &self.workers[w];
+        let bucket = &mut self.buckets[worker.bucket];
+        if worker.version != bucket.version {
+            return;
+        }
+        let changed = worker.toggle ^ bucket.applied;
+        for (j, slot) in worker.slots[..self.n].iter().enumerate() {
+            if changed >> j & 1 == 0 || bucket.count >= self.capacity {
+                continue;
+            }
+            match slot {
+                Some(update) if update.ticket > bucket.settled[j] => bucket.carry(j, update),
+                _ => {}
+            }
+        }
+        bucket.applied = worker.toggle;
+        bucket.version += 1;
+    }
+
+    fn check(&self, w: usize, update: &Update) -> Option<Answer> {
+        let bucket = &self.buckets[self.workers[w].bucket];
+        if bucket.settled[w] >= update.ticket {
+            return Some(bucket.answers[w]);
+        }
+        let crowded = bucket.count >= self.capacity && bucket.depth >= self.greatest;
+        crowded.then_some(Answer::Crowded)
+    }
+
+    // Marks worker j's bucket if it is full below the greatest depth, the update is unsettled there, and no mark of this round is on it.
+    fn state_step(&mut self, w: usize, j: usize) {
+        let worker = &self.workers[w];
+        let Some(update) = worker.slots[j] else {
+            return;
+        };
+        let i = self.bucket_of(update.account);
+        let bucket = &self.buckets[i];
+        if bucket.count < self.capacity
+            || bucket.depth >= self.greatest
+            || bucket.settled[j] >= update.ticket
+        {
+            return;
+        }
+        let marked = |x: &usize| worker.marked >> x & 1 == 1;
+        let before = (0..j)
+            .filter(marked)
+            .any(|x| worker.slots[x].is_some_and(|u| self.bucket_of(u.account) == i));
+        if !before {
+            self.workers[w].marked |= 1 << j;
+        }
+    }
+
+    fn swap_directory(&mut self, w: usize) {
+        let worker = &self.workers[w];
+        if worker.directory_version != self.directory_version {
+            return;
+        }
+        let (marked, slots) = (worker.marked, worker.slots);
+        for j in (0..self.n).filter(|j| marked >> j & 1 == 1) {
+            if let Some(update) = slots[j] {
+                self.resolve(self.bucket_of(update.account), &slots);
+            }
+        }
+        self.directory_version += 1;
+    }
+
+    // Every unsettled update that belongs to the bucket is taken in worker order.
+    fn resolve(&mut self, i: usize, slots: &[Option<Update>; 8]) {
+        let bucket = &self.buckets[i];
+        let (depth, prefix, settled) = (bucket.depth, bucket.prefix, bucket.settled);
+        for (j, slot) in slots[..self.n].iter().enumerate() {
+            let Some(update) = slot else { continue };
+            if first_bits(update.account, depth) != prefix || settled[j] >= update.ticket {
+                continue;
+            }
+            self.split_while_full(update.account);
+            let to = self.bucket_of(update.account);
+            if self.buckets[to].count < self.capacity {
+                self.buckets[to].carry(j, update);
+            }
+        }
+    }
+
+    fn split_while_full(&mut self, account: u32) {
+        loop {
+            let bucket = &self.buckets[self.bucket_of(account)];
+            if bucket.count < self.capacity || bucket.depth >= self.greatest {
+                return;
+            }
+            let halves = [bucket.half(0), bucket.half(1)];
+            for half in halves {
+                let width = 1 << (self.greatest - half.depth);
+                let from = half.prefix as usize * width;
+                self.directory[from..from + width].fill(self.buckets.len());
+                self.buckets.push(half);
+            }
+        }
+    }
+}

@@ -1,0 +1,148 @@
+// Operations for all sides, from fixed seeds.
+
+// xorshift: the same numbers in every run
+pub struct Random(pub u64);
+
+impl Random {
+    #[allow(clippy::should_implement_trait)]
+    pub fn next(&mut self) -> u64 {
+        self.0 ^= self.0 << 13;
+        self.0 ^= self.0 >> 7;
+        self.0 ^= self.0 << 17;
+        self.0
+    }
+
+    pub fn below(&mut self, n: u64) -> u64 {
+        (self.next() >> 16) % n
+    }
+}
+
+pub const INSERT: u64 = 1;
+pub const DELETE: u64 = 2;
+pub const LOOKUP: u64 = 3;
+
+#[derive(Clone, Copy)]
+pub struct Operation {
+    pub kind: u64,
+    pub account: u32,
+    pub total: i64,
+}
+
+// What a table is filled with, and what is then measured.
+pub struct Work {
+    pub name: &'static str,
+    pub workers: u64,
+    pub capacity: u64,
+    pub depth: u64,
+    pub filling: Vec<Operation>,
+    pub measured: Vec<Operation>,
+}
+
+fn insert(account: u32, random: &mut Random) -> Operation {
+    Operation {
+        kind: INSERT,
+        account,
+        total: random.next() as i64 >> 8,
+    }
+}
+
+// Accounts at random, no eight of them with the same first 8 bits: with b 8 and M 8 none is crowded.
+fn spread_accounts(count: usize, random: &mut Random) -> Vec<u32> {
+    let mut taken = [0; 256];
+    let mut accounts = Vec::new();
+    while accounts.len() < count {
+        let account = (random.next() >> 16) as u32;
+        let place = (account >> 24) as usize;
+        if taken[place] < 7 && !accounts.contains(&account) {
+            taken[place] += 1;
+            accounts.push(account);
+        }
+    }
+    accounts
+}
+
+// Of ten operations nine are lookups; of four others three are inserts and one a delete.
+fn mixed_kind(random: &mut Random) -> u64 {
+    if random.below(10) < 9 {
+        LOOKUP
+    } else if random.below(4) < 3 {
+        INSERT
+    } else {
+        DELETE
+    }
+}
+
+// So many operations on 1,000 accounts, b 8, M 8. Growing is their first insert; the other works start with all of them inserted.
+pub fn work(name: &'static str, workers: u64, count: usize) -> Work {
+    let mut random = Random(88172645463325252);
+    let accounts = spread_accounts(1000, &mut random);
+    let first: Vec<Operation> = accounts.iter().map(|a| insert(*a, &mut random)).collect();
+    if name == "growing" {
+        return Work {
+            name,
+            workers,
+            capacity: 8,
+            depth: 8,
+            filling: Vec::new(),
+            measured: first,
+        };
+    }
+    let measured = (0..count)
+        .map(|_| {
+            let kind = match name {
+                "inserts" => INSERT,
+                "lookups" => LOOKUP,
+                _ => mixed_kind(&mut random),
+            };
+            let account = accounts[random.below(1000) as usize];
+            Operation {
+                kind,
+                ..insert(account, &mut random)
+            }
+        })
+        .collect();
+    Work {
+        name,
+        workers,
+        capacity: 8,
+        depth: 8,
+        filling: first,
+        measured,
+    }
+}
+
+// Lookups in buckets that all hold 4 accounts, at a greatest depth: each bucket gets 7 and loses 3.
+pub fn even(depth: u64, count: usize) -> Work {
+    let mut random = Random(20261115);
+    let account = |place: u64, i: u64| ((place << 32 >> depth) + (i << 20)) as u32;
+    let mut filling = Vec::new();
+    for i in 0..7 {
+        filling.extend((0..1 << depth).map(|p| insert(account(p, i), &mut random)));
+    }
+    for i in [1, 3, 5] {
+        filling.extend((0..1 << depth).map(|p| Operation {
+            kind: DELETE,
+            account: account(p, i),
+            total: 0,
+        }));
+    }
+    let measured = (0..count)
+        .map(|_| {
+            let place = random.below(1 << depth);
+            Operation {
+                kind: LOOKUP,
+                account: account(place, 2 * random.below(4)),
+                total: 0,
+            }
+        })
+        .collect();
+    let name = ["depth-0", "depth-4", "depth-8"][depth as usize / 4];
+    Work {
+        name,
+        workers: 1,
+        capacity: 8,
+        depth,
+        filling,
+        measured,
+    }
+}

@@ -1,0 +1,80 @@
+#!/usr/bin/env bash
+# The whole table beside the same source compiled as Rust, a hand-written twin and a locked map: instructions an operation, and time ratios.
+# callgrind counts inside the compared functions only, so that the driver's loop is not in it. Needs rt, cargo and valgrind.
+set -euo pipefail
+cd "$(dirname "$0")/.."
+folder=$(mktemp -d)
+trap 'rm -rf "$folder"' EXIT
+for library in capi leaves; do
+  rt staticlib "$library" >"$folder/log" 2>&1 || { cat "$folder/log" >&2 && exit 1; }
+done
+cargo build --release --offline --quiet --manifest-path bench/Cargo.toml --bin table
+
+# a line a case: work, workers, side, instructions an operation
+counted() {
+  local options=() symbol work workers side operations i=0
+  for symbol in totals_call totals_step totals_run '*same_totals_call*' '*same_totals_step*' '*same_totals_run*' \
+    '*Twin::call*' '*Twin::step*' '*Twin::run*' '*Map::operate*'; do
+    options+=("--toggle-collect=$symbol")
+  done
+  valgrind --tool=callgrind --callgrind-out-file="$folder/dump" --collect-atstart=no "${options[@]}" \
+    --zero-before='*measured_*' --dump-before='*counted*' bench/target/release/table count >"$folder/cases" 2>"$folder/log" ||
+    { cat "$folder/log" >&2 && return 1; }
+  while read -r work workers side operations; do
+    i=$((i + 1))
+    awk -v o="$operations" -v c="$work $workers $side" '/^totals: / { printf "%s %.1f\n", c, $2 / o }' "$folder/dump.$i"
+  done <"$folder/cases"
+}
+
+# such lines as a table, a row for each work and number of workers, then the ratios that are asked for
+table() {
+  awk -v format="$1" '
+    { row = $1 " " $2; value[row, $3] = $4; if (!(row in seen)) { seen[row] = 1; rows[++count] = row } }
+    function ratio(row, a, b) { return sprintf("%.2f", value[row, a] / value[row, b]) }
+    END {
+      sides = split("steps run same same-run twin twin-run map", side)
+      printf "%-9s %2s", "work", "n"
+      for (i = 1; i <= sides; i++) printf " %9s", side[i]
+      printf " %10s %9s %9s %9s\n", "steps:same", "steps:twin", "run:twin", "run:map"
+      for (r = 1; r <= count; r++) {
+        row = rows[r]
+        if (!((row, "map") in value)) continue
+        split(row, name, " ")
+        printf "%-9s %2s", name[1], name[2]
+        for (i = 1; i <= sides; i++) printf " %9" format, value[row, side[i]]
+        printf " %10s %9s %9s %9s\n", ratio(row, "steps", "same"), ratio(row, "steps", "twin"), ratio(row, "run", "twin"), ratio(row, "run", "map")
+      }
+    }'
+}
+
+# what is asked for, beside what was counted
+goals() {
+  awk '
+    { value[$1, $2, $3] = $4 }
+    function goal(text, is, most) { printf "%-58s %8.2f  at most %7.2f  %s\n", text, is, most, is <= most ? "met" : "missed" }
+    END {
+      goal("lookup by single steps", value["lookups", 1, "steps"], 220)
+      goal("insert by single steps, n 1", value["inserts", 1, "steps"], 1750)
+      goal("insert by single steps, n 8", value["inserts", 8, "steps"], 3300)
+      split("inserts lookups mixed growing", works, " ")
+      for (i = 1; i <= 4; i++) for (n = 1; n <= 8; n *= 2) if (n != 4) {
+        x = value[works[i], n, "steps"] / value[works[i], n, "same"]
+        if (x > worst) worst = x
+      }
+      goal("single steps to the same source as Rust: worst ratio", worst, 1.2)
+      goal("lookup by run, most: the map", value["lookups", 1, "run"], value["lookups", 1, "map"])
+      goal("insert by run, n 1, most: 1.3 of the twin by single steps", value["inserts", 1, "run"], 1.3 * value["inserts", 1, "twin"])
+      a = value["depth-0", 1, "steps"]; b = value["depth-8", 1, "steps"]
+      goal("lookup at M 8 to M 0, buckets equally full: ratio", b / a, 1.1)
+    }'
+}
+
+counted >"$folder/counts"
+echo "instructions an operation, b 8, M 8 (inserts, lookups, mixed: 1,000 accounts are there; growing: they are inserted)"
+table .0f <"$folder/counts"
+echo
+goals <"$folder/counts"
+echo "lookup by single steps at M 0, 4, 8, 4 accounts in each bucket: $(awk '/^depth-. 1 steps/ { printf "%s ", $4 }' "$folder/counts")"
+echo
+echo "nanoseconds an operation, one run, the least of nine rounds"
+bench/target/release/table time | table .1f

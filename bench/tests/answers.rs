@@ -1,0 +1,215 @@
+// Every side gives the same answers, totals and step counts on the same random work; those of whole operations are a plain map's where not
+// crowded.
+use bench::sides::{Map, Proved, Reply, Same, Table};
+use bench::turns::{by_run, by_steps};
+use bench::twin::Twin;
+use bench::work::{Operation, Random, DELETE, INSERT, LOOKUP};
+
+const CROWDED: u64 = 25;
+
+struct Case {
+    workers: u64,
+    capacity: u64,
+    depth: u64,
+    operations: Vec<Operation>,
+}
+
+// Settings at random, and operations on few accounts, many of them with the same first bits.
+fn case(random: &mut Random) -> Case {
+    let (workers, capacity, depth) = (1 + random.below(8), 2 + random.below(15), random.below(9));
+    let accounts: Vec<u32> = (0..1 + random.below(80))
+        .map(|_| {
+            (random.next() >> 16) as u32
+                & [u32::MAX, 0x0fff_ffff, 0x8000_00ff][random.below(3) as usize]
+        })
+        .collect();
+    let operations = (0..random.below(400))
+        .map(|_| Operation {
+            kind: [INSERT, INSERT, DELETE, LOOKUP][random.below(4) as usize],
+            account: accounts[random.below(accounts.len() as u64) as usize],
+            total: random.next() as i64,
+        })
+        .collect();
+    Case {
+        workers,
+        capacity,
+        depth,
+        operations,
+    }
+}
+
+type Turns<T> = fn(&mut T, u64, &[Operation], &mut dyn FnMut(usize, Reply));
+
+fn stepped<T: Table>(
+    table: &mut T,
+    n: u64,
+    operations: &[Operation],
+    told: &mut dyn FnMut(usize, Reply),
+) {
+    by_steps(table, n, operations, told);
+}
+
+fn ran<T: Table>(
+    table: &mut T,
+    n: u64,
+    operations: &[Operation],
+    told: &mut dyn FnMut(usize, Reply),
+) {
+    by_run(table, n, operations, told);
+}
+
+// The replies by operation, and the table in the end.
+fn replies<T: Table>(c: &Case, turns: Turns<T>) -> (Vec<Reply>, T) {
+    let mut table = T::open(c.workers, c.capacity, c.depth);
+    let mut replies = vec![
+        Reply {
+            code: 0,
+            steps: 0,
+            total: 0
+        };
+        c.operations.len()
+    ];
+    turns(&mut table, c.workers, &c.operations, &mut |place, reply| {
+        replies[place] = reply
+    });
+    (replies, table)
+}
+
+#[test]
+fn single_steps_in_turn_answer_alike() {
+    let mut random = Random(1);
+    let mut late = 0;
+    for _ in 0..1500 {
+        let c = case(&mut random);
+        let (ours, proved) = replies::<Proved>(&c, stepped);
+        let (theirs, same) = replies::<Same>(&c, stepped);
+        let (twins, twin) = replies::<Twin>(&c, stepped);
+        assert_eq!(ours, theirs);
+        assert_eq!(ours, twins);
+        assert_eq!(proved.0, same.0);
+        assert_eq!(proved.rows(), twin.rows());
+        late += ours.iter().filter(|r| r.steps > 6 * c.workers + 17).count();
+    }
+    assert!(late > 0, "no update was answered in its second pass");
+}
+
+// The map is fed what was not crowded.
+#[test]
+fn operations_run_to_their_answer_answer_as_a_map() {
+    let mut random = Random(2);
+    let mut crowded = 0;
+    for _ in 0..1500 {
+        let c = case(&mut random);
+        let (ours, proved) = replies::<Proved>(&c, ran);
+        assert_eq!(ours, replies::<Same>(&c, ran).0);
+        assert_eq!(ours, replies::<Twin>(&c, ran).0);
+        let map = Map::default();
+        for (o, reply) in c.operations.iter().zip(&ours) {
+            if reply.code == CROWDED {
+                crowded += 1;
+            } else {
+                assert_eq!((reply.code, reply.total), map.operate(*o));
+            }
+        }
+        assert_eq!(proved.rows(), map.rows());
+    }
+    assert!(crowded > 1000, "only {crowded} updates were crowded");
+}
+
+// A call, a step or a run of one worker.
+struct Turn {
+    worker: u64,
+    which: u64,
+    most: u64,
+    operation: Operation,
+}
+
+impl Turn {
+    fn given<T: Table>(&self, table: &mut T) -> Reply {
+        match self.which {
+            0 => Reply {
+                code: table.call(self.worker, self.operation),
+                steps: 0,
+                total: 0,
+            },
+            1 => table.step(self.worker),
+            _ => table.run(self.worker, self.most),
+        }
+    }
+}
+
+// Calls, steps and runs of any worker in any order, the refused ones too: the same replies, and the same words after each. The twin knows
+// no kinds but three.
+#[test]
+fn any_order_of_calls_steps_and_runs_answers_alike() {
+    let mut random = Random(3);
+    let mut replied = [0; 32];
+    for _ in 0..400 {
+        let c = case(&mut random);
+        let mut proved = Proved::open(c.workers, c.capacity, c.depth);
+        let mut same = Same::open(c.workers, c.capacity, c.depth);
+        let mut twin = Twin::open(c.workers, c.capacity, c.depth);
+        for o in c.operations.iter().cycle().take(3 * c.operations.len()) {
+            let turn = Turn {
+                worker: random.below(c.workers + 1),
+                which: random.below(3),
+                most: random.below(40),
+                operation: *o,
+            };
+            let ours = turn.given(&mut proved);
+            assert_eq!(ours, turn.given(&mut same));
+            assert_eq!(ours, turn.given(&mut twin));
+            assert_eq!(proved.0, same.0);
+            replied[ours.code as usize] += 1;
+        }
+    }
+    assert!(
+        [3, 4, 5, 17, 25].iter().all(|c| replied[*c] > 100),
+        "{replied:?}"
+    );
+}
+
+// Words that no opening left, and any arguments: the proved library and the same source in Rust reply alike and leave the same words.
+#[test]
+fn on_any_words_the_proved_library_does_what_its_source_says() {
+    let mut random = Random(4);
+    let (mut changed, mut strange) = (0, 0);
+    for _ in 0..20_000 {
+        let (n, b, m) = (1 + random.below(8), 2 + random.below(15), random.below(3));
+        let mut proved = Proved::open(n, b, m);
+        let len = proved.0.len() as u64;
+        for _ in 0..random.below(40) {
+            // seldom a word of the header's first two, by which most words would be strange
+            let place = random.below(len).max(random.below(10)) as usize;
+            proved.0[place] =
+                [random.below(4), random.below(len), random.next()][random.below(3) as usize];
+        }
+        if random.below(8) == 0 {
+            proved.0.truncate(random.below(len) as usize);
+        }
+        let mut same = Same(proved.0.clone());
+        let before = proved.0.clone();
+        for _ in 0..6 {
+            let operation = Operation {
+                kind: random.below(5),
+                account: random.next() as u32,
+                total: random.next() as i64,
+            };
+            let turn = Turn {
+                worker: random.below(n + 1),
+                which: random.below(3),
+                most: random.below(300),
+                operation,
+            };
+            let ours = turn.given(&mut proved);
+            assert_eq!(ours, turn.given(&mut same));
+            assert_eq!(proved.0, same.0);
+            strange += (ours.code == 8) as u32;
+        }
+        changed += (proved.0 != before) as u32;
+    }
+    assert!(
+        changed > 5000 && strange > 5000,
+        "{changed} words changed, {strange} times refused with 8"
+    );
+}
