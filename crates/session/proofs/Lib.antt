@@ -1,0 +1,10 @@
+-- The laws of whole sessions.
+-- They rest on the definitions of specs/, on the meaning of words and on the driver's texts.
+pub mod Lengths
+pub mod Lines
+pub mod Steps
+pub mod Commands
+pub mod Sessions
+pub mod Counts
+pub mod Narrow
+pub mod Blocks
