@@ -1,26 +1,29 @@
 -- Laws of single bits of a word: one that is set or taken away leaves a word.
 -- Rests on the laws of powers of two.
-use Prim.Native.Nat.{ℕ, _+_, _-_, _*_, _/_, _%_, _^_, _≤_, _<_}
-use native.Mathlib.Nat.{mul-le-mul-right, mod-lt, div-eq-of-lt, one-mul}
+use Prim.Native.Nat.{ℕ, suc, _+_, _-_, _*_, _/_, _%_, _^_, _≤_, _<_}
+use native.Mathlib.Nat.{add-div-right, div-lt-iff-lt-mul, div-eq-of-lt}
 use native.Mathlib.Omega.{arith}
 use native.Mathlib.Decide.{decLt}
-use mathlib.Core.Path.{_≡_, sym, _∙_, ap, subst}
-use lib.Pow.{pow-add, pow-pos, shr-lt, shl-exact, split}
+use mathlib.Core.Path.{_≡_, sym, _∙_, ap}
+use lib.Pow.{pow-add, pow-pos}
 use Rattle.machine.proofs.Base.{if-eq, if-ne}
 use Rattle.bucket.specs.State.{bit}
 use Rattle.engine.specs.Engine.{flipBit, withBit}
+use Rattle.layout.proofs.Pool.{shift-one}
 
--- a bit that is 0 can be set
-pub bit-set-fits : (x w : ℕ) → bit x w ≡ 0 → x < 2 ^ 64 → w < 64 → x + 2 ^ w < 2 ^ 64
+pub pow-above : (n w : ℕ) → w < n → 2 ^ n ≡ 2 ^ (n - suc w) * 2 * 2 ^ w
+pow-above n w h =
+    let e : n ≡ n - suc w + 1 + w = omega arith in
+    ap (λ (k : ℕ). 2 ^ k) e ∙ pow-add 2 (n - suc w + 1) w ∙ ap (λ (k : ℕ). k * 2 ^ w) (pow-add 2 (n - suc w) 1)
+
+-- a bit that is 0 can be set in a word of n bits
+pub bit-room : (x w n : ℕ) → w < n → x < 2 ^ n → bit x w ≡ 0 → x + 2 ^ w < 2 ^ n
 unfolding bit
-bit-set-fits x w e h k =
-    let whole : 64 ≡ 1 + (63 - w) + w = omega arith in
-    let double : 2 ^ (1 + (63 - w)) ≡ 2 * 2 ^ (63 - w) = pow-add 2 1 (63 - w) in
-    let high : x / 2 ^ w < 2 ^ (1 + (63 - w)) = shr-lt (1 + (63 - w)) w (subst (λ (m : ℕ). x < 2 ^ m) whole h) in
-    let room : x / 2 ^ w + 2 ≤ 2 ^ (1 + (63 - w)) = omega arith in
-    let product : (x / 2 ^ w + 2) * 2 ^ w ≤ 2 ^ (1 + (63 - w)) * 2 ^ w = mul-le-mul-right (2 ^ w) room in
-    let all : 2 ^ 64 ≡ 2 ^ (1 + (63 - w)) * 2 ^ w = ap (λ (m : ℕ). 2 ^ m) whole ∙ pow-add 2 (1 + (63 - w)) w in
-    omega (arith, split x w, mod-lt x (pow-pos w))
+bit-room x w n h b clear =
+    let p = pow-above n w h in
+    let low : x / 2 ^ w < 2 ^ (n - suc w) * 2 = div-lt-iff-lt-mul (pow-pos w) .1 (rw p at b) in
+    let more = add-div-right x (pow-pos w) in
+    rw p (div-lt-iff-lt-mul (pow-pos w) .0 (omega arith))
 
 -- a bit that is not 0 can be taken away
 pub bit-clear-fits : (x w : ℕ) → (bit x w ≡ 0 → ⊥) → 2 ^ w ≤ x
@@ -33,9 +36,6 @@ bit-clear-fits x w e = go (decLt x (2 ^ w))
 
 -- ---- the code's own bit: 1 shifted up
 
-pub shift-one : (w : ℕ) → w < 64 → 1 * 2 ^ w % 2 ^ 64 ≡ 2 ^ w
-shift-one w h = shl-exact {a = 1} 1 w 64 (omega arith) (omega arith) ∙ one-mul (2 ^ w)
-
 pub flip-set : (x w : ℕ) → bit x w ≡ 0 → w < 64 → x + 1 * 2 ^ w % 2 ^ 64 ≡ flipBit x w
 unfolding flipBit
 flip-set x w e h = ap (λ (k : ℕ). x + k) (shift-one w h) ∙ sym (if-eq (bit x w) 0 (x + 2 ^ w) (x - 2 ^ w) e)
@@ -44,9 +44,10 @@ pub flip-clear : (x w : ℕ) → (bit x w ≡ 0 → ⊥) → w < 64 → x - 1 * 
 unfolding flipBit
 flip-clear x w e h = ap (λ (k : ℕ). x - k) (shift-one w h) ∙ sym (if-ne (bit x w) 0 (x + 2 ^ w) (x - 2 ^ w) e)
 
-pub mark-set : (x w : ℕ) → bit x w ≡ 0 → w < 64 → x + 1 * 2 ^ w % 2 ^ 64 ≡ withBit x w
-unfolding withBit
-mark-set x w e h = ap (λ (k : ℕ). x + k) (shift-one w h) ∙ sym (if-eq (bit x w) 0 (x + 2 ^ w) x e)
+-- a bit that is 0 is set by a change
+pub mark-set : (x w : ℕ) → bit x w ≡ 0 → flipBit x w ≡ withBit x w
+unfolding flipBit withBit
+mark-set x w e = if-eq (bit x w) 0 (x + 2 ^ w) (x - 2 ^ w) e ∙ sym (if-eq (bit x w) 0 (x + 2 ^ w) x e)
 
 pub mark-kept : (x w : ℕ) → (bit x w ≡ 0 → ⊥) → withBit x w ≡ x
 unfolding withBit

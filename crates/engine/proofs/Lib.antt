@@ -1,5 +1,4 @@
 pub mod Bits
 pub mod Cases
-pub mod Lengths
 pub mod Phases
 pub mod Splitting

@@ -222,18 +222,3 @@ module _ (n : ℕ) where
   pub plan-pass : (k r : ℕ) → 1 ≤ k → r ≡ (if leb (6 * n + 16) (k - 1) then k - 1 - (6 * n + 16) else k - 1) → phase n k ≡ at (pass n) r
   unfolding phase plan
   plan-pass k r h e = at-later announce (pass n ++ pass n) k h ∙ at-twice (pass n) (6 * n + 16) (k - 1) r length-pass e
-
--- ---- a step for a worker is for one of n
-
-abbrev pub Below : ℕ → Phase → Type 0
-Below n announce = Unit {0}
-Below n readDirectory = Unit {0}
-Below n flipToggle = Unit {0}
-Below n readState = Unit {0}
-Below n readToggle = Unit {0}
-Below n swapState = Unit {0}
-Below n checkState = Unit {0}
-Below n copyDirectory = Unit {0}
-Below n swapDirectory = Unit {0}
-Below n (readSlot j) = j < n
-Below n (resizeFor j) = j < n

@@ -1,7 +1,7 @@
 -- Splits and taken updates put together from their parts, and the turns of the loops over workers.
 -- Rests on the definitions of the directory swap, and on the bounds of its records.
 use Prim.Native.Nat.{ℕ, zero, suc, _+_, _-_, _*_, _/_, _%_, _^_, _≤_, _<_}
-use native.Mathlib.Nat.{mod-lt, two-pow-succ}
+use native.Mathlib.Nat.{mod-lt, two-pow-succ, add-zero}
 use native.Mathlib.Numerals.{add-one}
 use native.Mathlib.Omega.{arith}
 use mathlib.Core.Path.{_≡_, refl, sym, _∙_, ap}
@@ -9,8 +9,8 @@ use mathlib.Core.Bool.{Bool, true, false}
 use mathlib.Core.List.{List}
 use lib.Dec.{ltb, leb, eqb}
 use lib.ListN.{length, set, replicate}
-use lib.Pow.{pow-pos}
-use borrow.Author.Tests.{lt-ltb, le-ltb, le-leb, lt-leb, eq-eqb, ne-eqb}
+use lib.Pow.{pow-pos, pow-mono}
+use borrow.Author.Tests.{ltb-false, lt-ltb, le-ltb, le-leb, lt-leb, eq-eqb, ne-eqb}
 use Rattle.interface.specs.declared.Settings.{Settings}
 use Rattle.machine.specs.Choice.{if_then_else_, _and_}
 use Rattle.machine.specs.Words.{wordsNeeded}
@@ -19,13 +19,14 @@ use Rattle.bucket.specs.State.{bit, prefixOf, carryOf, halfOf}
 use Rattle.bucket.specs.declared.BucketState.{BucketState}
 use Rattle.lists.specs.Parts.{overlay}
 use Rattle.memory.specs.Loads.{loadedState, storedState}
-use Rattle.layout.specs.Shape.{word, Whole, directoryStart}
+use Rattle.layout.specs.Shape.{word, Fits, Whole, directoryStart}
 use Rattle.layout.specs.Places.{readAt, recordOf}
 use Rattle.layout.specs.Numbers.{freshDirectory}
 use Rattle.engine.specs.Engine.{settledWord}
 use Rattle.layout.specs.Records.{recordStart, firstEntry, spareOf}
 use Rattle.engine.specs.Splits.{madeAt, directedAt, halfAt, deepenedAt, splitAt, splitWhileAt, carriedAt, takenAt, dueAt, duesAt, takenAll, resolvedAt, nothingToSplit, redirectedAt}
-use Rattle.layout.proofs.Pool.{pow-small, directory-inside, entries-inside}
+use Rattle.layout.proofs.Checks.{or-parts}
+use Rattle.layout.proofs.Pool.{directory-inside, entries-inside}
 
 -- ---- one split
 
@@ -66,7 +67,7 @@ pub record Depths (s : Settings) (u : ℕ) : Type 0 where
 pub depths : (s : Settings) (u : ℕ) → 1 ≤ s .depth → s .depth ≤ 15 → Depths s u
 depths s u h k =
     let below = mod-lt u h in
-    record { depth = below; span = pow-small _ (omega arith); positive = pow-pos _ }
+    record { depth = below; span = pow-mono {j = 15} (omega arith); positive = pow-pos _ }
 
 pub prefix-small : (s : Settings) (u v w : ℕ) → 1 ≤ s .depth → s .depth ≤ 15 → w ≡ 2 ^ (u % s .depth + 1 - 1) → 2 * (v % w) + 1 ≤ 65_536
 prefix-small s u v w h k e =
@@ -119,10 +120,10 @@ while-end l s a (suc k) h = absurd (omega arith)
 -- ---- one update
 
 pub carried-is : (l z : List ℕ) (s : Settings) (p i q k a v t : ℕ) (x y : BucketState) → x ≡ loadedState l q (s .capacity) (s .workers)
-    → k ≡ word l (readAt p i) → a ≡ word l (readAt p i + 1) → v ≡ word l (readAt p i + 2) → t ≡ word l (readAt p i + 3)
+    → k ≡ word l (readAt p i + 0) → a ≡ word l (readAt p i + 1) → v ≡ word l (readAt p i + 2) → t ≡ word l (readAt p i + 3)
     → y ≡ carryOf x i k a v t → z ≡ storedState l q (s .capacity) (s .workers) y → z ≡ carriedAt l s p i q
 unfolding carriedAt
-carried-is l z s p i q k a v t x y e f g h m n o = rw (o, n, m, h, g, f, e)
+carried-is l z s p i q k a v t x y e f g h m n o = rw (o, n, m, h, g, f ∙ ap (word l) (add-zero _), e)
 
 module _ (l m : List ℕ) (s : Settings) (p i a b q x : ℕ) (e : a ≡ word l (readAt p i + 1)) (f : m ≡ splitWhileAt l s a (s .depth))
     (g : b ≡ word m (readAt p i + 1)) (h : q ≡ recordOf m s b) (k : x ≡ word m q) where
@@ -138,14 +139,17 @@ module _ (l m : List ℕ) (s : Settings) (p i a b q x : ℕ) (e : a ≡ word l (
 
 -- ---- the updates that are due
 
-module _ (l : List ℕ) (s : Settings) (p q i x : ℕ) (e : x ≡ word l (readAt p i)) where
+module _ (l : List ℕ) (s : Settings) (p q i x : ℕ) (e : x ≡ word l (readAt p i + 0)) where
+  kind : x ≡ word l (readAt p i)
+  kind = e ∙ ap (word l) (add-zero _)
+
   pub due-empty : x ≡ 0 → false ≡ dueAt l s p q i
   unfolding dueAt _and_
-  due-empty h = rw (eq-eqb (word l (readAt p i)) 0 (sym e ∙ h))
+  due-empty h = rw (eq-eqb (word l (readAt p i)) 0 (sym kind ∙ h))
 
   module _ (n : x ≡ 0 → ⊥) (a d y o : ℕ) (f : a ≡ word l (readAt p i + 1)) (g : d ≡ word l (q + 3)) (h : y ≡ prefixOf a d) (k : o ≡ word l (q + 4)) where
     announced : eqb (word l (readAt p i)) 0 ≡ false
-    announced = ne-eqb _ 0 (λ z. n (e ∙ z))
+    announced = ne-eqb _ 0 (λ z. n (kind ∙ z))
 
     here : y ≡ prefixOf (word l (readAt p i + 1)) (word l (q + 3))
     here = rw (h, f, g)
@@ -216,18 +220,18 @@ module _ (l : List ℕ) (s : Settings) (p x : ℕ) (e : x ≡ word l (p + 9)) wh
   unfolding nothingToSplit
   nothing-short k h f = rw (ne-eqb (word l (p + 9)) 0 (λ z. h (e ∙ z)), f)
 
+-- where there is something to split, every record is there
+pub whole-else : (l : List ℕ) (s : Settings) (p : ℕ) → Fits l s → nothingToSplit l s p ≡ false → Whole l s
+unfolding nothingToSplit
+whole-else l s p h f =
+    record { fits = h; all = ltb-false (length l) (wordsNeeded s) (or-parts (eqb (word l (p + 9)) 0) (ltb (length l) (wordsNeeded s)) f .1) }
+
 module _ (l : List ℕ) (s : Settings) (p x y : ℕ) (e : x ≡ word l (p + 8)) (f : y ≡ word l 3) where
   pub redirected-not : (x ≡ y → ⊥) → l ≡ redirectedAt l s p
   unfolding redirectedAt if_then_else_
   redirected-not h = rw (ne-eqb (word l (p + 8)) (word l 3) (λ z. h (e ∙ z ∙ sym f)))
 
   module _ (m z : List ℕ) (v : ℕ) (t : Bool) (h : x ≡ y) (g : v ≡ freshDirectory l (s .workers)) (k : t ≡ nothingToSplit l s p) (n : z ≡ set m 3 v) where
-    redirected-from : m ≡ (if nothingToSplit l s p then l else resolvedAt l s p (s .workers)) → z ≡ redirectedAt l s p
+    pub redirected-done : m ≡ (if t then l else resolvedAt l s p (s .workers)) → z ≡ redirectedAt l s p
     unfolding redirectedAt
-    redirected-from d = n ∙ sym (if-true _ l (eq-eqb (word l (p + 8)) (word l 3) (sym e ∙ h ∙ f)) ∙ rw (← d, ← g))
-
-    pub redirected-idle : t ≡ true → m ≡ l → z ≡ redirectedAt l s p
-    redirected-idle b d = redirected-from (d ∙ sym (if-true _ _ (sym k ∙ b)))
-
-    pub redirected-split : t ≡ false → m ≡ resolvedAt l s p (s .workers) → z ≡ redirectedAt l s p
-    redirected-split b d = redirected-from (d ∙ sym (if-false _ _ (sym k ∙ b)))
+    redirected-done d = n ∙ sym (if-true _ l (eq-eqb (word l (p + 8)) (word l 3) (sym e ∙ h ∙ f)) ∙ rw (← k, ← d, ← g))

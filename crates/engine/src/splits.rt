@@ -10,7 +10,8 @@ use bucket::BucketState;
 use interface::Settings;
 use layout::numbers::fresh_directory;
 use layout::places::record_of;
-use layout::places::worker_at;
+use layout::places::slot_word;
+use layout::places::worker_word;
 use layout::records::first_entry;
 use layout::records::needed;
 use layout::records::record_start;
@@ -98,16 +99,15 @@ fn carry(words: &mut [u64], g: Settings, w: usize, i: usize, q: usize)
     requires { ⌜ Fits (now words) g × ((w < g .workers) × ((i < g .workers) × (q + 54 ≤ length (now words)))) ⌝ }
     ensures { λ _. ⌜ now (words .exit) ≡ carriedAt (now (words .entry)) g (workerAt (g .workers) w) i q ⌝ }
 {
-    let o = worker_at(g, w) + 24 + 4 * i;
     let n = g.workers as usize;
     let b = g.capacity as usize;
     let s = memory::load_state(words, q, b, n);
     let t = s.carry(
         i,
-        memory::get(words, o),
-        memory::get(words, o + 1),
-        memory::get(words, o + 2),
-        memory::get(words, o + 3),
+        slot_word(words, g, w, i, 0),
+        slot_word(words, g, w, i, 1),
+        slot_word(words, g, w, i, 2),
+        slot_word(words, g, w, i, 3),
     );
     memory::store_state(words, q, b, n, t);
 }
@@ -117,9 +117,8 @@ fn take(words: &mut [u64], g: Settings, w: usize, i: usize)
     requires { ⌜ Whole (now words) g × ((w < g .workers) × (i < g .workers)) ⌝ }
     ensures { λ _. ⌜ now (words .exit) ≡ takenAt (now (words .entry)) g (workerAt (g .workers) w) i ⌝ }
 {
-    let o = worker_at(g, w) + 24 + 4 * i;
-    split_while(words, g, memory::get(words, o + 1));
-    let q = record_of(words, g, memory::get(words, o + 1));
+    split_while(words, g, slot_word(words, g, w, i, 1));
+    let q = record_of(words, g, slot_word(words, g, w, i, 1));
     if g.capacity <= memory::get(words, q) {
         return;
     }
@@ -131,16 +130,15 @@ fn due(words: &[u64], g: Settings, w: usize, q: usize, i: usize) -> bool
     requires { ⌜ Fits (now words) g × ((w < g .workers) × ((i < g .workers) × (q + 54 ≤ length (now words)))) ⌝ }
     ensures { λ r. ⌜ r ≡ dueAt (now (words .entry)) g (workerAt (g .workers) w) q i ⌝ }
 {
-    let o = worker_at(g, w) + 24 + 4 * i;
-    if memory::get(words, o) == 0 {
+    if slot_word(words, g, w, i, 0) == 0 {
         return false;
     }
-    if bucket::prefix(memory::get(words, o + 1), memory::get(words, q + 3))
+    if bucket::prefix(slot_word(words, g, w, i, 1), memory::get(words, q + 3))
         != memory::get(words, q + 4)
     {
         return false;
     }
-    settled_word(words, g, q, i) < memory::get(words, o + 3)
+    settled_word(words, g, q, i) < slot_word(words, g, w, i, 3)
 }
 
 // The workers whose update is due there, as bits.
@@ -178,11 +176,10 @@ fn resolve(words: &mut [u64], g: Settings, w: usize)
     requires { ⌜ Whole (now words) g × (w < g .workers) ⌝ }
     ensures { λ _. ⌜ now (words .exit) ≡ resolvedAt (now (words .entry)) g (workerAt (g .workers) w) (g .workers) ⌝ }
 {
-    let p = worker_at(g, w);
     let mut j: usize = 0;
     while j < g.workers as usize {
-        if (memory::get(words, p + 9) >> j) % 2 == 1 {
-            let q = record_of(words, g, memory::get(words, p + 24 + 4 * j + 1));
+        if (worker_word(words, g, w, 9) >> j) % 2 == 1 {
+            let q = record_of(words, g, slot_word(words, g, w, j, 1));
             let bits = dues(words, g, w, q);
             take_all(words, g, w, bits);
         }
@@ -195,7 +192,7 @@ fn nothing(words: &[u64], g: Settings, w: usize) -> bool
     requires { ⌜ Fits (now words) g × (w < g .workers) ⌝ }
     ensures { λ r. ⌜ r ≡ nothingToSplit (now (words .entry)) g (workerAt (g .workers) w) ⌝ }
 {
-    if memory::get(words, worker_at(g, w) + 9) == 0 {
+    if worker_word(words, g, w, 9) == 0 {
         return true;
     }
     words.len() < needed(g)
@@ -205,7 +202,7 @@ pub fn swap_directory(words: &mut [u64], g: Settings, w: usize)
     requires { ⌜ Fits (now words) g × (w < g .workers) ⌝ }
     ensures { λ _. ⌜ now (words .exit) ≡ redirectedAt (now (words .entry)) g (workerAt (g .workers) w) ⌝ }
 {
-    if memory::get(words, worker_at(g, w) + 8) != memory::get(words, 3) {
+    if worker_word(words, g, w, 8) != memory::get(words, 3) {
         return;
     }
     let x = fresh_directory(words, g);

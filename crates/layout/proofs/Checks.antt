@@ -14,15 +14,15 @@ use Rattle.layout.specs.Shape.{word, mark, settingsOf, directoryStart, s
 
 -- ---- words that pass the checks
 
-pub or-right : (a b : Bool) → (a || b) ≡ false → b ≡ false
-or-right true b e = absurd (no-both refl e)
-or-right false b e = e
+pub or-parts : (a b : Bool) → (a || b) ≡ false → (a ≡ false) × (b ≡ false)
+or-parts true b e = absurd (no-both refl e)
+or-parts false b e = (refl, e)
 
 pub fits-of : (l : List ℕ) → strange l ≡ false → Fits l (shapeOf l)
 unfolding strange settingsOf
 fits-of l e =
     let before : Bool = ltb (length l) 150 || not (eqb (word l 0 / 2_048) mark) || ltb (length l) (word l 1) in
-    let h = ltb-false (length l) (directoryStart (settingsOf (word l 0) .workers) + 54) (or-right before _ e) in
+    let h = ltb-false (length l) (directoryStart (settingsOf (word l 0) .workers) + 54) (or-parts before _ e .1) in
     record {
       least = omega arith;
       workers = omega arith;

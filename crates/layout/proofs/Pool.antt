@@ -1,34 +1,31 @@
 -- Bounds of the bucket records and of the directory's entries in words that hold every record, and the turns of the search for a spare record.
 -- Rests on the bounds of a worker's words.
 use Prim.Native.Nat.{ℕ, zero, suc, _+_, _-_, _*_, _/_, _%_, _^_, _≤_, _<_}
-use native.Mathlib.Nat.{suc-mul, mul-assoc, mul-le-mul, mul-le-mul-right, mod-lt, mod-add-div, add-mul-mod-self-left, add-mul, mul-mod-left}
+use native.Mathlib.Nat.{one-mul, suc-mul, mul-assoc, mul-le-mul, mul-le-mul-right, mod-lt, mod-add-div, add-mul-mod-self-left, add-mul, mul-mod-left}
 use native.Mathlib.Numerals.{add-one}
 use native.Mathlib.Omega.{arith}
 use mathlib.Core.Path.{_≡_, refl, sym, _∙_, ap}
 use mathlib.Core.Bool.{Bool, true, false}
 use mathlib.Core.List.{List}
-use lib.Dec.{ltb, eqb}
+use lib.Dec.{ltb}
 use lib.ListN.{length}
-use lib.Pow.{pow-add, pow-pos, pow-mono, mod-pow-add}
-use borrow.Author.Tests.{lt-ltb, le-ltb, ltb-true, eq-eqb, ne-eqb}
+use lib.Pow.{pow-add, pow-pos, pow-mono, shl-exact, mod-pow-add}
+use borrow.Author.Tests.{lt-ltb, le-ltb, ltb-true}
 use Rattle.interface.specs.declared.Settings.{Settings}
 use Rattle.machine.specs.Choice.{if_then_else_}
 use Rattle.machine.specs.Words.{wordsNeeded}
 use Rattle.machine.proofs.Base.{if-elim, if-true}
+use Rattle.memory.specs.Layout.{startOf, poolAt, directoryAt, workersAt, recordSize, workerSize, poolSize}
+use Rattle.memory.proofs.Regions.{record-inside}
 use Rattle.layout.specs.Shape.{word, Whole, directoryStart}
-use Rattle.layout.specs.Places.{workerAt}
-use Rattle.layout.specs.Numbers.{any}
 use Rattle.layout.specs.Records.{recordStart, poolOf, firstEntry, currentAt, heldByAny, usedAt, spareFrom, spareOf}
 use Rattle.layout.proofs.Positions.{fits-kept, start-bound}
 
 -- ---- powers of two
 
-pub pow-small : (m : ℕ) → m ≤ 15 → 2 ^ m ≤ 32_768
-pow-small m h = pow-mono h
-
 -- a shifted 1 does not leave the word
-pub shifted : (m : ℕ) → m ≤ 15 → (1 * 2 ^ m) % 18_446_744_073_709_551_616 ≡ 2 ^ m
-shifted m h = let k = pow-small m h in omega arith
+pub shift-one : (w : ℕ) → w < 64 → 1 * 2 ^ w % 2 ^ 64 ≡ 2 ^ w
+shift-one w h = shl-exact {a = 1} 1 w 64 (omega arith) (omega arith) ∙ one-mul (2 ^ w)
 
 -- ---- records
 
@@ -45,14 +42,14 @@ product-bound s r h k m =
 
 pub pool-bound : (s : Settings) → s .workers ≤ 8 → s .depth ≤ 15 → poolOf s ≤ 32_778
 unfolding poolOf
-pool-bound s h k = let m = pow-small (s .depth) k in omega arith
+pool-bound s h k = let m = pow-mono k in omega arith
 
 pub record-start-bound : (s : Settings) (r : ℕ) → s .workers ≤ 8 → s .capacity ≤ 16 → s .depth ≤ 15 → r ≤ 65_536
     → recordStart s r ≤ 3_572_208
 unfolding recordStart
 record-start-bound s r h k m n =
     let a = start-bound (s .workers) h in
-    let b = pow-small (s .depth) m in
+    let b = pow-mono m in
     let d = product-bound s r h k n in
     omega arith
 
@@ -65,14 +62,8 @@ whole-kept e f = record { fits = fits-kept e (f .fits); all = omega arith }
 
 module _ {l : List ℕ} {s : Settings} (whole : Whole l s) where
   pub pool-inside : (r : ℕ) → r < poolOf s → recordStart s r + 54 ≤ length l
-  unfolding recordStart
-  pool-inside r h =
-      let w : Whole l s = whole in
-      let size : ℕ = 2 * s .capacity + 2 * s .workers + 6 in
-      let e = suc-mul r size in
-      let k : suc r * size ≤ poolOf s * size = mul-le-mul-right size h in
-      let n = needed-is s in
-      omega arith
+  unfolding recordStart directoryStart poolOf startOf poolAt directoryAt workersAt recordSize workerSize poolSize
+  pool-inside r h = let w : Whole l s = whole in omega (arith, record-inside s r h)
 
   pub directory-inside : directoryStart (s .workers) + 2 ^ s .depth ≤ length l
   unfolding recordStart
@@ -99,10 +90,10 @@ width-one m d h = let e : m - d ≡ 0 = omega arith in rw e
 
 pub entry-product : (q m k x w : ℕ) → m ≤ 15 → k ≤ 15 → x ≡ 2 ^ m → w ≡ 2 ^ k → (q % x) * w ≤ 1_073_741_824
 entry-product q m k x w h n e f =
-    let a = pow-small m h in
+    let a = pow-mono h in
     let b = mod-lt q (pow-pos m) in
     let below : q % 2 ^ m ≤ 32_768 = omega arith in
-    rw (e, f) (mul-le-mul below (pow-small k n))
+    rw (e, f) (mul-le-mul below (pow-mono n))
 
 pub entry-below : (s : Settings) (d q : ℕ) → firstEntry s d q < 2 ^ s .depth
 unfolding firstEntry
@@ -119,39 +110,6 @@ entries-inside s d q h =
     let exact : q * 2 ^ m % 2 ^ s .depth ≡ x * 2 ^ m + q * 2 ^ m % 2 ^ m = ap (λ (j : ℕ). q * 2 ^ m % 2 ^ j) whole ∙ mod-pow-add (q * 2 ^ m) d m in
     let room : suc x * 2 ^ m ≤ 2 ^ d * 2 ^ m = mul-le-mul-right (2 ^ m) (mod-lt _ (pow-pos d)) in
     omega (arith, mul-mod-left q (2 ^ m), suc-mul x (2 ^ m))
-
--- ---- records that a worker holds
-
--- one of the workers below j holds the record at q
-pub heldBelow : List ℕ → ℕ → ℕ → ℕ → Bool
-heldBelow l n q j = any j (λ i. eqb (word l (workerAt n i + 5)) q)
-
-pub held-all : (l : List ℕ) (n q : ℕ) → heldBelow l n q n ≡ heldByAny l n q
-unfolding heldBelow heldByAny
-held-all l n q = refl
-
-module _ (l : List ℕ) (n q p x : ℕ) (e : x ≡ word l (p + 5)) where
-  held-word : (j : ℕ) → p ≡ workerAt n (suc j - 1) → word l (workerAt n j + 5) ≡ x
-  held-word j f =
-      let less : suc j - 1 ≡ j = omega arith in
-      sym (e ∙ ap (λ (i : ℕ). word l (i + 5)) (f ∙ ap (workerAt n) less))
-
-  pub held-found : (j : ℕ) → 0 < j → p ≡ workerAt n (j - 1) → x ≡ q → true ≡ heldBelow l n q j
-  unfolding heldBelow any if_then_else_
-  held-found zero h f g = absurd (omega arith)
-  held-found (suc j) h f g = rw (eq-eqb (word l (workerAt n j + 5)) q (held-word j f ∙ g))
-
-  pub held-turn : (j : ℕ) → 0 < j → p ≡ workerAt n (j - 1) → (x ≡ q → ⊥) → heldBelow l n q (j - 1) ≡ heldBelow l n q j
-  unfolding heldBelow any if_then_else_
-  held-turn zero h f g = absurd (omega arith)
-  held-turn (suc j) h f g =
-      let less : suc j - 1 ≡ j = omega arith in
-      rw (less, ne-eqb (word l (workerAt n j + 5)) q (λ k. g (sym (held-word j f) ∙ k)))
-
-pub held-none : (l : List ℕ) (n q j : ℕ) → j ≤ 0 → false ≡ heldBelow l n q j
-unfolding heldBelow any
-held-none l n q zero h = refl
-held-none l n q (suc j) h = absurd (omega arith)
 
 -- ---- the search for a spare record
 

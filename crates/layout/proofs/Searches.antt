@@ -49,8 +49,9 @@ and-no x e = rw e (and-right-false x)
 
 -- ---- the tests of the searches among the workers
 
-abbrev pub readNumber : List ℕ → ℕ → ℕ → ℕ → ℕ → Bool
-readNumber l n q x j = eqb (word l (workerAt n j + 5)) q and eqb (word l (workerAt n j + 6)) x
+-- word k of worker j's record is x
+abbrev pub has : List ℕ → ℕ → ℕ → ℕ → ℕ → Bool
+has l n k x j = eqb (word l (workerAt n j + k)) x
 
-abbrev pub readDirectory : List ℕ → ℕ → ℕ → ℕ → Bool
-readDirectory l n x j = eqb (word l (workerAt n j + 8)) x
+abbrev pub readNumber : List ℕ → ℕ → ℕ → ℕ → ℕ → Bool
+readNumber l n q x j = has l n 5 q j and has l n 6 x j

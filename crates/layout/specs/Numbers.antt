@@ -12,6 +12,10 @@ unfoldable pub any : ℕ → (ℕ → Bool) → Bool
 any zero f = false
 any (suc j) f = if f j then true else any j f
 
+-- word k of some worker's record is x
+abbrev pub anyHas : List ℕ → ℕ → ℕ → ℕ → Bool
+anyHas l n k x = any n (λ j. eqb (word l (workerAt n j + k)) x)
+
 -- the least number from i on that is not taken, at most i + k
 unfoldable pub leastFree : (ℕ → Bool) → ℕ → ℕ → ℕ
 leastFree taken i zero = i
@@ -26,7 +30,7 @@ unfoldable pub freshNumber : List ℕ → ℕ → ℕ → ℕ
 freshNumber l n q = leastFree (numberTaken l n q) 0 n
 
 unfoldable pub directoryTaken : List ℕ → ℕ → ℕ → Bool
-directoryTaken l n x = any n (λ j. eqb (word l (workerAt n j + 8)) x)
+directoryTaken l n x = anyHas l n 8 x
 
 unfoldable pub freshDirectory : List ℕ → ℕ → ℕ
 freshDirectory l n = leastFree (directoryTaken l n) 0 n

@@ -7,8 +7,7 @@ use lib.Dec.{ltb, eqb}
 use Rattle.interface.specs.declared.Settings.{Settings}
 use Rattle.machine.specs.Choice.{if_then_else_}
 use Rattle.layout.specs.Shape.{word, directoryStart}
-use Rattle.layout.specs.Places.{workerAt}
-use Rattle.layout.specs.Numbers.{any}
+use Rattle.layout.specs.Numbers.{anyHas}
 
 unfoldable pub recordStart : Settings → ℕ → ℕ
 recordStart s r = directoryStart (s .workers) + 2 ^ s .depth + r * (2 * s .capacity + 2 * s .workers + 6)
@@ -25,7 +24,7 @@ unfoldable pub currentAt : List ℕ → Settings → ℕ → Bool
 currentAt l s q = eqb (word l (directoryStart (s .workers) + firstEntry s (word l (q + 3)) (word l (q + 4)))) q
 
 unfoldable pub heldByAny : List ℕ → ℕ → ℕ → Bool
-heldByAny l n q = any n (λ j. eqb (word l (workerAt n j + 5)) q)
+heldByAny l n q = anyHas l n 5 q
 
 -- "one that a worker still refers to is not": record r is current or held
 unfoldable pub usedAt : List ℕ → Settings → ℕ → Bool

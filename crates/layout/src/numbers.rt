@@ -1,9 +1,25 @@
 // Numbers of states and of the directory, used again: the least one that no worker has read.
 ghost use mathlib.Core.Path.{_≡_};
+ghost use Prim.Native.Nat.{_<_};
 ghost use Rattle.layout.specs.Shape.{Fits};
-ghost use Rattle.layout.specs.Numbers.{numberTaken, freshNumber, directoryTaken, freshDirectory};
-use crate::places::worker_at;
+ghost use Rattle.layout.specs.Numbers.{anyHas, numberTaken, freshNumber, freshDirectory};
+use crate::places::worker_word;
 use interface::Settings;
+
+// Whether word k of some worker's record is x.
+pub fn any_has(words: &[u64], g: Settings, k: usize, x: u64) -> bool
+    requires { ⌜ Fits (now words) g × (k < 24) ⌝ }
+    ensures { λ r. ⌜ r ≡ anyHas (now (words .entry)) (g .workers) k x ⌝ }
+{
+    let mut j = g.workers as usize;
+    while 0 < j {
+        j -= 1;
+        if worker_word(words, g, j, k) == x {
+            return true;
+        }
+    }
+    false
+}
 
 // Whether a worker that holds record q has read its state under number x.
 fn number_taken(words: &[u64], g: Settings, q: usize, x: u64) -> bool
@@ -13,9 +29,8 @@ fn number_taken(words: &[u64], g: Settings, q: usize, x: u64) -> bool
     let mut j = g.workers as usize;
     while 0 < j {
         j -= 1;
-        let p = worker_at(g, j);
-        if memory::get(words, p + 5) == q as u64 {
-            if memory::get(words, p + 6) == x {
+        if worker_word(words, g, j, 5) == q as u64 {
+            if worker_word(words, g, j, 6) == x {
                 return true;
             }
         }
@@ -38,29 +53,14 @@ pub fn fresh_number(words: &[u64], g: Settings, q: usize) -> u64
     x
 }
 
-// Whether a worker has read the directory under number x.
-fn directory_taken(words: &[u64], g: Settings, x: u64) -> bool
-    requires { ⌜ Fits (now words) g ⌝ }
-    ensures { λ r. ⌜ r ≡ directoryTaken (now (words .entry)) (g .workers) x ⌝ }
-{
-    let mut j = g.workers as usize;
-    while 0 < j {
-        j -= 1;
-        if memory::get(words, worker_at(g, j) + 8) == x {
-            return true;
-        }
-    }
-    false
-}
-
-// The directory's next number.
+// The directory's next number: the least that no worker has read.
 pub fn fresh_directory(words: &[u64], g: Settings) -> u64
     requires { ⌜ Fits (now words) g ⌝ }
     ensures { λ r. ⌜ r ≡ freshDirectory (now (words .entry)) (g .workers) ⌝ }
 {
     let mut x: u64 = 0;
     while x < g.workers {
-        if !directory_taken(words, g, x) {
+        if !any_has(words, g, 8, x) {
             return x;
         }
         x += 1;

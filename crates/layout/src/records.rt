@@ -4,8 +4,8 @@ ghost use Prim.Native.Nat.{_+_, _≤_, _<_};
 ghost use lib.ListN.{length};
 ghost use Rattle.machine.specs.Words.{wordsNeeded};
 ghost use Rattle.layout.specs.Shape.{Fits, Whole};
-ghost use Rattle.layout.specs.Records.{recordStart, poolOf, firstEntry, currentAt, heldByAny, usedAt, spareOf};
-use crate::places::worker_at;
+ghost use Rattle.layout.specs.Records.{recordStart, poolOf, firstEntry, currentAt, usedAt, spareOf};
+use crate::numbers::any_has;
 use crate::shape::directory_start;
 use interface::Settings;
 
@@ -55,22 +55,7 @@ fn current(words: &[u64], g: Settings, q: usize) -> bool
     memory::get_or(words, e) == q as u64
 }
 
-// Whether a worker holds the record at q.
-fn held_by_any(words: &[u64], g: Settings, q: usize) -> bool
-    requires { ⌜ Fits (now words) g ⌝ }
-    ensures { λ r. ⌜ r ≡ heldByAny (now (words .entry)) (g .workers) q ⌝ }
-{
-    let mut j = g.workers as usize;
-    while 0 < j {
-        j -= 1;
-        if memory::get(words, worker_at(g, j) + 5) == q as u64 {
-            return true;
-        }
-    }
-    false
-}
-
-// Whether record r is current or held.
+// Whether record r is current, or held by a worker.
 fn used(words: &[u64], g: Settings, r: usize) -> bool
     requires { ⌜ Whole (now words) g × (r < poolOf g) ⌝ }
     ensures { λ s. ⌜ s ≡ usedAt (now (words .entry)) g r ⌝ }
@@ -79,7 +64,7 @@ fn used(words: &[u64], g: Settings, r: usize) -> bool
     if current(words, g, q) {
         return true;
     }
-    held_by_any(words, g, q)
+    any_has(words, g, 5, q as u64)
 }
 
 // The next record to use.

@@ -2,6 +2,7 @@
 ghost use mathlib.Core.Path.{_≡_};
 ghost use Prim.Native.Nat.{_≤_};
 ghost use Rattle.layout.specs.Shape.{strange, settingsOf, directoryStart};
+use crate::places::worker_at;
 use interface::Settings;
 
 pub const MARK: u64 = 6004514763;
@@ -17,13 +18,12 @@ pub fn settings_of(x: u64) -> Settings
     }
 }
 
-// Where the directory begins.
+// Where the directory begins: where one more worker's record would.
 pub fn directory_start(g: Settings) -> usize
     requires { ⌜ g .workers ≤ 8 ⌝ }
     ensures { λ r. ⌜ r ≡ directoryStart (g .workers) ⌝ }
 {
-    let n = g.workers as usize;
-    16 + 4 * n + n * (4 * n + 24)
+    worker_at(g, g.workers as usize)
 }
 
 // Whether the words fail the checks behind 8.

@@ -3,6 +3,7 @@
 use Prim.Native.Nat.{ℕ, _+_, _*_, _≤_, _<_}
 use mathlib.Core.Path.{_≡_, refl, _∙_, ap}
 use mathlib.Core.Bool.{Bool, true, false}
+use mathlib.Core.Logic.{_⊎_, inl, inr}
 use mathlib.Core.List.{List}
 use native.Mathlib.Nat.{add-assoc, add-zero}
 use native.Mathlib.Omega.{arith}
@@ -84,17 +85,30 @@ pub loaded-count : (l : List ℕ) (q b n : ℕ) → loadedState l q b n .count �
 unfolding loadedState
 loaded-count l q b n = least-bound (getD l q 0) b
 
--- the state depends on the record's words alone
-pub loaded-same :
-    (l m : List ℕ) (q p b n : ℕ) → ((i : ℕ) → i < 2 * b + 2 * n + 6 → getD l (q + i) 0 ≡ getD m (p + i) 0) → loadedState l q b n ≡ loadedState m p b n
+-- the state depends on the record's words alone, and not on its toggle, depth, prefix and number
+pub loaded-kept :
+    (l m : List ℕ) (q p b n : ℕ) → ((i : ℕ) → i < 2 * b + 2 * n + 6 → (i < 2) ⊎ (6 ≤ i) → getD l (q + i) 0 ≡ getD m (p + i) 0)
+    → loadedState l q b n ≡ loadedState m p b n
 unfolding loadedState
-loaded-same l m q p b n h =
-    let e : getD l q 0 ≡ getD m p 0 = rw (add-zero q, add-zero p) at (h 0 (omega arith)) in
+loaded-kept l m q p b n h =
+    let e : getD l q 0 ≡ getD m p 0 = rw (add-zero q, add-zero p) at (h 0 (omega arith) (inl (omega arith))) in
     let c : ℕ = least (getD m p 0) b in
     let d : c ≤ b = least-bound (getD m p 0) b in
-    let run : (at k : ℕ) → at + k ≤ 2 * b + 2 * n + 6 → copied l (q + at) k ≡ copied m (p + at) k =
-    λ at k f. copied-same l m (q + at) (p + at) k (λ i g. rw (add-assoc q at i, add-assoc p at i) (h (at + i) (omega arith))) in
-    rw (e, run 6 c (omega arith), run (6 + b) c (omega arith), run (6 + b + b) n (omega arith), run (6 + b + b + n) n (omega arith), h 1 (omega arith))
+    let run : (at k : ℕ) → 6 ≤ at → at + k ≤ 2 * b + 2 * n + 6 → copied l (q + at) k ≡ copied m (p + at) k =
+    λ at k o f.
+    copied-same l m (q + at) (p + at) k (λ i g. rw (add-assoc q at i, add-assoc p at i) (h (at + i) (omega arith) (inr (omega arith)))) in
+    rw (
+      e,
+      run 6 c (omega arith) (omega arith),
+      run (6 + b) c (omega arith) (omega arith),
+      run (6 + b + b) n (omega arith) (omega arith),
+      run (6 + b + b + n) n (omega arith) (omega arith),
+      h 1 (omega arith) (inl (omega arith)),
+    )
+
+pub loaded-same :
+    (l m : List ℕ) (q p b n : ℕ) → ((i : ℕ) → i < 2 * b + 2 * n + 6 → getD l (q + i) 0 ≡ getD m (p + i) 0) → loadedState l q b n ≡ loadedState m p b n
+loaded-same l m q p b n h = loaded-kept l m q p b n (λ i g o. h i g)
 
 -- ---- stores
 

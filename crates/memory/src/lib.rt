@@ -36,6 +36,14 @@ pub fn get(words: &[u64], i: usize) -> u64
     words[i]
 }
 
+// The word k places past `at`. The place is taken first, so that several words of one record are read from it.
+pub fn get_from(words: &[u64], at: usize, k: usize) -> u64
+    requires { ⌜ at + k < length (now words) ⌝ }
+    ensures { λ r. ⌜ r ≡ getD (now (words .entry)) (at + k) 0 ⌝ }
+{
+    get(&words[at..], k)
+}
+
 // The word at i, and 0 past the end.
 pub fn get_or(words: &[u64], i: usize) -> u64
     ensures { λ r. ⌜ r ≡ getD (now (words .entry)) i 0 ⌝ }
@@ -77,7 +85,7 @@ pub fn fill(words: &mut [u64], from: usize, to: usize, v: u64)
 }
 
 // A count of accounts, at most the capacity.
-fn least(count: u64, capacity: usize) -> usize
+pub fn least(count: u64, capacity: usize) -> usize
     ensures { λ r. ⌜ r ≡ least count capacity ⌝ }
 {
     if count < capacity as u64 {

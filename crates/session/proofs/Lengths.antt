@@ -1,4 +1,4 @@
--- Opening, a call and a run keep the number of words, whatever the words are. Rests on the lengths of the engine's steps.
+-- Opening, a call and a run keep the number of words, whatever the words are. Rests on the lengths of steps.
 use Prim.Native.Nat.{ℕ, zero, suc, _+_, _-_, _%_, _≤_, _<_}
 use native.Mathlib.Omega.{arith}
 use mathlib.Core.Path.{_≡_, refl, sym, _∙_}
@@ -27,7 +27,8 @@ use Rattle.engine.specs.declared.phase.Phase as Code
 use Rattle.engine.specs.Phases.{planned}
 use Rattle.engine.specs.Engine.{slotReadAt, heldAt, flippedAt, stateReadAt, toggleReadAt, directoryReadAt, swappedAt, markedAt, marks, stateStepAt}
 use Rattle.engine.specs.Splits.{takenAll, resolvedAt, nothingToSplit, redirectedAt}
-use Rattle.engine.proofs.Lengths.{length-announced, length-round, length-taken, whole-else}
+use Rattle.engine.proofs.Splitting.{whole-else}
+use Rattle.session.proofs.StepLengths.{length-announced, length-round, length-taken}
 use Rattle.table.specs.Turns.{endedAt, checkAt, updateAt, lookupAt, operationAt, begunAt, callIn, callWords, freshWords, orElse, runIn, runWords}
 use Rattle.table.proofs.TurnLaws.{slot-below}
 use Rattle.table.proofs.Fresh.{fresh-parts}

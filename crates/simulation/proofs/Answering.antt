@@ -6,12 +6,13 @@ use native.Mathlib.Nat.{add-zero, zero-add}
 use native.Mathlib.Decide.{ℕ-discrete}
 use mathlib.Core.Path.{_≡_, refl, ap, sym, _∙_}
 use mathlib.Core.Logic.{by-cases}
+use mathlib.Core.Bool.{Bool, true, false, not}
 use mathlib.Core.List.{List, [], _∷_}
 use mathlib.Core.Option.{Option, none, some}
 use lib.Dec.{ltb, leb, eqb}
-use lib.ListN.{length, getD, take, length-set, length-replicate}
-use lib.Seq.{getD-set-same, getD-set-other, getD-take, length-take-le}
-use borrow.Author.Tests.{le-leb, lt-leb, eq-eqb, ne-eqb, ltb-false}
+use lib.ListN.{length, getD, take}
+use lib.Seq.{getD-take, length-take-le}
+use borrow.Author.Tests.{le-leb, lt-leb, eq-eqb, ne-eqb, leb-true, leb-false, lt-ltb, le-ltb}
 use Rattle.interface.specs.declared.Settings.{Settings}
 use Rattle.interface.specs.declared.Answer.{Answer}
 use Rattle.interface.specs.declared.Answer.the-variants.{Crowded}
@@ -19,31 +20,18 @@ use Rattle.machine.specs.Choice.{if_then_else_, _and_}
 use Rattle.machine.specs.Sequential.{Table, find, looked}
 use Rattle.machine.specs.Records.{Settled, Body, Bucket}
 use Rattle.machine.specs.BucketPass.{full, settledAt, hopeless, checked}
-use Rattle.machine.proofs.Base.{if-ap, if-elim}
+use Rattle.machine.proofs.Base.{if-ap}
 use Rattle.bucket.specs.State.{sizeOf, fullOf}
 use Rattle.bucket.specs.Items.{signed, pairs, itemsOf, answerOf, settledOf}
 use Rattle.bucket.proofs.Ties.{full-means}
 use Rattle.memory.specs.Layout.{record′, startOf, totalsFrom, settledFrom, answersFrom}
 use Rattle.memory.specs.Loads.{least, copied, loadedState}
+use Rattle.memory.proofs.Runs.{length-copied, getD-copied}
+use Rattle.memory.proofs.States.{least-same}
 use Rattle.layout.specs.Shape.{word}
 use Rattle.engine.specs.Engine.{settledWord, answerWordAt, checkedAt}
 use Rattle.table.specs.Turns.{foundAt, lookedAt}
 use Rattle.simulation.specs.Meaning.{at, Keeps}
-
--- ---- an array of 16 with the first words of a run
-
-copied-length : (l : List ℕ) (q k : ℕ) → length (copied l q k) ≡ 16
-unfolding copied
-copied-length l q zero = length-replicate {A = ℕ} 16 0
-copied-length l q (suc k) = length-set (copied l q k) k (getD l (q + k) 0) ∙ copied-length l q k
-
-pub getD-copied : (l : List ℕ) (q k i : ℕ) → k ≤ 16 → i < k → getD (copied l q k) i 0 ≡ getD l (q + i) 0
-unfolding copied
-getD-copied l q zero i h b = absurd (omega arith)
-getD-copied l q (suc k) i h b =
-    by-cases (ℕ-discrete i k)
-    (λ e. rw e (getD-set-same (copied l q k) k (getD l (q + k) 0) 0 (rw copied-length h)))
-    (λ e. getD-set-other (copied l q k) k i (getD l (q + k) 0) 0 e ∙ getD-copied l q k i (omega arith) (omega (arith, e)))
 
 -- ---- a lookup
 
@@ -67,15 +55,11 @@ found-pairs l s q a i (suc c) (b ∷ A) (v ∷ T) h k x y =
     (λ j d. y (suc j) (omega arith) ∙ ap (λ (o : ℕ). word l (q + 6 + s .capacity + o)) (next j)) in
     rw (← here, ← total, rest) (sym (if-ap looked (eqb b a) (some (signed v)) (find (pairs A T) a)))
 
--- the first of two numbers where it is no greater
-at-most : (a b : ℕ) → a ≤ b → if ltb a b then a else b ≡ a
-at-most a b h = if-elim (λ (x : ℕ). x ≡ a) (ltb a b) a b (λ e. refl) (λ e. omega (arith, ltb-false a b e))
-
 found-copied :
     (l : List ℕ) (s : Settings) (q a c : ℕ) → c ≤ 16
     → foundAt l s q a 0 c ≡ looked (find (pairs (take c (copied l (q + 6) c)) (take c (copied l (q + totalsFrom (s .capacity)) c))) a)
 found-copied l s q a c h =
-    found-pairs l s q a 0 c (take c A) (take c T) (length-take-le c A (rw copied-length h)) (length-take-le c T (rw copied-length h))
+    found-pairs l s q a 0 c (take c A) (take c T) (length-take-le c A (rw length-copied h)) (length-take-le c T (rw length-copied h))
     (λ j b. getD-take c A j 0 b ∙ getD-copied l (q + 6) c j h b ∙ ap (λ (o : ℕ). word l (q + 6 + o)) (sym (zero-add j)))
     (λ j b. let e : q + totalsFrom (s .capacity) + j ≡ q + 6 + s .capacity + (0 + j) = omega arith in
     getD-take c T j 0 b ∙ getD-copied l (q + totalsFrom (s .capacity)) c j h b ∙ ap (word l) e)
@@ -102,6 +86,13 @@ deepest : (M d : ℕ) → d ≤ M → leb M d ≡ eqb d M
 deepest M d h =
     by-cases (ℕ-discrete d M) (λ e. le-leb M d (omega arith) ∙ sym (eq-eqb d M e)) (λ e. lt-leb M d (omega (arith, e)) ∙ sym (ne-eqb d M e))
 
+ltb-not : (p q : ℕ) → ltb p q ≡ not (leb q p)
+ltb-not p q = go (leb q p) refl
+  where
+    go : (b : Bool) → leb q p ≡ b → ltb p q ≡ not b
+    go true e = le-ltb p q (leb-true q p e)
+    go false e = lt-ltb p q (leb-false q p e)
+
 module _ (s : Settings) (narrow : s .capacity ≤ 16) (few : s .workers ≤ 16) (l : List ℕ) (r : ℕ) (x : Bucket) (keeps : Keeps s l r x) where
   abbrev q : ℕ
   q = startOf s (record′ r)
@@ -116,15 +107,15 @@ module _ (s : Settings) (narrow : s .capacity ≤ 16) (few : s .workers ≤ 16) 
   unfolding lookedAt loadedState itemsOf sizeOf least
   looked-is a =
       let c : ℕ = least (word l q) (s .capacity) in
-      let fits : c ≤ 16 = rw (at-most (word l q) (s .capacity) small) (omega (arith, small)) in
+      let fits : c ≤ 16 = rw (least-same (word l q) (s .capacity) small) (omega (arith, small)) in
       let T : List ℕ = copied l (q + totalsFrom (s .capacity)) c in
       found-copied l s q a c fits
-      ∙ ap (λ (n : ℕ). looked (find (pairs (take n (copied l (q + 6) c)) (take n T)) a)) (sym (at-most c 16 fits))
+      ∙ ap (λ (n : ℕ). looked (find (pairs (take n (copied l (q + 6) c)) (take n T)) a)) (sym (least-same c 16 fits))
       ∙ ap (λ (t : Table). looked (find t a)) (keeps .state .items)
 
   pub full-is : leb (s .capacity) (word l q) ≡ full s b
   unfolding loadedState fullOf least
-  full-is = ap (leb (s .capacity)) (sym (at-most (word l q) (s .capacity) small)) ∙ full-means s _ _ (s .workers) (keeps .state)
+  full-is = ap (leb (s .capacity)) (sym (least-same (word l q) (s .capacity) small)) ∙ full-means s _ _ (s .workers) (keeps .state)
 
   module _ (w : ℕ) (wn : w < s .workers) where
     pub ticket-is : settledWord l s q w ≡ b .settled w .ticket
@@ -133,6 +124,10 @@ module _ (s : Settings) (narrow : s .capacity ≤ 16) (few : s .workers ≤ 16) 
         let e : q + 6 + s .capacity + s .capacity + w ≡ q + settledFrom (s .capacity) + w = omega arith in
         ap (word l) e ∙ sym (getD-copied l (q + settledFrom (s .capacity)) (s .workers) w few wn)
         ∙ ap (λ (z : Settled). z .ticket) (keeps .state .settled w wn)
+
+    -- a ticket above the one settled
+    pub unsettled-is : (t : ℕ) → ltb (settledWord l s (startOf s (record′ r)) w) t ≡ not (leb t (x .state .value .body .settled w .ticket))
+    unsettled-is t = ltb-not _ t ∙ ap (λ (k : ℕ). not (leb t k)) ticket-is
 
     answer-is : answerOf (answerWordAt l s q w) ≡ b .settled w .answer
     unfolding loadedState settledOf

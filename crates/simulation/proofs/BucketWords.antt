@@ -2,9 +2,9 @@
 -- Rests on the laws of loads and stores and on what a round means.
 use Prim.Native.Nat.{ℕ, zero, suc, _+_, _*_, _≤_, _<_}
 use native.Mathlib.Omega.{arith}
-use native.Mathlib.Nat.{add-assoc, add-zero}
+use native.Mathlib.Nat.{add-zero}
 use mathlib.Core.Path.{_≡_, refl, ap, sym, _∙_, subst}
-use mathlib.Core.Logic.{_⊎_, inl, inr, ⊎-elim}
+use mathlib.Core.Logic.{_⊎_, ⊎-elim}
 use mathlib.Core.Bool.{Bool, true, not}
 use mathlib.Core.List.{List}
 use lib.Dec.{ltb, eqb}
@@ -26,10 +26,9 @@ use Rattle.bucket.specs.Items.{itemsOf, settledOf, bitsOf, slotOf, SoundSlots, 
 use Rattle.bucket.proofs.Ties.{round-means}
 use Rattle.lists.specs.Parts.{part}
 use Rattle.memory.specs.Layout.{record′, poolSize, startOf}
-use Rattle.memory.specs.Loads.{least, copied, loadedState, storedState}
+use Rattle.memory.specs.Loads.{least, loadedState, storedState}
 use Rattle.memory.proofs.Regions.{record-inside}
-use Rattle.memory.proofs.Runs.{length-copied}
-use Rattle.memory.proofs.States.{Sized, least-bound}
+use Rattle.memory.proofs.States.{Sized, least-bound, least-same, loaded-kept, loaded-sized, loaded-count}
 use Rattle.memory.proofs.Trips.{Same, length-state, count-word, state-elsewhere, trip}
 use Rattle.layout.specs.Shape.{word}
 use Rattle.engine.specs.Engine.{roundAt}
@@ -37,46 +36,15 @@ use Rattle.simulation.specs.Meaning.{at}
 
 -- ---- a state loaded
 
-copied-same : (l l′ : List ℕ) (at k : ℕ) → ((i : ℕ) → i < k → getD l′ (at + i) 0 ≡ getD l (at + i) 0) → copied l′ at k ≡ copied l at k
-unfolding copied
-copied-same l l′ at zero same = refl
-copied-same l l′ at (suc k) same = rw (copied-same l l′ at k (λ i h. same i (omega arith)), same k (omega arith))
-
 -- toggle, depth, prefix and number are no part of a state
-pub loaded-kept :
-    (l l′ : List ℕ) (q b n : ℕ) → ((k : ℕ) → k < 2 * b + 2 * n + 6 → (k < 2) ⊎ (6 ≤ k) → getD l′ (q + k) 0 ≡ getD l (q + k) 0)
-    → loadedState l′ q b n ≡ loadedState l q b n
-unfolding loadedState
-loaded-kept l l′ q b n same =
-    let few = least-bound (getD l q 0) b in
-    let size : getD l′ q 0 ≡ getD l q 0 = rw add-zero at (same 0 (omega arith) (inl (omega arith))) in
-    rw size (λ o. record {
-      accounts = copied-same l l′ (q + 6) c (run 6 c (omega arith) (omega arith)) o;
-      totals = copied-same l l′ (q + (6 + b)) c (run (6 + b) c (omega arith) (omega arith)) o;
-      settled = copied-same l l′ (q + (6 + b + b)) n (run (6 + b + b) n (omega arith) (omega arith)) o;
-      answers = copied-same l l′ (q + (6 + b + b + n)) n (run (6 + b + b + n) n (omega arith) (omega arith)) o;
-      count = c;
-      applied = same 1 (omega arith) (inl (omega arith)) o;
-    })
-  where
-    c : ℕ
-    c = least (getD l q 0) b
-
-    run : (p k : ℕ) → 6 ≤ p → p + k ≤ 2 * b + 2 * n + 6 → (i : ℕ) → i < k → getD l′ (q + p + i) 0 ≡ getD l (q + p + i) 0
-    run p k g h i d = rw (add-assoc q p i) (same (p + i) (omega arith) (inr (omega arith)))
-
 pub loaded-set :
     (l : List ℕ) (q b n i v : ℕ) → 2 ≤ i → i < 6 → loadedState (set l (q + i) v) q b n ≡ loadedState l q b n
 loaded-set l q b n i v h g =
-    loaded-kept l (set l (q + i) v) q b n (λ k d o. getD-set-other l (q + i) (q + k) v 0 (λ e. ⊎-elim (λ f. omega arith) (λ f. omega arith) o))
+    loaded-kept (set l (q + i) v) l q q b n (λ k d o. getD-set-other l (q + i) (q + k) v 0 (λ e. ⊎-elim (λ f. omega arith) (λ f. omega arith) o))
 
 applied-loaded : (l : List ℕ) (q b n : ℕ) → loadedState l q b n .applied ≡ getD l (q + 1) 0
 unfolding loadedState
 applied-loaded l q b n = refl
-
-count-loaded : (l : List ℕ) (q b n : ℕ) → loadedState l q b n .count ≤ b
-unfolding loadedState
-count-loaded l q b n = least-bound (getD l q 0) b
 
 -- ---- a state that is the same as far as a record keeps it means the same
 
@@ -87,18 +55,9 @@ take-same k l l′ h h′ same =
     ext-getD 0 (take k l′) (take k l) (e′ ∙ sym e)
     (λ i d. getD-take k l′ i 0 (omega arith) ∙ same i (omega arith) ∙ sym (getD-take k l i 0 (omega arith)))
 
-loaded-sized : (l : List ℕ) (q b n : ℕ) → Sized (loadedState l q b n)
-unfolding loadedState
-loaded-sized l q b n = record {
-  accounts = length-copied l (q + 6) _;
-  totals = length-copied l (q + (6 + b)) _;
-  settled = length-copied l (q + (6 + b + b)) n;
-  answers = length-copied l (q + (6 + b + b + n)) n;
-}
-
 size-is : (x : BucketState) → x .count ≤ 16 → sizeOf x ≡ x .count
-unfolding sizeOf
-size-is x h = if-elim (λ (k : ℕ). k ≡ x .count) (ltb (x .count) 16) _ _ (λ e. refl) (λ e. omega (arith, ltb-false (x .count) 16 e))
+unfolding sizeOf least
+size-is x h = least-same (x .count) 16 h
 
 module _ (x y : BucketState) (n : ℕ) (z : State) (sized : Sized y) (same : Same n x y) (m : Means x z n) where
   few : y .count ≤ 16
@@ -187,7 +146,7 @@ module _ (s : Settings) (range : inRange (s .workers) (s .capacity) (s .depth) �
 
 -- a bucket that is not full takes at most one account more
 module _ (x : BucketState) where
-  size-bound : sizeOf x ≤ x .count
+  pub size-bound : sizeOf x ≤ x .count
   unfolding sizeOf
   size-bound = if-elim (λ (k : ℕ). k ≤ x .count) (ltb (x .count) 16) _ _ (λ e. omega arith) (λ e. omega (arith, ltb-false (x .count) 16 e))
 
@@ -266,7 +225,7 @@ module _ (s : Settings) (range : inRange (s .workers) (s .capacity) (s .depth) �
             (e ∙ sym (applied-loaded l (startOf s (record′ r)) (s .capacity) (s .workers))) (s .workers)) after;
       })
       (λ d. stored-words s range l enough r rn _ _ after
-      (round-count before _ (s .capacity) _ (s .workers) (count-loaded l (startOf s (record′ r)) (s .capacity) (s .workers))))
+      (round-count before _ (s .capacity) _ (s .workers) (loaded-count l (startOf s (record′ r)) (s .capacity) (s .workers))))
     where
       before : BucketState
       before = loadedState l (startOf s (record′ r)) (s .capacity) (s .workers)

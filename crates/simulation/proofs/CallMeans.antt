@@ -31,7 +31,7 @@ use Rattle.layout.specs.Shape.{word}
 use Rattle.table.specs.Turns.{begunAt, callIn}
 use Rattle.simulation.specs.Meaning.{at, operationIn, Meaning}
 use Rattle.simulation.proofs.Entering.{at-first, is-busy, is-idle}
-use Rattle.simulation.proofs.OwnWorker.{Ready, Free, nowhere, Words, words-here, words-set, words-first, mine-means, toggle-kept, slots-kept, free}
+use Rattle.simulation.proofs.OwnWorker.{worker-means, Ready, Free, nowhere, Words, words-here, words-set, words-first, mine-means, toggle-kept, slots-kept, free}
 
 module _ {s : Settings} {l : List ℕ} {m : Machine} {w : ℕ} (ready : Ready s l m w) where
   abbrev pub p : ℕ
@@ -80,15 +80,15 @@ module _ {s : Settings} {l : List ℕ} {m : Machine} {w : ℕ} (ready : Ready s 
     busy-answers : (o : Operation) → m .workers w .operation ≡ some o → Answers
     unfolding callIn
     busy-answers o e =
-        let h : word l p ≢ 0 = λ g. is-busy _ _ _ o (ready .means .workers w (ready .known) .operation ∙ e) (sym (at-first s l (worker w)) ∙ g) in
+        let h : word l p ≢ 0 = λ g. is-busy _ _ _ o (worker-means ready .operation ∙ e) (sym (at-first s l (worker w)) ∙ g) in
         alike (if-true _ _ (ap not (ne-eqb (word l p) 0 h))) (call-busy s m w kind a v (ready .known) e) (ready .means, refl)
 
     module _ (idle : m .workers w .operation ≡ none) where
       idle-word : eqb (word l p) 0 ≡ true
-      idle-word = eq-eqb (word l p) 0 (at-first s l (worker w) ∙ is-idle _ _ _ (ready .means .workers w (ready .known) .operation ∙ idle))
+      idle-word = eq-eqb (word l p) 0 (at-first s l (worker w) ∙ is-idle _ _ _ (worker-means ready .operation ∙ idle))
 
       last : word l (p + 3) ≡ m .workers w .last
-      last = ready .means .workers w (ready .known) .ticket
+      last = worker-means ready .ticket
 
       -- an insert or a delete, x being the word of its total
       update-answers :

@@ -2,7 +2,6 @@
 -- Rests on words that are the same.
 use Prim.Native.Nat.{ℕ, _^_, _<_}
 use native.Mathlib.Omega.{arith}
-use native.Mathlib.Nat.{zero-add}
 use native.Mathlib.Decide.{ℕ-discrete}
 use mathlib.Core.Path.{_≡_, refl, sym, _∙_}
 use mathlib.Core.Logic.{_≢_, by-cases}
@@ -14,22 +13,13 @@ use Rattle.machine.specs.Records.{Name, Bucket, Slot, Machine}
 use Rattle.machine.specs.Steps.{assignSlot, assignBucket}
 use Rattle.machine.proofs.Base.{assign-elim}
 use Rattle.machine.proofs.Cells.{bucket-elim}
-use Rattle.machine.proofs.Counter.{PC, inB}
-use Rattle.machine.proofs.Whereabouts.{Holds}
 use Rattle.machine.proofs.Inv.{held}
 use Rattle.machine.proofs.Transitions.{tasksOf}
-use Rattle.memory.specs.Layout.{header, slot, worker, entry, record′, poolSize}
+use Rattle.memory.specs.Layout.{slot, worker, entry, record′, poolSize}
 use Rattle.layout.specs.Shape.{word}
 use Rattle.simulation.specs.Meaning.{at, slotIn, nameIn, Keeps, Refers, Live, current, referred, HasState, Agree, WorkerMeans, Meaning}
-use Rattle.simulation.proofs.Frames.{Inside, entry-within, header-start, header-wide, slot-wide, worker-wide, record-wide, SameWords, slot-same, name-same, keeps-same, refers-same, directs-same, marks-same, worker-same}
+use Rattle.simulation.proofs.Frames.{state-holds, live-within, inside-head, Inside, entry-within, slot-wide, worker-wide, record-wide, SameWords, slot-same, name-same, keeps-same, refers-same, directs-same, marks-same, worker-same}
 use Rattle.simulation.proofs.Entering.{refers-once}
-
-pub live-within : {s : Settings} {l : List ℕ} {m : Machine} (r : ℕ) → Live s l m r → r < poolSize s
-live-within r (current a d) = d .within
-live-within r (referred j jn g d) = d .within
-
-state-holds : (pc : PC) → HasState pc → Holds pc
-state-holds (inB p r x) h = tt
 
 -- ---- the whole meaning
 
@@ -99,7 +89,7 @@ module _ (s : Settings) (l l′ : List ℕ) (m : Machine) (means : Meaning s l m
   unfolding assignSlot
   slot-means w x f is narrow fits quiet = change-means s l l′ m _ _ means (record {
     same-length = f .same-length;
-    head = λ k b. rw (header-start, zero-add) at (f .same header k tt (rw header-wide b) (λ e. let z : _≡_ {A = ℕ} 0 1 = cc in omega arith));
+    head = inside-head f (λ e. let z : _≡_ {A = ℕ} 0 1 = cc in omega arith);
     entries = λ a k b. f .same (entry _) k (entry-within s a) b (λ e. let z : _≡_ {A = ℕ} 0 1 = cc in omega arith);
     workers = λ j jn k b. f .same (worker j) k jn b (λ e. let z : _≡_ {A = ℕ} 0 1 = cc in omega arith);
     names = λ r rn. name-same s l l′ r (records r rn);
@@ -132,7 +122,7 @@ module _ (s : Settings) (l l′ : List ℕ) (m : Machine) (means : Meaning s l m
   unfolding assignBucket
   record-means r x v rn f is name only keeps agree = change-means s l l′ m _ _ means (record {
     same-length = f .same-length;
-    head = λ k b. rw (header-start, zero-add) at (f .same header k tt (rw header-wide b) (λ e. let z : _≡_ {A = ℕ} 0 1 = cc in omega arith));
+    head = inside-head f (λ e. let z : _≡_ {A = ℕ} 0 1 = cc in omega arith);
     entries = λ a k b. f .same (entry _) k (entry-within s a) b (λ e. let z : _≡_ {A = ℕ} 0 1 = cc in omega arith);
     workers = λ j jn k b. f .same (worker j) k jn b (λ e. let z : _≡_ {A = ℕ} 0 1 = cc in omega arith);
     names = λ t tn. by-cases (ℕ-discrete t r) (λ e. rw e name) (λ d. name-same s l l′ t (records t tn d));

@@ -2,14 +2,13 @@
 -- words of a bucket record, and on numbers used again.
 use Prim.Native.Nat.{ℕ, suc, _+_, _*_, _≤_, _<_}
 use native.Mathlib.Omega.{arith}
-use native.Mathlib.Nat.{add-assoc}
 use native.Mathlib.Decide.{ℕ-discrete}
 use mathlib.Core.Path.{_≡_, refl, ap, sym, _∙_, subst}
 use mathlib.Core.Logic.{_≢_, inl, inr, ⊎-elim, by-cases}
 use mathlib.Core.Bool.{Bool, not}
 use mathlib.Core.List.{List}
 use mathlib.Core.Option.{none, some}
-use lib.ListN.{length, getD, set, length-set}
+use lib.ListN.{length, set, length-set}
 use lib.Seq.{getD-set-other}
 use Rattle.interface.specs.declared.Settings.{Settings}
 use Rattle.interface.specs.declared.Stepped.{Stepped}
@@ -20,7 +19,7 @@ use Rattle.machine.specs.BucketPass.{nextState}
 use Rattle.machine.specs.Words.{wordsNeeded}
 use Rattle.machine.specs.Steps.{assignSlot, assignBucket, assignState, assignToggle, counted, reported}
 use Rattle.machine.proofs.Base.{if-eq, if-ne, assign-at, assign-other, assign-elim}
-use Rattle.machine.proofs.Counter.{Two, one, two, PC, phaseOf, announce, readD, flip, inB, readS, readT, slotB, swap, afterB}
+use Rattle.machine.proofs.Counter.{Two, one, two, PC, announce, readD, flip, inB, readS, readT, slotB, swap, afterB}
 use Rattle.machine.proofs.Whereabouts.{Holds}
 use Rattle.machine.proofs.Inv.{Task, held, own, Fresh, SeenState, Announced, ReadFacts}
 use Rattle.machine.proofs.Keeping.{goes}
@@ -35,10 +34,10 @@ use Rattle.layout.specs.Numbers.{freshNumber}
 use Rattle.engine.specs.Engine.{announcedAt, flipBit, flippedAt, roundAt, swappedAt}
 use Rattle.table.specs.Turns.{stepIn, updateAt}
 use Rattle.simulation.specs.Meaning.{at, nameIn, Keeps, Refers, Live, current, referred, HasState, HasDirectory, Agree, WorkerMeans, Meaning}
-use Rattle.simulation.proofs.Frames.{at-here, at-beside, slot-wide, worker-wide, record-wide, name-same, keeps-same, refers-same, directs-same, Inside, elsewhere-inside, set-inside, own-entry, own-worker, own-record}
-use Rattle.simulation.proofs.Entering.{worker-start, refers-once, is-update, raised, raised-beside, update-enters}
-use Rattle.simulation.proofs.OwnWorker.{Ready, Next, going, raised-means, enough₁, own₁, mine, at-mine, keeps-mine, announced-at}
-use Rattle.simulation.proofs.CellChange.{live-within, slot-means, record-means}
+use Rattle.simulation.proofs.Frames.{live-within, at-here, at-beside, slot-wide, worker-wide, record-wide, name-same, refers-same, directs-same, Inside, elsewhere-inside, set-inside, own-entry, own-worker, own-record}
+use Rattle.simulation.proofs.Entering.{worker-start, refers-once, is-update, raised, update-enters}
+use Rattle.simulation.proofs.OwnWorker.{worker-means, Ready, Next, going, raised-means, enough₁, own₁, beside₁, mine, at-mine, keeps₁, slots-at, slots-first, announced-at, plan-step}
+use Rattle.simulation.proofs.CellChange.{slot-means, record-means}
 use Rattle.simulation.proofs.BucketWords.{loaded-set, Stored, round-words}
 use Rattle.simulation.proofs.Numbering.{fresh-number}
 use Rattle.simulation.proofs.WordBits.{flip-here, flip-beside}
@@ -92,12 +91,6 @@ state-bounded s c j k (inB p r (slotB i)) h o = o .seen .bounded
 -- ---- the steps
 
 module _ {s : Settings} {l : List ℕ} {m : Machine} {w : ℕ} (ready : Ready s l m w) where
-  abbrev means : Meaning s l m
-  means = ready .means
-
-  abbrev wn : w < s .workers
-  wn = ready .known
-
   abbrev k : Task
   k = tasksOf s m w
 
@@ -115,9 +108,6 @@ module _ {s : Settings} {l : List ℕ} {m : Machine} {w : ℕ} (ready : Ready s 
   abbrev m₁ : Machine
   m₁ = record { cells = m .cells; workers = assign (m .workers) w further }
 
-  own-word : (i : ℕ) → i < 4 * s .workers + 24 → i ≢ 4 → at s l₁ (worker w) i ≡ at s l (worker w) i
-  own-word = raised-beside s l (means .lent) w wn (m .workers w .steps)
-
   -- the words with the step counted
   counted-means : (pc : PC) → next ≡ pc → Plain pc → (Holds pc → Holds (k .pc)) → Meaning s l₁ m₁
   counted-means pc f plain holds = raised-means ready pc holds (plain .no-state) (plain .no-directory) f
@@ -132,20 +122,15 @@ module _ {s : Settings} {l : List ℕ} {m : Machine} {w : ℕ} (ready : Ready s 
   unfolding counted reported
   leaves pc l₂ c e h y g = rw (e, ap (λ (o : Task). o .reads) g) (h (ap (λ (o : Task). o .pc) g), refl)
 
-  enters :
-      (u : Update) (pc : PC) → m .workers w .operation ≡ some (update u) → k .pc ≡ pc
-      → stepIn l s w ≡ updateAt l₁ s (startOf s (worker w)) w (m .workers w .steps) (phaseOf pc)
-  enters u pc o e = update-enters s (ready .range) l m means (ready .good) w wn u pc o e
-
   pub announces-means :
       (u : Update) → k .pc ≡ announce → k .operation ≡ some (update u) → (y : Reads)
       → taskOf (s .workers) (counted (m .workers w) y none) ≡ goes k (readD one) (k .reads)
       → Next ready (assignSlot (m .cells) w (announced u (k .ticket))) y none
   unfolding updateAt
-  announces-means u e o = leaves (readD one) l₂ _ (enters u announce o e)
+  announces-means u e o = leaves (readD one) l₂ _ (update-enters s (ready .range) l m (ready .means) (ready .good) w (ready .known) u announce o e)
       (λ f. slot-means s l₁ l₂ m₁
       (counted-means (readD one) f (record { no-state = λ h. h; no-directory = λ h. h }) (λ h. absurd h)) w _
-      (announced-inside s l₁ (enough₁ ready) w wn)
+      (announced-inside s l₁ (enough₁ ready) w (ready .known))
       (rw (sent 0 (omega arith), sent 1 (omega arith), sent 2 (omega arith), sent 3 (omega arith), g .ticket, says .2)
       (slot-announced _ _ _ _ (says .0)))
       (rw (sent 1 (omega arith)) (g .narrow)) (rw (sent 2 (omega arith)) (g .fits)) (λ z. absurd (says .0 (sym (sent 0 (omega arith)) ∙ z))))
@@ -154,10 +139,10 @@ module _ {s : Settings} {l : List ℕ} {m : Machine} {w : ℕ} (ready : Ready s 
       l₂ = announcedAt l₁ (startOf s (worker w)) w
 
       g : WorkerMeans s l m w
-      g = means .workers w wn
+      g = worker-means ready
 
       sent : (i : ℕ) → i < 4 → at s (announcedAt l₁ (startOf s (worker w)) w) (slot w) i ≡ at s l (worker w) i
-      sent i h = announced-word s l₁ (enough₁ ready) w wn i h ∙ own-word i (omega arith) (λ q. omega arith)
+      sent i h = announced-word s l₁ (enough₁ ready) w (ready .known) i h ∙ beside₁ ready i (omega arith) (λ q. omega arith)
 
       says : (at s l (worker w) 0 ≢ 0) × (at s l (worker w) 0 ≢ 3) × (u ≡ updateOf (at s l (worker w) 0) (at s l (worker w) 1) (at s l (worker w) 2))
       says = is-update _ _ _ (g .operation ∙ o)
@@ -175,13 +160,10 @@ module _ {s : Settings} {l : List ℕ} {m : Machine} {w : ℕ} (ready : Ready s 
     refers = mine ready holds .1
 
     live : Live s l m r
-    live = referred w wn holds refers
+    live = referred w (ready .known) holds refers
 
     refers₁ : Refers s l₁ w r
-    refers₁ = record { within = refers .within; names = own-word 5 (omega arith) (λ e. omega arith) ∙ refers .names }
-
-    keeps₁ : Keeps s l₁ r (own (m .cells) k)
-    keeps₁ = keeps-same s l l₁ r _ (own-record (own₁ ready) r (refers .within)) (keeps-mine ready holds)
+    refers₁ = record { within = refers .within; names = beside₁ ready 5 (omega arith) (λ e. omega arith) ∙ refers .names }
 
     others-refer : (j t : ℕ) → j < s .workers → j ≢ w → Refers s l₁ j t → Refers s l j t
     others-refer j t jn d = refers-same s l₁ l j t (λ i b. sym (own-worker (own₁ ready) j jn d i b))
@@ -191,7 +173,7 @@ module _ {s : Settings} {l : List ℕ} {m : Machine} {w : ℕ} (ready : Ready s 
     only t g e = go g
       where
         apart : Live s l m t → t ≡ r
-        apart h = means .apart t r h live (sym (name-same s l l₁ t (own-record (own₁ ready) t (live-within t h))) ∙ e ∙ sym (mine ready holds .2))
+        apart h = ready .means .apart t r h live (sym (name-same s l l₁ t (own-record (own₁ ready) t (live-within t h))) ∙ e ∙ sym (mine ready holds .2))
 
         go : Live s l₁ m₁ t → t ≡ r
         go (current a d) = apart (current a (directs-same s l₁ l a t (λ i b. sym (own-entry (own₁ ready) a i b)) d))
@@ -228,13 +210,13 @@ module _ {s : Settings} {l : List ℕ} {m : Machine} {w : ℕ} (ready : Ready s 
           Keeps s flips r
           (record { state = own (m .cells) k .state; toggle = assign (own (m .cells) k .toggle) w (not (own (m .cells) k .toggle w)) })
       flip-keeps = record {
-        size = rw (flip-word 0 (omega arith) (λ e. omega arith)) (keeps₁ .size);
-        state = rw (loaded-set l₁ q (s .capacity) (s .workers) 2 _ (omega arith) (omega arith)) (keeps₁ .state);
+        size = rw (flip-word 0 (omega arith) (λ e. omega arith)) (keeps₁ ready holds .size);
+        state = rw (loaded-set l₁ q (s .capacity) (s .workers) 2 _ (omega arith) (omega arith)) (keeps₁ ready holds .state);
         toggle = λ j jn.
             rw (at-here s l₁ (enough₁ ready) (record′ r) 2 (flipBit (at s l₁ (record′ r) 2) w) (refers .within) (rw record-wide (omega arith)))
             (assign-elim (λ (b : Bool). bitsOf (flipBit (at s l₁ (record′ r) 2) w) j ≡ b) (own (m .cells) k .toggle) w _ j
-            (λ e. rw e (flip-here (at s l₁ (record′ r) 2) w ∙ ap not (keeps₁ .toggle w wn)))
-            (λ d. flip-beside (at s l₁ (record′ r) 2) w j d ∙ keeps₁ .toggle j jn));
+            (λ e. rw e (flip-here (at s l₁ (record′ r) 2) w ∙ ap not (keeps₁ ready holds .toggle w (ready .known))))
+            (λ d. flip-beside (at s l₁ (record′ r) 2) w j d ∙ keeps₁ ready holds .toggle j jn));
       }
 
       flipped-means : Left (flippedAt l₁ (heldBy l₁ (startOf s (worker w))) w) (flippedCells w (m .cells) k)
@@ -251,7 +233,7 @@ module _ {s : Settings} {l : List ℕ} {m : Machine} {w : ℕ} (ready : Ready s 
           )
           (subst
           (λ (x : Name). Agree (at s l (worker j) 6) (at s l (record′ r) 5) (m .workers j .reads .state .stamp) (m .cells .buckets x .state .stamp))
-          e (means .workers j jn .number h r (others-refer j r jn d g)))))
+          e (ready .means .workers j jn .number h r (others-refer j r jn d g)))))
 
     -- ---- the bucket swap
 
@@ -263,12 +245,12 @@ module _ {s : Settings} {l : List ℕ} {m : Machine} {w : ℕ} (ready : Ready s 
       swaps = set round (q + 5) (freshNumber l₁ (s .workers) q)
 
       seen : SeenState s t (m .cells) w k
-      seen = subst (λ pc. ReadFacts s pc (m .cells) w k) e (ready .good .own w wn .read) .seen
+      seen = subst (λ pc. ReadFacts s pc (m .cells) w k) e (ready .good .own w (ready .known) .read) .seen
 
       -- what the worker has read
 
       me : WorkerMeans s l₁ m₁ w
-      me = counted-means (afterB p t) f (plain-after p t) (λ h. holds) .workers w wn
+      me = counted-means (afterB p t) f (plain-after p t) (λ h. holds) .workers w (ready .known)
 
       same : m₁ .workers w ≡ further
       same = assign-at (m .workers) w further w refl
@@ -277,20 +259,14 @@ module _ {s : Settings} {l : List ℕ} {m : Machine} {w : ℕ} (ready : Ready s 
       unfolding counted
       toggles j jn = rw same at (me .toggle j jn)
 
-      word-read : (i : ℕ) → i < 4 * s .workers → getD (part l₁ (startOf s (worker w) + 24) (4 * s .workers)) i 0 ≡ at s l₁ (worker w) (24 + i)
-      word-read i h = getD-part l₁ (startOf s (worker w) + 24) (4 * s .workers) i h ∙ rw (add-assoc (startOf s (worker w)) 24 i)
-
       slots : (j : ℕ) → j < s .workers → slotOf (part l₁ (startOf s (worker w) + 24) (4 * s .workers)) j ≡ k .reads .slots j
       unfolding slotOf counted
       slots j jn =
           rw (
-            word-read (4 * j) (omega arith),
-            word-read (4 * j + 1) (omega arith),
-            word-read (4 * j + 2) (omega arith),
-            word-read (4 * j + 3) (omega arith),
-            ← add-assoc 24 (4 * j) 1,
-            ← add-assoc 24 (4 * j) 2,
-            ← add-assoc 24 (4 * j) 3,
+            slots-first s l₁ w j jn,
+            slots-at s l₁ w j 1 jn (omega arith),
+            slots-at s l₁ w j 2 jn (omega arith),
+            slots-at s l₁ w j 3 jn (omega arith),
           )
           (rw same at (me .slots j jn))
 
@@ -299,7 +275,7 @@ module _ {s : Settings} {l : List ℕ} {m : Machine} {w : ℕ} (ready : Ready s 
       rounded : Stored s l₁ round r (nextState s (k .reads .state .value) (k .reads .toggle) (k .reads .slots))
       rounded =
           round-words s (ready .range) l₁ (enough₁ ready) r (refers .within) (startOf s (worker w)) _ _ _
-          (keeps₁ .size) (rw (seen .same fresh) (keeps₁ .state)) toggles (me .sound) slots
+          (keeps₁ ready holds .size) (rw (seen .same fresh) (keeps₁ ready holds .state)) toggles (me .sound) slots
 
       enough₂ : wordsNeeded s ≤ length round
       enough₂ = rw (rounded .same-length) (enough₁ ready)
@@ -329,13 +305,13 @@ module _ {s : Settings} {l : List ℕ} {m : Machine} {w : ℕ} (ready : Ready s 
       swap-keeps = record {
         size = rw (swap-word 0 (omega arith) (λ g. omega arith)) (rounded .size);
         state = rw (loaded-set round q (s .capacity) (s .workers) 5 _ (omega arith) (omega arith)) (rounded .state);
-        toggle = λ j jn. rw (kept 2 (omega arith) (omega arith)) (keeps₁ .toggle j jn);
+        toggle = λ j jn. rw (kept 2 (omega arith) (omega arith)) (keeps₁ ready holds .toggle j jn);
       }
 
       -- the comparison succeeds
       equal : at s l₁ (worker w) 6 ≡ at s l₁ (record′ r) 5
       equal =
-          own-word 6 (omega arith) (λ g. omega arith) ∙ means .workers w wn .number (rw e tt) r refers .from fresh
+          beside₁ ready 6 (omega arith) (λ g. omega arith) ∙ worker-means ready .number (rw e tt) r refers .from fresh
           ∙ sym (own-record (own₁ ready) r (refers .within) 5 (rw record-wide (omega arith)))
 
       -- and no other worker's will: none has read the new number, or the new stamp
@@ -358,7 +334,7 @@ module _ {s : Settings} {l : List ℕ} {m : Machine} {w : ℕ} (ready : Ready s 
   unfolding updateAt
   flips-means p e =
       let a : Announced s (m .cells) w k = announced-at ready (flip p) e in
-      leaves (inB p one readS) _ _ (enters (a .wanted) (flip p) (a .asks) e) (flipped-means (rw e tt) p)
+      leaves (inB p one readS) _ _ (plan-step ready (flip p) a e) (flipped-means (rw e tt) p)
 
   pub swaps-means :
       (p r : Two) → k .pc ≡ inB p r swap → Fresh (m .cells) k → (y : Reads)
@@ -367,4 +343,4 @@ module _ {s : Settings} {l : List ℕ} {m : Machine} {w : ℕ} (ready : Ready s 
   unfolding updateAt
   swaps-means p r e fresh =
       let a : Announced s (m .cells) w k = announced-at ready (inB p r swap) e in
-      leaves (afterB p r) _ _ (enters (a .wanted) (inB p r swap) (a .asks) e) (swapped-means (rw e tt) p r e fresh)
+      leaves (afterB p r) _ _ (plan-step ready (inB p r swap) a e) (swapped-means (rw e tt) p r e fresh)

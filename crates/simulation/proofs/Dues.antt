@@ -7,27 +7,26 @@ use mathlib.Core.Path.{_≡_, refl, ap, sym, _∙_}
 use mathlib.Core.Bool.{Bool, true, false, not}
 use mathlib.Core.List.{List}
 use lib.Dec.{ltb, leb, eqb}
-use borrow.Author.Tests.{eq-eqb, ne-eqb, le-leb, leb-true, leb-false, le-ltb, lt-ltb}
+use borrow.Author.Tests.{eq-eqb, ne-eqb, le-leb}
 use Rattle.interface.specs.Limits.{inRange}
 use Rattle.interface.specs.declared.Settings.{Settings}
 use Rattle.interface.proofs.Laws.{range-of}
 use Rattle.machine.specs.Choice.{if_then_else_, _and_}
 use Rattle.machine.specs.Sequential.{account, place, firstBits}
-use Rattle.machine.specs.Records.{Name, Settled, Body, Bucket, empty, announced}
+use Rattle.machine.specs.Records.{Name, Body, Bucket, empty, announced}
 use Rattle.machine.specs.BucketPass.{settledAt}
 use Rattle.machine.proofs.Base.{if-elim, if-true}
 use Rattle.machine.proofs.Copies.{due}
 use Rattle.memory.specs.Layout.{record′, startOf}
-use Rattle.memory.specs.Loads.{loadedState}
-use Rattle.memory.proofs.Runs.{getD-copied}
 use Rattle.bucket.specs.State.{bit, prefixOf}
-use Rattle.bucket.specs.Items.{updateOf, readSlot, settledOf}
+use Rattle.bucket.specs.Items.{updateOf, readSlot}
 use Rattle.layout.specs.Shape.{word}
 use Rattle.layout.specs.Places.{readAt}
 use Rattle.engine.specs.Engine.{settledWord}
 use Rattle.engine.specs.Splits.{dueAt, duesAt}
 use Rattle.simulation.specs.Meaning.{nameIn, Keeps}
 use Rattle.simulation.proofs.Entering.{account-of}
+use Rattle.simulation.proofs.Answering.{unsettled-is}
 use Rattle.simulation.proofs.WordBits.{bit-set, bit-beside}
 
 -- ---- the bits
@@ -65,13 +64,6 @@ module _ (l : List ℕ) (s : Settings) (p q : ℕ) where
 
 -- ---- one update
 
-ltb-not : (p q : ℕ) → ltb p q ≡ not (leb q p)
-ltb-not p q = go (leb q p) refl
-  where
-    go : (b : Bool) → leb q p ≡ b → ltb p q ≡ not b
-    go true e = le-ltb p q (leb-true q p e)
-    go false e = lt-ltb p q (leb-false q p e)
-
 prefix-bits : (a d : ℕ) → d ≤ 32 → prefixOf a d ≡ firstBits d a
 unfolding prefixOf firstBits place
 prefix-bits a d h = if-true _ 0 (le-leb d 32 h)
@@ -84,14 +76,6 @@ module _ (s : Settings) (range : inRange (s .workers) (s .capacity) (s .depth) �
 
   abbrev b : Body
   b = y .state .value .body
-
-  settled-word : (i : ℕ) → i < s .workers → settledWord l s q i ≡ b .settled i .ticket
-  unfolding loadedState settledOf
-  settled-word i h =
-      let g = range-of (s .workers) (s .capacity) (s .depth) range in
-      let e : q + 6 + s .capacity + s .capacity + i ≡ q + (6 + s .capacity + s .capacity) + i = omega arith in
-      ap (word l) e ∙ sym (getD-copied l (q + (6 + s .capacity + s .capacity)) (s .workers) i (omega (arith, g .greatest-workers)) h)
-      ∙ ap (λ (z : Settled). z .ticket) (keeps .state .settled i h)
 
   pub due-at :
       (p i : ℕ) → i < s .workers
@@ -119,7 +103,7 @@ module _ (s : Settings) (range : inRange (s .workers) (s .capacity) (s .depth) �
           ∙ ap (λ (k : ℕ). eqb k (x .prefix)) (prefix-bits a (x .depth) low ∙ ap (firstBits (x .depth)) (sym (account-of kind a v)))
 
       above : ltb (settledWord l s q i) t ≡ not (leb t (b .settled i .ticket))
-      above = ltb-not (settledWord l s q i) t ∙ ap (λ (k : ℕ). not (leb t k)) (settled-word i h)
+      above = let g = range-of (s .workers) (s .capacity) (s .depth) range in unsettled-is s (omega arith) (omega arith) l r y keeps i h t
 
       go :
           (z : Bool)

@@ -1,40 +1,36 @@
 -- The steps that may end an operation: a lookup's second step and the check. Rests on what is found in a bucket record's words.
-use Prim.Native.Nat.{ℕ, zero, suc, _+_, _≤_, _<_}
+use Prim.Native.Nat.{ℕ, zero, suc, _+_, _≤_}
 use native.Mathlib.Omega.{arith}
 use native.Mathlib.Numerals.{add-one}
 use mathlib.Core.Path.{_≡_, refl, ap, ap₂, sym, _∙_, subst, subst⁻¹}
-use mathlib.Core.Bool.{true}
 use mathlib.Core.List.{List}
 use mathlib.Core.Option.{Option, none, some}
 use lib.ListN.{set}
-use Rattle.interface.specs.Limits.{inRange}
 use Rattle.interface.proofs.Laws.{range-of}
 use Rattle.interface.specs.declared.Settings.{Settings}
 use Rattle.interface.specs.declared.Answer.{Answer}
 use Rattle.interface.specs.declared.Stepped.{Stepped}
 use Rattle.machine.specs.Choice.{if_then_else_, assign}
-use Rattle.machine.specs.Sequential.{firstBits, Operation, lookup, find, looked}
-use Rattle.machine.specs.Records.{Name, bucketOf, Reads, Machine}
+use Rattle.machine.specs.Sequential.{Operation, lookup, find, looked}
+use Rattle.machine.specs.Records.{Name, Reads, Machine}
 use Rattle.machine.specs.Steps.{counted, reported}
 use Rattle.machine.specs.BucketPass.{checked}
-use Rattle.machine.specs.DirectoryPass.{copyOf}
 use Rattle.machine.proofs.Whereabouts.{Holds}
-use Rattle.machine.proofs.Counter as Counter
 use Rattle.machine.proofs.Counter.{Two, one, two, PC, idle, look₂, checkS, afterC}
-use Rattle.machine.proofs.Inv.{Task, Hold, body, ReadFacts, Looking, about, target, leaf, held, own}
-use Rattle.machine.proofs.Tasks.{Good}
-use Rattle.machine.proofs.Transitions.{placeOf, taskOf, tasksOf, ended, lookupPlace}
+use Rattle.machine.proofs.Copies.{grove-of}
+use Rattle.machine.proofs.Inv.{Task, Hold, body, ReadFacts, Looking, about, target, held, own}
+use Rattle.machine.proofs.Transitions.{taskOf, tasksOf, ended, lookupPlace}
 use Rattle.bucket.specs.Items.{answerOf}
 use Rattle.memory.specs.Layout.{worker, startOf}
 use Rattle.layout.specs.Shape.{word}
 use Rattle.layout.specs.Places.{heldBy}
 use Rattle.engine.specs.Engine.{checkedAt}
 use Rattle.table.specs.Turns.{stepIn, updateAt, lookupAt, endedAt, lookedAt, checkAt}
-use Rattle.simulation.specs.Meaning.{at, operationIn, Keeps, Meaning}
-use Rattle.simulation.proofs.Entering.{raised, raised-beside, is-about, lookup-enters}
+use Rattle.simulation.specs.Meaning.{at, operationIn}
+use Rattle.simulation.proofs.Entering.{raised, place-is, is-about, lookup-enters}
 use Rattle.simulation.proofs.Answering.{answered, looked-is, checked-is}
-use Rattle.simulation.proofs.Frames.{record-wide, own-record, keeps-same}
-use Rattle.simulation.proofs.OwnWorker.{nowhere, Ready, Next, Words, Free, words-here, words-set, words-first, mine-means, slots-kept, toggle-kept, Onward, own₁, free, mine, at-mine, keeps-mine, announced-at, plan-step, stays}
+use Rattle.simulation.proofs.Frames.{record-wide, own-record}
+use Rattle.simulation.proofs.OwnWorker.{worker-means, nowhere, Ready, Next, Words, Free, words-here, words-set, words-first, mine-means, slots-kept, toggle-kept, Onward, own₁, beside₁, free, mine, at-mine, keeps₁, announced-at, plan-step, stays}
 
 operation-none : (a v : ℕ) → operationIn 0 a v ≡ none
 unfolding operationIn if_then_else_
@@ -47,18 +43,6 @@ look-second (suc zero) e = refl
 look-second (suc (suc i)) e = let z : _≡_ {A = ℕ} 0 1 = cc in absurd (omega arith)
 
 module _ {s : Settings} {l : List ℕ} {m : Machine} {w : ℕ} (ready : Ready s l m w) where
-  abbrev means : Meaning s l m
-  means = ready .means
-
-  abbrev wn : w < s .workers
-  wn = ready .known
-
-  abbrev range : inRange (s .workers) (s .capacity) (s .depth) ≡ true
-  range = ready .range
-
-  abbrev good : Good s m
-  good = ready .good
-
   abbrev k : Task
   k = tasksOf s m w
 
@@ -85,9 +69,9 @@ module _ {s : Settings} {l : List ℕ} {m : Machine} {w : ℕ} (ready : Ready s 
         mine-means ready l₂ (record { last = m .workers w .last; operation = none; steps = 0; reads = k .reads }) idle refl (words .own)
             (record {
               operation = rw (words .are 0 (omega arith)) (operation-none _ _);
-              narrow = rw (words .are 1 (omega arith)) (means .workers w wn .narrow);
-              fits = rw (words .are 2 (omega arith)) (means .workers w wn .fits);
-              ticket = words .are 3 (omega arith) ∙ means .workers w wn .ticket;
+              narrow = rw (words .are 1 (omega arith)) (worker-means ready .narrow);
+              fits = rw (words .are 2 (omega arith)) (worker-means ready .fits);
+              ticket = words .are 3 (omega arith) ∙ worker-means ready .ticket;
               steps = words .are 4 (omega arith);
             })
             (toggle-kept ready l₂ (words .are 7 (omega arith))) (slots-kept ready l₂ (words .late))
@@ -102,19 +86,16 @@ module _ {s : Settings} {l : List ℕ} {m : Machine} {w : ℕ} (ready : Ready s 
       f₁ = assign (at s l (worker w)) 4 (suc (m .workers w .steps))
 
       words₁ : Words s w l l₁ f₁
-      words₁ = words-set s w wn l (means .lent) l _ (words-here s w l) 4 _ (omega arith)
+      words₁ = words-set s w (ready .known) l (ready .means .lent) l _ (words-here s w l) 4 _ (omega arith)
 
       words₂ : Words s w l (set l₁ me 0) (assign f₁ 0 0)
-      words₂ = words-first s w wn l (means .lent) l₁ _ words₁ 0
+      words₂ = words-first s w (ready .known) l (ready .means .lent) l₁ _ words₁ 0
 
       words : Words s w l l₂ (assign (assign f₁ 0 0) 4 0)
-      words = words-set s w wn l (means .lent) _ _ words₂ 4 0 (omega arith)
+      words = words-set s w (ready .known) l (ready .means .lent) _ _ words₂ 4 0 (omega arith)
 
   target-is : (o : Operation) → m .workers w .operation ≡ some o → target k ≡ at s l (worker w) 1
-  target-is o e = ap about e ∙ is-about _ _ _ o (means .workers w wn .operation ∙ e)
-
-  keeps₁ : (h : Holds (k .pc)) → Keeps s l₁ (mine ready h .0) (own (m .cells) k)
-  keeps₁ h = keeps-same s l l₁ (mine ready h .0) _ (own-record (own₁ ready) (mine ready h .0) (mine ready h .1 .within)) (keeps-mine ready h)
+  target-is o e = ap about e ∙ is-about _ _ _ o (worker-means ready .operation ∙ e)
 
   -- what the machine finds
   abbrev pub sought : Answer
@@ -122,7 +103,7 @@ module _ {s : Settings} {l : List ℕ} {m : Machine} {w : ℕ} (ready : Ready s 
 
   pub finds-means : k .pc ≡ look₂ → Ends sought
   unfolding lookupAt
-  finds-means e = ends sought (lookup-enters s range l m means good w wn (a .wanted) (a .asks) ∙ go)
+  finds-means e = ends sought (lookup-enters s (ready .range) l m (ready .means) (ready .good) w (ready .known) (a .wanted) (a .asks) ∙ go)
     where
       a : Looking s (m .cells) w k
       a = announced-at ready look₂ e
@@ -131,25 +112,21 @@ module _ {s : Settings} {l : List ℕ} {m : Machine} {w : ℕ} (ready : Ready s 
       h = subst⁻¹ Holds e tt
 
       second : m .workers w .steps ≡ 1
-      second = look-second _ (sym (ap (λ o. placeOf (s .workers) o (m .workers w .steps)) (a .asks)) ∙ e)
+      second = look-second _ (place-is s m w (a .asks) e)
 
       asked : word l₁ (me + 1) ≡ target k
       asked =
-          raised-beside s l (means .lent) w wn _ 1 (omega arith) (λ g. omega arith) ∙ sym (target-is (lookup (a .wanted)) (a .asks))
+          beside₁ ready 1 (omega arith) (λ g. omega arith) ∙ sym (target-is (lookup (a .wanted)) (a .asks))
 
       answer : lookedAt l₁ s (heldBy l₁ me) (word l₁ (me + 1)) ≡ sought
       answer =
-          let limits = range-of (s .workers) (s .capacity) (s .depth) range in
-          ap₂ (lookedAt l₁ s) (at-mine ready h) asked ∙ looked-is s (omega arith) (omega arith) l₁ (mine ready h .0) _ (keeps₁ h) (target k)
+          let limits = range-of (s .workers) (s .capacity) (s .depth) (ready .range) in
+          ap₂ (lookedAt l₁ s) (at-mine ready h) asked ∙ looked-is s (omega arith) (omega arith) l₁ (mine ready h .0) _ (keeps₁ ready h) (target k)
 
       go : lookupAt l₁ s me (m .workers w .steps) ≡ endedAt l₁ me (m .workers w .steps) sought
       go = ap (lookupAt l₁ s me) second ∙ ap (endedAt l₁ me 1) answer ∙ ap (λ (i : ℕ). endedAt l₁ me i sought) (sym second)
 
   -- ---- the check
-
-  leaf-deep : (a : ℕ) → leaf (m .cells) a .depth ≤ s .depth
-  unfolding copyOf bucketOf
-  leaf-deep a = omega (arith, good .directory .shallow (firstBits (m .cells .directory .value .depth) a), good .directory .bound)
 
   module _ (p x : Two) (e : k .pc ≡ checkS p x) where
     abbrev found : Option ℕ
@@ -162,12 +139,12 @@ module _ {s : Settings} {l : List ℕ} {m : Machine} {w : ℕ} (ready : Ready s 
     check-finds : answered found ≡ checked s w (k .ticket) (held k .depth) (body (m .cells) (held k))
     check-finds =
         let h : Holds (k .pc) = subst⁻¹ Holds e tt in
-        let limits = range-of (s .workers) (s .capacity) (s .depth) range in
-        let hold : Hold s (m .cells) w k = subst (λ (pc : PC). ReadFacts s pc (m .cells) w k) e (good .own w wn .read) .0 in
-        let deep : held k .depth ≤ s .depth = omega (arith, leaf-deep (target k)) in
+        let limits = range-of (s .workers) (s .capacity) (s .depth) (ready .range) in
+        let hold : Hold s (m .cells) w k = subst (λ (pc : PC). ReadFacts s pc (m .cells) w k) e (ready .good .own w (ready .known) .read) .0 in
+        let deep : held k .depth ≤ s .depth = omega (arith, grove-of _ (ready .good .directory) .bound (target k)) in
         let three = own-record (own₁ ready) (mine ready h .0) (mine ready h .1 .within) 3 (rw record-wide (omega arith)) in
-        rw (at-mine ready h) (checked-is s (omega arith) (omega arith) l₁ (mine ready h .0) _ (keeps₁ h) w wn _ _ _
-        (raised-beside s l (means .lent) w wn _ 3 (omega arith) (λ g. omega arith) ∙ means .workers w wn .ticket)
+        rw (at-mine ready h) (checked-is s (omega arith) (omega arith) l₁ (mine ready h .0) _ (keeps₁ ready h) w (ready .known) _ _ _
+        (beside₁ ready 3 (omega arith) (λ g. omega arith) ∙ worker-means ready .ticket)
         (three ∙ ap (λ (z : Name). z .depth) (mine ready h .2)) deep)
 
     pub answers-means :

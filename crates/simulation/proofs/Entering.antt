@@ -20,7 +20,7 @@ use Rattle.interface.specs.declared.Refusal.{Refusal}
 use Rattle.interface.specs.declared.Stepped.{Stepped}
 use Rattle.machine.specs.Choice.{assign}
 use Rattle.machine.specs.Sequential.{place, firstBits, Update, Operation, update, lookup, account}
-use Rattle.machine.specs.Records.{Cells, Reads, Machine}
+use Rattle.machine.specs.Records.{Slot, empty, announced, Cells, Reads, Machine}
 use Rattle.machine.specs.Words.{wordsNeeded}
 use Rattle.machine.specs.Steps.{counted, reported, done, step}
 use Rattle.machine.proofs.Base.{if-true, if-eq, if-ne, if-elim, eq-elim}
@@ -30,7 +30,7 @@ use Rattle.machine.proofs.Tasks.{Good, not-over, update-under-way, lookup-under
 use Rattle.machine.proofs.Openings.{step-made, step-idle}
 use Rattle.machine.proofs.Steplink.{effectOf, step-transition}
 use Rattle.machine.proofs.Transitions.{placeOf, taskOf, tasksOf, Transition}
-use Rattle.bucket.specs.Items.{updateOf}
+use Rattle.bucket.specs.Items.{updateOf, readSlot}
 use Rattle.memory.specs.Layout.{Region, worker, entry, record′, startOf, workersAt, workerSize, recordSize, poolSize, directoryAt, poolAt}
 use Rattle.memory.proofs.Regions.{record-inside, record-starts-apart}
 use Rattle.layout.specs.Shape.{word, directoryStart}
@@ -42,6 +42,9 @@ use Rattle.simulation.specs.Meaning.{at, operationIn, Directs, Refers, M
 use Rattle.simulation.proofs.Frames.{at-here, at-beside, worker-wide, OwnWords, set-inside}
 
 -- ---- places
+
+pub depth-bound : (s : Settings) → inRange (s .workers) (s .capacity) (s .depth) ≡ true → s .depth ≤ 32
+depth-bound s range = omega (arith, range-of (s .workers) (s .capacity) (s .depth) range .greatest-depth)
 
 module _ (s : Settings) where
   pub worker-start : (w : ℕ) → workerAt (s .workers) w ≡ startOf s (worker w)
@@ -93,6 +96,20 @@ module _ (s : Settings) where
 pub account-of : (kind a v : ℕ) → account (updateOf kind a v) ≡ a
 unfolding updateOf
 account-of kind a v = if-elim (λ (u : Update). account u ≡ a) (eqb kind 1) _ _ (λ e. refl) (λ e. refl)
+
+-- the words of a slot that has update u with ticket t
+pub record Announces (k a v n : ℕ) (u : Update) (t : ℕ) : Type 0 where
+  pub busy : k ≢ 0
+  pub update : updateOf k a v ≡ u
+  pub account : a ≡ account u
+  pub ticket : n ≡ t
+
+pub announces : (k a v n : ℕ) (u : Update) (t : ℕ) → readSlot k a v n ≡ announced u t → Announces k a v n u t
+unfolding readSlot
+announces k a v n u t =
+    eq-elim (λ (o : Slot). o ≡ announced u t → Announces k a v n u t) k 0 empty (announced (updateOf k a v) n)
+    (λ e q. let z : _≡_ {A = ℕ} 0 1 = cc in absurd (omega arith))
+    (λ d q. let e : updateOf k a v ≡ u = cc in record { busy = d; update = e; account = sym (account-of k a v) ∙ ap account e; ticket = cc })
 
 module _ (kind a v : ℕ) where
   data Says : Option Operation → Type 0 where
@@ -150,6 +167,12 @@ module _ (s : Settings) (l : List ℕ) (enough : wordsNeeded s ≤ length l) (w 
 
 -- ---- the step begins
 
+-- the place of a worker by its operation
+pub place-is :
+    (s : Settings) (m : Machine) (w : ℕ) {o : Operation} {pc : PC} → m .workers w .operation ≡ some o → tasksOf s m w .pc ≡ pc
+    → placeOf (s .workers) (some o) (m .workers w .steps) ≡ pc
+place-is s m w e f = sym (ap (λ o. placeOf (s .workers) o (m .workers w .steps)) e) ∙ f
+
 module _ (s : Settings) (range : inRange (s .workers) (s .capacity) (s .depth) ≡ true) (l : List ℕ) (m : Machine) (means : Meaning s l m)
     (good : Good s m) (w : ℕ) (wn : w < s .workers) where
   abbrev k : ℕ
@@ -172,7 +195,7 @@ module _ (s : Settings) (range : inRange (s .workers) (s .capacity) (s .depth) �
       let h = is-update _ _ _ (means .workers w wn .operation ∙ e) in
       let limits = range-of (s .workers) (s .capacity) (s .depth) range in
       let few = update-under-way s range m w u wn good e in
-      let at-pc : counter (s .workers) k ≡ pc = sym (ap (λ o. placeOf (s .workers) o k) e) ∙ f in
+      let at-pc : counter (s .workers) k ≡ pc = place-is s m w e f in
       step-enters (h .0) (omega arith)
       ∙ if-ne (word l p) 3 _ _ (λ g. h .1 (sym (at-first s l (worker w)) ∙ g))
       ∙ rw (add-one, counter-phase, at-pc)

@@ -1,32 +1,31 @@
 -- Words of regions after a store, and what a change inside one region keeps of the meaning. Rests on the laws of regions.
-use Prim.Native.Nat.{ℕ, zero, suc, _+_, _*_, _-_, _%_, _^_, _≤_, _<_}
+use Prim.Native.Nat.{ℕ, _+_, _*_, _-_, _%_, _^_, _≤_, _<_}
 use native.Mathlib.Omega.{arith}
-use native.Mathlib.Nat.{add-assoc, add-zero, zero-add, mod-lt, div-le-self, pow-le-pow-right}
+use native.Mathlib.Nat.{add-assoc, zero-add, mod-lt, div-le-self, pow-le-pow-right}
 use native.Mathlib.Decide.{ℕ-discrete, decLt}
 use mathlib.Core.Path.{_≡_, refl, sym, _∙_, subst⁻¹}
 use mathlib.Core.Logic.{_≢_, _⊎_, inl, inr, ⊎-elim, by-cases}
 use mathlib.Core.List.{List}
-use lib.Dec.{ltb}
 use lib.ListN.{length, getD, set, length-set}
 use lib.Seq.{getD-set-same, getD-set-other}
-use borrow.Author.Tests.{ltb-true}
 use lib.Pow.{pow-pos}
 use Rattle.interface.specs.declared.Settings.{Settings}
 use Rattle.machine.specs.Choice.{assign}
 use Rattle.machine.specs.Records.{Bucket, Worker, Machine}
 use Rattle.machine.specs.Words.{wordsNeeded}
 use Rattle.machine.specs.Sequential.{place, firstBits}
-use Rattle.machine.proofs.Base.{if-elim, assign-other}
+use Rattle.machine.proofs.Base.{assign-other}
 use Rattle.machine.proofs.Bits.{bits-below}
 use Rattle.machine.proofs.Whereabouts.{Holds}
+use Rattle.machine.proofs.Counter.{PC, inB}
 use Rattle.machine.proofs.Inv.{leaf, held, own, DirectoryFresh}
 use Rattle.machine.proofs.Transitions.{tasksOf}
 use Rattle.bucket.specs.Items.{readSlot}
 use Rattle.lists.specs.Parts.{part, overlay}
-use Rattle.memory.specs.Layout.{Region, header, slot, worker, entry, record′, startOf, sizeOf, workerSize, recordSize, poolSize, Within, totalsFrom, settledFrom, answersFrom}
-use Rattle.memory.specs.Loads.{least, copied, loadedState}
+use Rattle.memory.specs.Layout.{Region, header, slot, worker, entry, record′, startOf, sizeOf, workerSize, recordSize, poolSize, Within}
 use Rattle.lists.proofs.PartLaws.{length-part, getD-part, part-ext, length-overlay, getD-overlay-in, getD-overlay-before, getD-overlay-after}
 use Rattle.memory.proofs.Regions.{regions-apart, region-inside}
+use Rattle.memory.proofs.States.{loaded-same}
 use Rattle.layout.specs.Shape.{word}
 use Rattle.simulation.specs.Meaning.{at, slotIn, nameIn, Keeps, Directs, Refers, Live, current, referred, HasState, HasDirectory, HasWork, Agree, Marked, Marks, WorkerMeans, Meaning}
 
@@ -117,10 +116,6 @@ pub record-wide : (s : Settings) (r : ℕ) → sizeOf s (record′ r) ≡ 2 * s 
 unfolding sizeOf recordSize
 record-wide s r = refl
 
-least-le : (a b : ℕ) → least a b ≤ b
-unfolding least
-least-le a b = if-elim (λ (x : ℕ). x ≤ b) (ltb a b) a b (λ e. omega (arith, ltb-true a b e)) (λ e. omega arith)
-
 module _ (s : Settings) (l l′ : List ℕ) where
   abbrev pub SameWords : Region → Type 0
   SameWords q = (k : ℕ) → k < sizeOf s q → at s l′ q k ≡ at s l q k
@@ -138,45 +133,12 @@ module _ (s : Settings) (l l′ : List ℕ) where
   pub name-same : (r : ℕ) → SameWords (record′ r) → nameIn s l′ r ≡ nameIn s l r
   name-same r same = let e = record-wide s r in λ o. record { depth = same 3 (omega arith) o; prefix = same 4 (omega arith) o }
 
-  copied-same : (at k : ℕ) → ((i : ℕ) → i < k → getD l′ (at + i) 0 ≡ getD l (at + i) 0) → copied l′ at k ≡ copied l at k
-  unfolding copied
-  copied-same at zero same = refl
-  copied-same at (suc k) same = rw (copied-same at k (λ i h. same i (omega arith)), same k (omega arith))
-
-  pub loaded-same :
-      (r : ℕ) → SameWords (record′ r)
-      → loadedState l′ (startOf s (record′ r)) (s .capacity) (s .workers) ≡ loadedState l (startOf s (record′ r)) (s .capacity) (s .workers)
-  unfolding loadedState
-  loaded-same r same =
-      let wide = record-wide s r in
-      let size : getD l′ q 0 ≡ getD l q 0 = rw add-zero at (same 0 (omega arith)) in
-      let few = least-le (getD l q 0) (s .capacity) in
-      rw size (λ o. record {
-        accounts = copied-same (q + 6) c (run 6 c (omega arith)) o;
-        totals = copied-same (q + totalsFrom (s .capacity)) c (run (totalsFrom (s .capacity)) c (omega arith)) o;
-        settled = copied-same (q + settledFrom (s .capacity)) (s .workers) (run (settledFrom (s .capacity)) (s .workers) (omega arith)) o;
-        answers =
-            copied-same (q + answersFrom (s .capacity) (s .workers)) (s .workers)
-            (run (answersFrom (s .capacity) (s .workers)) (s .workers) (omega arith)) o;
-        count = c;
-        applied = same 1 (omega arith) o;
-      })
-    where
-      q : ℕ
-      q = startOf s (record′ r)
-
-      c : ℕ
-      c = least (getD l q 0) (s .capacity)
-
-      run : (p k : ℕ) → p + k ≤ sizeOf s (record′ r) → (i : ℕ) → i < k → getD l′ (q + p + i) 0 ≡ getD l (q + p + i) 0
-      run p k h i b = rw (add-assoc q p i) (same (p + i) (omega arith))
-
   pub keeps-same : (r : ℕ) (x : Bucket) → SameWords (record′ r) → Keeps s l r x → Keeps s l′ r x
   keeps-same r x same k =
       let wide = record-wide s r in
       record {
         size = rw (same 0 (omega arith)) (k .size);
-        state = rw (loaded-same r same) (k .state);
+        state = rw (loaded-same l′ l _ _ (s .capacity) (s .workers) (λ i h. same i (omega arith))) (k .state);
         toggle = λ j h. rw (same 2 (omega arith)) (k .toggle j h);
       }
 
@@ -185,6 +147,15 @@ module _ (s : Settings) (l l′ : List ℕ) where
 
   pub directs-same : (a r : ℕ) → SameWords (entry (firstBits (s .depth) a)) → Directs s l a r → Directs s l′ a r
   directs-same a r same h = record { within = h .within; names = same 0 (rw entry-wide (omega arith)) ∙ h .names }
+
+-- ---- where a worker stands, and what is live
+
+pub state-holds : (pc : PC) → HasState pc → Holds pc
+state-holds (inB p r x) h = tt
+
+pub live-within : {s : Settings} {l : List ℕ} {m : Machine} (r : ℕ) → Live s l m r → r < poolSize s
+live-within r (current a d) = d .within
+live-within r (referred j jn g d) = d .within
 
 -- ---- a worker whose words are the same, and which has done nothing
 
@@ -262,6 +233,10 @@ elsewhere-inside s q l l′ v e same = record {
 pub inside-trans : {s : Settings} {q : Region} {l l′ l″ : List ℕ} → Inside s q l l′ → Inside s q l′ l″ → Inside s q l l″
 inside-trans f g = record { same-length = g .same-length ∙ f .same-length; same = λ r k x b d. g .same r k x b d ∙ f .same r k x b d }
 
+-- the header, where that is another region
+pub inside-head : {s : Settings} {q : Region} {l l′ : List ℕ} → Inside s q l l′ → header ≢ q → (k : ℕ) → k < 16 → word l′ k ≡ word l k
+inside-head f d k b = rw (header-start, zero-add) at (f .same header k tt (rw header-wide b) d)
+
 module _ (s : Settings) (l : List ℕ) (enough : wordsNeeded s ≤ length l) (q : Region) (v : Within s q) where
   pub set-inside : (i x : ℕ) → i < sizeOf s q → Inside s q l (set l (startOf s q + i) x)
   set-inside i x b = record { same-length = simp length-set; same = λ r k w h d. at-other s l enough q r i k x v w b h (λ e. d (sym e)) }
@@ -280,8 +255,7 @@ OwnWords s w = Inside s (worker w)
 
 module _ {s : Settings} {w : ℕ} {l l′ : List ℕ} (f : OwnWords s w l l′) where
   pub own-head : (k : ℕ) → k < 16 → word l′ k ≡ word l k
-  own-head k b =
-      rw (header-start, zero-add) at (f .same header k tt (rw header-wide b) (λ e. let z : _≡_ {A = ℕ} 0 1 = cc in omega arith))
+  own-head = inside-head f (λ e. let z : _≡_ {A = ℕ} 0 1 = cc in omega arith)
 
   pub own-slot : (j : ℕ) → j < s .workers → SameWords s l l′ (slot j)
   own-slot j jn k b = f .same (slot j) k jn b (λ e. let z : _≡_ {A = ℕ} 0 1 = cc in omega arith)
@@ -324,10 +298,6 @@ module _ (s : Settings) (l l′ : List ℕ) (m : Machine) (w : ℕ) (wn : w < s 
     where
       still : (j : ℕ) → j ≢ w → after .workers j ≡ m .workers j
       still j d = assign-other (m .workers) w v j d
-
-      live-within : (r : ℕ) → Live s l m r → r < poolSize s
-      live-within r (current a d) = d .within
-      live-within r (referred j jn g d) = d .within
 
       alive : (r : ℕ) → Live s l′ after r → Live s l m r
       alive r (current a d) = current a (directs-same s l′ l a r (λ k b. sym (own-entry f a k b)) d)

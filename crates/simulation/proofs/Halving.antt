@@ -1,15 +1,14 @@
 -- One half of a split bucket, made in a spare record and named by the bucket's entries. Rests on the words' stores and on spare records.
-use Prim.Native.Nat.{ℕ, zero, suc, _+_, _-_, _/_, _%_, _^_, _≤_, _<_}
+use Prim.Native.Nat.{ℕ, zero, suc, _+_, _-_, _/_, _^_, _≤_, _<_}
 use native.Mathlib.Omega.{arith}
-use native.Mathlib.Nat.{zero-div, zero-add}
+use native.Mathlib.Nat.{zero-add}
 use mathlib.Core.Path.{_≡_, refl, ap, _∙_, subst, subst⁻¹}
 use mathlib.Core.Logic.{_≢_, inr}
 use mathlib.Core.Bool.{true, false}
 use mathlib.Core.List.{List}
-use lib.Dec.{ltb, eqb}
+use lib.Dec.{eqb}
 use lib.ListN.{length, getD, set, replicate, length-append}
 use lib.Seq.{getD-set-other}
-use borrow.Author.Tests.{ltb-false}
 use Rattle.interface.specs.Limits.{inRange}
 use Rattle.interface.specs.declared.Settings.{Settings}
 use Rattle.interface.proofs.Laws.{range-of}
@@ -23,7 +22,7 @@ use Rattle.memory.specs.Layout.{Region, header, entry, record′, startOf, size
 use Rattle.memory.specs.Loads.{storedState}
 use Rattle.bucket.specs.declared.BucketState.{BucketState}
 use Rattle.bucket.specs.State as State
-use Rattle.bucket.specs.State.{bit, prefixOf, keeps, halfOf}
+use Rattle.bucket.specs.State.{prefixOf, keeps, halfOf}
 use Rattle.bucket.specs.Items.{bitsOf, Means}
 use Rattle.bucket.proofs.Ties.{half-means}
 use Rattle.layout.specs.Shape.{word, directoryStart}
@@ -31,7 +30,8 @@ use Rattle.layout.specs.Records.{recordStart, firstEntry, spareOf}
 use Rattle.engine.specs.Splits.{madeAt, directedAt, halfAt}
 use Rattle.simulation.specs.Meaning.{at, Keeps}
 use Rattle.simulation.proofs.Frames.{at-here, header-start, header-wide, record-wide, keeps-same, Inside, inside-trans, set-inside}
-use Rattle.simulation.proofs.BucketWords.{Stored, stored-words}
+use Rattle.simulation.proofs.WordBits.{no-bits}
+use Rattle.simulation.proofs.BucketWords.{Stored, stored-words, size-bound}
 use Rattle.simulation.proofs.Spares.{spare-within, spare-unheld, spare-unnamed}
 use Rattle.simulation.proofs.Directing.{directed-length, directed-entries, directed-other}
 use Rattle.simulation.proofs.Storing.{head-same, record-frame, record-entries, record-others, stored-inside, stored-beside, head-frame, head-entries, head-others}
@@ -47,15 +47,8 @@ keeps-few l d q (suc k) =
     (λ e. rw length-append (omega (arith, keeps-few l d q k))) (λ e. omega (arith, keeps-few l d q k))
 
 half-few : (x : BucketState) (d q : ℕ) → halfOf x d q .count ≤ x .count
-unfolding halfOf State.sizeOf
-half-few x d q = omega (arith, keeps-few (x .accounts) d q (State.sizeOf x), size)
-  where
-    size : State.sizeOf x ≤ x .count
-    size = if-elim (λ (m : ℕ). m ≤ x .count) (ltb (x .count) 16) (x .count) 16 (λ e. omega arith) (λ e. ltb-false (x .count) 16 e)
-
-no-bits : (j : ℕ) → bitsOf 0 j ≡ false
-unfolding bitsOf bit
-no-bits j = ap (λ (k : ℕ). eqb (k % 2) 1) (zero-div (2 ^ j))
+unfolding halfOf
+half-few x d q = omega (arith, keeps-few (x .accounts) d q (State.sizeOf x), size-bound x)
 
 module _ (s : Settings) (range : inRange (s .workers) (s .capacity) (s .depth) ≡ true) (l : List ℕ) (enough : wordsNeeded s ≤ length l)
     (x : Name) (y : BucketState) (z : State) (low : x .depth ≤ s .depth) (short : x .prefix < 2 ^ x .depth) (m : Means y z (s .workers))

@@ -9,31 +9,29 @@ use mathlib.Core.Option.{none}
 use lib.ListN.{length, set}
 use lib.Seq.{getD-set-same, getD-set-other}
 use Rattle.interface.specs.declared.Settings.{Settings}
-use Rattle.interface.proofs.Laws.{range-of}
 use Rattle.machine.specs.Choice.{assign}
 use Rattle.machine.specs.Sequential.{firstBits}
-use Rattle.machine.specs.Records.{Name, Body, bucketOf, Leaf, kept, made, Copy, Slot, Cells, Worker, Machine, newBucket}
-use Rattle.machine.specs.DirectoryPass.{copyOf, leafOf, nameOf, directoryOf, bodyMade}
+use Rattle.machine.specs.Records.{Name, Body, Leaf, kept, made, Copy, Slot, Cells, Worker, Machine, newBucket}
+use Rattle.machine.specs.DirectoryPass.{leafOf, nameOf, directoryOf, bodyMade}
 use Rattle.machine.specs.Words.{wordsNeeded}
 use Rattle.machine.specs.Steps.{counted, created, direct}
 use Rattle.machine.proofs.Base.{assign-at, assign-other}
-use Rattle.machine.proofs.Counter.{Two, one, two, PC, inB, inD, swapD, slotD, state, afterD}
+use Rattle.machine.proofs.Counter.{Two, one, two, PC, inD, swapD, slotD, state, afterD}
 use Rattle.machine.proofs.Copies as Copies
-use Rattle.machine.proofs.Copies.{nameAt, depthAt, Coherent, within, bodyMade-made, bodyMade-kept, bucketOf-directoryOf}
+use Rattle.machine.proofs.Copies.{nameAt, depthAt, Coherent, grove-of, within, bodyMade-made, bodyMade-kept, bucketOf-directoryOf}
 use Rattle.machine.proofs.Inv.{Task, target, leaf, leafBody, held, own, DirectoryFresh, IsMade, Hold, Grown, Worked, ReadFacts}
 use Rattle.machine.proofs.Whereabouts.{Holds}
 use Rattle.machine.proofs.Resolve.{bodyAt}
 use Rattle.machine.proofs.Keeping.{holds-hold}
 use Rattle.machine.proofs.SwapDirectory.{worked, remade, remade-ok, own-same}
-use Rattle.machine.proofs.Tasks.{Good}
 use Rattle.machine.proofs.Transitions.{taskOf, tasksOf, redirectedCells}
 use Rattle.memory.specs.Layout.{Region, Within, header, slot, worker, entry, record′, poolSize}
 use Rattle.memory.proofs.Regions.{region-inside, record-starts-apart}
 use Rattle.layout.specs.Shape.{word}
 use Rattle.layout.specs.Numbers.{freshDirectory}
 use Rattle.simulation.specs.Meaning.{at, nameIn, Keeps, Directs, Refers, Live, current, referred, HasState, HasDirectory, Agree, WorkerMeans, Meaning}
-use Rattle.simulation.proofs.Frames.{slot-wide, record-wide, entry-wide, entry-within, SameWords, slot-same, name-same, keeps-same, refers-same, worker-same, Inside}
-use Rattle.simulation.proofs.Entering.{raised, worker-start, refers-once}
+use Rattle.simulation.proofs.Frames.{state-holds, slot-wide, record-wide, entry-wide, entry-within, SameWords, slot-same, name-same, keeps-same, refers-same, worker-same, Inside}
+use Rattle.simulation.proofs.Entering.{depth-bound, raised, worker-start, refers-once}
 use Rattle.simulation.proofs.OwnWorker.{Ready, nowhere, work-directory, raised-means}
 use Rattle.simulation.proofs.Numbering.{fresh-directory}
 use Rattle.simulation.proofs.Halves.{Left, SameRecord}
@@ -55,19 +53,10 @@ directory-bounded s c j k (inD p r swapD) h f = f .read .0 .bounded
 directory-bounded s c j k (inD p r (slotD i)) h f = f .read .0 .bounded
 directory-bounded s c j k (inD p r (state i)) h f = f .read .0 .bounded
 
-state-holds : (pc : PC) → HasState pc → Holds pc
-state-holds (inB p r x) h = tt
-
 -- worker w is about to swap the directory that it has read, which is the current one
 module _ {s : Settings} {l : List ℕ} {m : Machine} {w : ℕ} (ready : Ready s l m w) (p r : Two)
     (here : tasksOf s m w .pc ≡ inD p r swapD) (fresh : DirectoryFresh (m .cells) (tasksOf s m w))
     (next : taskOf (s .workers) (counted (m .workers w) (m .workers w .reads) none) .pc ≡ afterD p r) where
-  abbrev wn : w < s .workers
-  wn = ready .known
-
-  abbrev good : Good s m
-  good = ready .good
-
   abbrev k : Task
   k = tasksOf s m w
 
@@ -97,7 +86,7 @@ module _ {s : Settings} {l : List ℕ} {m : Machine} {w : ℕ} (ready : Ready s 
   o = m .workers w .reads .copy
 
   small : s .depth ≤ 32
-  small = omega (arith, range-of (s .workers) (s .capacity) (s .depth) (ready .range) .greatest-depth)
+  small = depth-bound s (ready .range)
 
   pub means₁ : Meaning s (raised s l w (m .workers w .steps)) (record { cells = m .cells; workers = assign (m .workers) w v })
   unfolding counted
@@ -106,21 +95,18 @@ module _ {s : Settings} {l : List ℕ} {m : Machine} {w : ℕ} (ready : Ready s 
   -- ---- the working copy
 
   pub work : (a : ℕ) → Worked s (m .cells) (tasksOf s m w) a
-  work = worked s small w wn c (tasksOf s m) good p r here fresh
+  work = worked s small w (ready .known) c (tasksOf s m) (ready .good) p r here fresh
 
   coherent : Coherent (s .depth) o
-  coherent = (subst (λ pc. ReadFacts s pc c w k) here (good .own w wn .read)) .read .0 .coherent
-
-  inside : (a : ℕ) → Copies.Inside (leaf c a) a
-  unfolding leafOf copyOf bucketOf
-  inside a = good .directory .named a
+  coherent = (subst (λ pc. ReadFacts s pc c w k) here (ready .good .own w (ready .known) .read)) .read .0 .coherent
 
   -- a bucket that it has split
   pub made-leaf :
       (a : ℕ) → Grown s (m .workers w .reads .slots) (leaf (m .cells) a) (leafBody (m .cells) a) a (leafOf (m .workers w .reads .copy) a)
       → leafOf (m .workers w .reads .copy) a
       ≡ made (nameAt (depthAt (remade s (m .cells) (tasksOf s m w) a) a) a) (bodyAt (remade s (m .cells) (tasksOf s m w) a) a)
-  made-leaf a g = g .is ∙ remade-ok s small w wn c (tasksOf s m) good p r here fresh a .stands a (inside a)
+  made-leaf a g =
+      g .is ∙ remade-ok s small w (ready .known) c (tasksOf s m) (ready .good) p r here fresh a .stands a (grove-of _ (ready .good .directory) .named a)
 
   -- ---- the records that the directory names
 
@@ -246,7 +232,7 @@ module _ {s : Settings} {l : List ℕ} {m : Machine} {w : ℕ} (ready : Ready s 
     still-holds j h = subst (λ (x : Task). Holds (x .pc)) (same-task j (no-hold j h)) h
 
     held-own : (j : ℕ) → j < s .workers → Holds (tasksOf s m₁ j .pc) → own c′ (tasksOf s m j) ≡ own c (tasksOf s m j)
-    held-own j jn h = own-same s small w wn c (tasksOf s m) good p r here fresh j jn (still-holds j h)
+    held-own j jn h = own-same s small w (ready .known) c (tasksOf s m) (ready .good) p r here fresh j jn (still-holds j h)
 
     -- ---- each live record keeps its bucket
 
@@ -300,7 +286,7 @@ module _ {s : Settings} {l : List ℕ} {m : Machine} {w : ℕ} (ready : Ready s 
         q = tasksOf s m j
 
         hold : Hold s c j q
-        hold = holds-hold s c j q (q .pc) (still-holds j h) (good .own j jn .read)
+        hold = holds-hold s c j q (q .pc) (still-holds j h) (ready .good .own j jn .read)
 
         name : nameOf (leafOf o a) ≡ held q
         name = e ∙ held-name j t jn h g
@@ -365,7 +351,7 @@ module _ {s : Settings} {l : List ℕ} {m : Machine} {w : ℕ} (ready : Ready s 
             let q = subst (λ (x : Task). HasDirectory (x .pc)) d h in
             omega (
               arith,
-              directory-bounded s c j (tasksOf s m j) (tasksOf s m j .pc) q (good .own j jn .read),
+              directory-bounded s c j (tasksOf s m j) (tasksOf s m j .pc) q (ready .good .own j jn .read),
               ap (λ (x : Task). x .reads .directory .stamp) d,
               e,
             )

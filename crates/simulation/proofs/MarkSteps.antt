@@ -1,100 +1,55 @@
 -- The state steps of the directory pass: a step marks on the words what it splits in the working copy.
 -- Rests on what one worker's words have to mean, and on what taking updates does to a working copy.
-use Prim.Native.Nat.{ℕ, suc, _+_, _*_, _-_, _/_, _^_, _≤_, _<_}
+use Prim.Native.Nat.{ℕ, _+_, _*_, _-_, _^_, _≤_, _<_}
 use native.Mathlib.Omega.{arith}
-use native.Mathlib.Nat.{add-assoc, add-div-right, div-lt-iff-lt-mul}
+use native.Mathlib.Nat.{add-assoc}
 use native.Mathlib.Decide.{ℕ-discrete, decLt}
 use mathlib.Core.Path.{_≡_, refl, ap, sym, _∙_, subst, subst⁻¹}
 use mathlib.Core.Logic.{_≢_, ⊎-elim, by-cases}
 use mathlib.Core.Bool.{Bool, true, false, not}
 use mathlib.Core.List.{List}
-use lib.Dec.{ltb, leb, eqb}
-use lib.Pow.{pow-add, pow-pos}
-use borrow.Author.Tests.{eq-eqb, ne-eqb, eqb-true, le-ltb, lt-ltb, leb-true, leb-false}
+use lib.Dec.{ltb, eqb}
+use borrow.Author.Tests.{eq-eqb, ne-eqb, eqb-true}
 use Rattle.interface.proofs.Laws.{range-of}
 use Rattle.interface.specs.declared.Settings.{Settings}
 use Rattle.machine.specs.Choice.{_and_, assign}
 use Rattle.machine.specs.Sequential.{Update, account, firstBits}
-use Rattle.machine.specs.Records.{Name, Leaf, kept, made, Copy, Slot, empty, announced, Cells, Machine, bucketOf}
+use Rattle.machine.specs.Records.{Name, Leaf, kept, made, Copy, Slot, empty, announced, Cells, Machine}
 use Rattle.machine.specs.BucketPass.{splittable, settledAt}
-use Rattle.machine.specs.DirectoryPass.{copyOf, leafOf, nameOf, resize}
+use Rattle.machine.specs.DirectoryPass.{leafOf, nameOf, resize}
 use Rattle.machine.specs.Steps.{withCopy}
 use Rattle.machine.proofs.Base.{if-elim, if-true, if-false, if-eq, eq-elim, and-true, and-parts, and-left-false, and-right-false, assign-at}
-use Rattle.machine.proofs.Cells.{name-path}
-use Rattle.machine.proofs.Copies.{Inside, MadeIn, Refined, resizes, refined-takeSlots, within}
+use Rattle.machine.proofs.Copies.{Refined, resizes, refined-takeSlots, Grove, grove-name, grove-of}
 use Rattle.machine.proofs.Counter.{Two, DStep, state, PC, inD}
 use Rattle.machine.proofs.Inv.{Task, leaf, body, leafBody, DirectoryFresh, IsMade, Grown, ReadAt, ReadFacts, Announced}
 use Rattle.machine.proofs.Whereabouts.{Past, PastD}
 use Rattle.machine.proofs.Resolve.{resolved-ok}
-use Rattle.machine.proofs.Tasks.{Good}
 use Rattle.machine.proofs.Transitions.{tasksOf, copyLeaf, copySlot, resizedFor}
 use Rattle.bucket.specs.State.{bit}
-use Rattle.bucket.specs.Items.{updateOf, readSlot}
+use Rattle.bucket.specs.Items.{readSlot}
 use Rattle.memory.specs.Layout.{worker, record′, startOf}
 use Rattle.memory.proofs.Regions.{record-starts-apart}
 use Rattle.layout.specs.Shape.{word}
 use Rattle.layout.specs.Places.{readAt, recordOf}
 use Rattle.engine.specs.Engine.{withBit, settledWord, recordFor, foundBefore, splitsAt, marks, stateStepAt}
+use Rattle.engine.proofs.Bits.{bit-room}
 use Rattle.table.specs.Turns.{updateAt}
-use Rattle.simulation.specs.Meaning.{at, nameIn, accountIn, Keeps, current, HasDirectory, HasWork, Marks, Meaning}
+use Rattle.simulation.specs.Meaning.{at, nameIn, accountIn, Keeps, current, HasDirectory, HasWork, Marks}
 use Rattle.simulation.proofs.Frames.{record-wide, own-entry, own-record, directs-same, keeps-same, marks-same}
-use Rattle.simulation.proofs.Entering.{account-of, directed-record, raised, raised-beside}
-use Rattle.simulation.proofs.Answering.{full-is, ticket-is}
+use Rattle.simulation.proofs.Entering.{depth-bound, announces, directed-record, raised}
+use Rattle.simulation.proofs.Answering.{full-is, unsettled-is}
 use Rattle.simulation.proofs.Numbering.{any-some, some-any}
 use Rattle.simulation.proofs.WordBits.{bit-set, bit-beside}
-use Rattle.simulation.proofs.OwnWorker.{Ready, Changed, Onward, nothing-changed, one-word, word-here, goes-on, going, enough₁, own₁, slots-kept, toggle-kept, directory-kept, announced-at, plan-step}
+use Rattle.simulation.proofs.OwnWorker.{worker-means, Ready, made-in, Changed, Onward, changed₁, one-word, word-here, goes-on, going, enough₁, own₁, beside₁, slots-kept, toggle-kept, directory-kept, announced-at, plan-step}
 
--- ---- words
-
--- a bit more in a word of n bits
-bit-room : (x i n : ℕ) → i < n → x < 2 ^ n → bit x i ≡ 0 → x + 2 ^ i < 2 ^ n
-unfolding bit
-bit-room x i n h b clear =
-    let e : n ≡ n - suc i + 1 + i = omega arith in
-    let p : 2 ^ n ≡ 2 ^ (n - suc i) * 2 * 2 ^ i =
-    ap (λ (k : ℕ). 2 ^ k) e ∙ pow-add 2 (n - suc i + 1) i ∙ ap (λ (k : ℕ). k * 2 ^ i) (pow-add 2 (n - suc i) 1) in
-    let low : x / 2 ^ i < 2 ^ (n - suc i) * 2 = div-lt-iff-lt-mul (pow-pos i) .1 (rw p at b) in
-    let more = add-div-right x (pow-pos i) in
-    rw p (div-lt-iff-lt-mul (pow-pos i) .0 (omega arith))
-
-ltb-not : (p q : ℕ) → ltb p q ≡ not (leb q p)
-ltb-not p q = go (leb q p) refl
-  where
-    go : (b : Bool) → leb q p ≡ b → ltb p q ≡ not b
-    go true e = le-ltb p q (leb-true q p e)
-    go false e = lt-ltb p q (leb-false q p e)
-
--- ---- the words of a slot that was read
-
-module _ (kind a v n : ℕ) where
-  says-empty : readSlot kind a v n ≡ empty → kind ≡ 0
-  unfolding readSlot
-  says-empty =
-      eq-elim (λ (x : Slot). x ≡ empty → kind ≡ 0) kind 0 _ _ (λ e q. e) (λ d q. let z : _≡_ {A = ℕ} 0 1 = cc in absurd (omega arith))
-
-  -- kind, account and ticket of update u with ticket t
-  says-announced : (u : Update) (t : ℕ) → readSlot kind a v n ≡ announced u t → (kind ≢ 0) × (a ≡ account u) × (n ≡ t)
-  unfolding readSlot
-  says-announced u t =
-      eq-elim (λ (x : Slot). x ≡ announced u t → (kind ≢ 0) × (a ≡ account u) × (n ≡ t)) kind 0 _ _
-      (λ e q. let z : _≡_ {A = ℕ} 0 1 = cc in absurd (omega arith))
-      (λ d q. let e : updateOf kind a v ≡ u = cc in (d, sym (account-of kind a v) ∙ ap account e, cc))
-
-made-in : (x : Name) (l : Leaf) → MadeIn x l → IsMade l
-made-in x (kept y) h = h
-made-in x (made y b) h = tt
+-- the kind of an empty slot that was read
+says-empty : (kind a v n : ℕ) → readSlot kind a v n ≡ empty → kind ≡ 0
+unfolding readSlot
+says-empty kind a v n =
+    eq-elim (λ (x : Slot). x ≡ empty → kind ≡ 0) kind 0 _ _ (λ e q. e) (λ d q. let z : _≡_ {A = ℕ} 0 1 = cc in absurd (omega arith))
 
 module _ {s : Settings} {l : List ℕ} {m : Machine} {w : ℕ} (ready : Ready s l m w) (p r : Two) (i : ℕ)
     (place : tasksOf s m w .pc ≡ inD p r (state i)) (below : i < s .workers) where
-  abbrev means : Meaning s l m
-  means = ready .means
-
-  abbrev wn : w < s .workers
-  wn = ready .known
-
-  abbrev good : Good s m
-  good = ready .good
-
   abbrev c : Cells
   c = m .cells
 
@@ -122,20 +77,17 @@ module _ {s : Settings} {l : List ℕ} {m : Machine} {w : ℕ} (ready : Ready s 
   before = at s l (worker w) 9
 
   small : s .depth ≤ 32
-  small = omega (arith, range-of (s .workers) (s .capacity) (s .depth) (ready .range) .greatest-depth)
+  small = depth-bound s (ready .range)
 
   -- ---- the marks on the words
 
-  beside : (o : ℕ) → 5 ≤ o → o < 4 * s .workers + 24 → at s l₁ (worker w) o ≡ at s l (worker w) o
-  beside o h b = raised-beside s l (means .lent) w wn (m .workers w .steps) o b (λ g. omega arith)
-
   bit-counted : (j : ℕ) → bit (word l₁ (me + 9)) j ≡ bit before j
-  bit-counted j = ap (λ (x : ℕ). bit x j) (beside 9 (omega arith) (omega arith))
+  bit-counted j = ap (λ (x : ℕ). bit x j) (beside₁ ready 9 (omega arith) (λ g. omega arith))
 
   -- only earlier steps have marked
   later : (j : ℕ) → j < s .workers → i ≤ j → bit before j ≡ 0
   later j h g =
-      means .workers w wn .unmarked (subst⁻¹ HasDirectory place tt) j h
+      worker-means ready .unmarked (subst⁻¹ HasDirectory place tt) j h
       (λ x. let y : j < i = subst (Past (s .workers) j) place x in omega arith)
 
   clear : bit before i ≡ 0
@@ -148,7 +100,7 @@ module _ {s : Settings} {l : List ℕ} {m : Machine} {w : ℕ} (ready : Ready s 
   unfolding stateStepAt
   changed = if-elim (λ (q : List ℕ). Changed s l w (m .workers w .steps) q 9 10) (marks l₁ s me i) _ l₁
       (λ e. one-word ready 9 _ (omega arith) (omega arith))
-      (λ e. let f = nothing-changed s l (means .lent) w wn (m .workers w .steps) in
+      (λ e. let f = changed₁ ready in
       record {
         own = f .own;
         call = f .call;
@@ -161,11 +113,11 @@ module _ {s : Settings} {l : List ℕ} {m : Machine} {w : ℕ} (ready : Ready s 
   unfolding stateStepAt withBit
   marks-more e =
       ap (λ (q : List ℕ). at s q (worker w) 9) (if-true _ l₁ e) ∙ word-here ready 9 _ (omega arith)
-      ∙ if-eq _ 0 _ _ (bit-counted i ∙ clear) ∙ ap (λ (x : ℕ). x + 2 ^ i) (beside 9 (omega arith) (omega arith))
+      ∙ if-eq _ 0 _ _ (bit-counted i ∙ clear) ∙ ap (λ (x : ℕ). x + 2 ^ i) (beside₁ ready 9 (omega arith) (λ g. omega arith))
 
   marks-none : marks l₁ s me i ≡ false → at s l₂ (worker w) 9 ≡ before
   unfolding stateStepAt
-  marks-none e = ap (λ (q : List ℕ). at s q (worker w) 9) (if-false _ l₁ e) ∙ beside 9 (omega arith) (omega arith)
+  marks-none e = ap (λ (q : List ℕ). at s q (worker w) 9) (if-false _ l₁ e) ∙ beside₁ ready 9 (omega arith) (λ g. omega arith)
 
   -- what holds of the marks with one more and with none more, holds of the marks after the step
   marks-elim : (P : ℕ → Type 0) → P (before + 2 ^ i) → P before → P (at s l₂ (worker w) 9)
@@ -176,7 +128,7 @@ module _ {s : Settings} {l : List ℕ} {m : Machine} {w : ℕ} (ready : Ready s 
       go false e = rw (marks-none e) y
 
   few-after : at s l₂ (worker w) 9 < 2 ^ s .workers
-  few-after = let few = means .workers w wn .few in marks-elim (λ (x : ℕ). x < 2 ^ s .workers) (bit-room before i (s .workers) below few clear) few
+  few-after = let few = worker-means ready .few in marks-elim (λ (x : ℕ). x < 2 ^ s .workers) (bit-room before i (s .workers) below few clear) few
 
   unmarked-after : (j : ℕ) → j < s .workers → i < j → bit (at s l₂ (worker w) 9) j ≡ 0
   unmarked-after j h g =
@@ -188,39 +140,39 @@ module _ {s : Settings} {l : List ℕ} {m : Machine} {w : ℕ} (ready : Ready s 
   seen : (j o : ℕ) → j < s .workers → o < 4 → word l₁ (readAt me j + o) ≡ at s l (worker w) (24 + 4 * j + o)
   seen j o h g =
       let e : readAt me j + o ≡ me + (24 + 4 * j + o) = omega arith in
-      ap (word l₁) e ∙ beside (24 + 4 * j + o) (omega arith) (omega arith)
+      ap (word l₁) e ∙ beside₁ ready (24 + 4 * j + o) (omega arith) (λ g. omega arith)
 
   seen-kind : (j : ℕ) → j < s .workers → word l₁ (readAt me j) ≡ at s l (worker w) (24 + 4 * j)
-  seen-kind j h = ap (word l₁) (add-assoc me 24 (4 * j)) ∙ beside (24 + 4 * j) (omega arith) (omega arith)
+  seen-kind j h = ap (word l₁) (add-assoc me 24 (4 * j)) ∙ beside₁ ready (24 + 4 * j) (omega arith) (λ g. omega arith)
 
   -- the words of a slot read with update u and ticket t
   said :
       (j : ℕ) → j < s .workers → (u : Update) (t : ℕ) → slots j ≡ announced u t
       → (word l₁ (readAt me j) ≢ 0) × (word l₁ (readAt me j + 1) ≡ account u) × (word l₁ (readAt me j + 3) ≡ t)
   said j h u t e =
-      let z = says-announced _ _ _ _ u t (means .workers w wn .slots j h ∙ e) in
-      (λ g. z .0 (sym (seen-kind j h) ∙ g), seen j 1 h (omega arith) ∙ z .1, seen j 3 h (omega arith) ∙ z .2)
+      let z = announces _ _ _ _ u t (worker-means ready .slots j h ∙ e) in
+      (λ g. z .busy (sym (seen-kind j h) ∙ g), seen j 1 h (omega arith) ∙ z .account, seen j 3 h (omega arith) ∙ z .ticket)
 
   -- the record that the directory has for an account
   abbrev recordAt : ℕ → ℕ
-  recordAt a = means .directory a .0
+  recordAt a = ready .means .directory a .0
 
   record-of : (a : ℕ) → recordOf l₁ s a ≡ startOf s (record′ (recordAt a))
   record-of a =
-      let d = means .directory a in
+      let d = ready .means .directory a in
       directed-record s l₁ (enough₁ ready) a (d .0) (directs-same s l l₁ a (d .0) (own-entry (own₁ ready) a) (d .1))
 
   -- two accounts have one record where they have one bucket
   one-bucket : (a e : ℕ) → recordOf l₁ s a ≡ recordOf l₁ s e → leaf c a ≡ leaf c e
   one-bucket a e h =
       let z : recordAt a ≡ recordAt e = record-starts-apart s _ _ (sym (record-of a) ∙ h ∙ record-of e) in
-      sym (means .directory a .2) ∙ ap (nameIn s l) z ∙ means .directory e .2
+      sym (ready .means .directory a .2) ∙ ap (nameIn s l) z ∙ ready .means .directory e .2
 
   one-record : (a e : ℕ) → leaf c a ≡ leaf c e → recordOf l₁ s a ≡ recordOf l₁ s e
   one-record a e h =
-      let x = means .directory a in
-      let y = means .directory e in
-      let z : recordAt a ≡ recordAt e = means .apart (x .0) (y .0) (current a (x .1)) (current e (y .1)) (x .2 ∙ h ∙ sym (y .2)) in
+      let x = ready .means .directory a in
+      let y = ready .means .directory e in
+      let z : recordAt a ≡ recordAt e = ready .means .apart (x .0) (y .0) (current a (x .1)) (current e (y .1)) (x .2 ∙ h ∙ sym (y .2)) in
       record-of a ∙ ap (λ (o : ℕ). startOf s (record′ o)) z ∙ sym (record-of e)
 
   -- the record of a slot that was read
@@ -234,37 +186,28 @@ module _ {s : Settings} {l : List ℕ} {m : Machine} {w : ℕ} (ready : Ready s 
   -- what an account's record keeps
   keeps-leaf : (a : ℕ) → Keeps s l₁ (recordAt a) (c .buckets (leaf c a))
   keeps-leaf a =
-      let d = means .directory a in
+      let d = ready .means .directory a in
       keeps-same s l l₁ (d .0) _ (own-record (own₁ ready) (d .0) (d .1 .within))
-      (subst (λ (x : Name). Keeps s l (d .0) (c .buckets x)) (d .2) (means .cells (d .0) (current a (d .1))))
+      (subst (λ (x : Name). Keeps s l (d .0) (c .buckets x)) (d .2) (ready .means .cells (d .0) (current a (d .1))))
 
   depth-leaf : (a : ℕ) → at s l₁ (record′ (recordAt a)) 3 ≡ leaf c a .depth
   depth-leaf a =
-      let d = means .directory a in
+      let d = ready .means .directory a in
       own-record (own₁ ready) (d .0) (d .1 .within) 3 (rw record-wide (omega arith)) ∙ ap (λ (x : Name). x .depth) (d .2)
 
   -- ---- the current buckets and the working copy
 
-  leaf-inside : (a : ℕ) → Inside (leaf c a) a
-  unfolding leafOf copyOf bucketOf
-  leaf-inside a = good .directory .named a
-
-  leaf-shared : (a e : ℕ) → Inside (leaf c a) e → leaf c e ≡ leaf c a
-  unfolding leafOf copyOf bucketOf
-  leaf-shared a e h = ap nameOf (good .directory .shared a e h)
-
-  leaf-below : (a : ℕ) → leaf c a .depth ≤ s .depth
-  unfolding leafOf copyOf bucketOf
-  leaf-below a = omega (arith, within (good .directory) a, good .directory .bound)
+  grove : Grove (s .depth) (leaf c)
+  grove = grove-of _ (ready .good .directory)
 
   read : ReadAt s (state i) c k
-  read = subst (λ (pc : PC). ReadFacts s pc c w k) place (good .own w wn .read) .read
+  read = subst (λ (pc : PC). ReadFacts s pc c w k) place (ready .good .own w (ready .known) .read) .read
 
   -- a bucket that was resolved is split
   grown-made : (a : ℕ) {l : Leaf} → Grown s slots (leaf c a) (leafBody c a) a l → IsMade l
   grown-made a g =
-      let z = resolved-ok s small (leaf c a) a (name-path refl (sym (leaf-inside a))) (leaf-below a) (leafBody c a) slots (s .workers) in
-      subst⁻¹ IsMade (g .is ∙ z .stands a (leaf-inside a)) tt
+      let z = resolved-ok s small (leaf c a) a (grove-name grove a) (grove .bound a) (leafBody c a) slots (s .workers) in
+      subst⁻¹ IsMade (g .is ∙ z .stands a (grove .named a)) tt
 
   -- the current bucket of an update
   abbrev bucket : Update → Name
@@ -278,7 +221,7 @@ module _ {s : Settings} {l : List ℕ} {m : Machine} {w : ℕ} (ready : Ready s 
 
   module _ (fresh : DirectoryFresh c k) where
     old : Marks s l m w
-    old = means .workers w wn .marks (subst⁻¹ HasWork place tt) fresh
+    old = worker-means ready .marks (subst⁻¹ HasWork place tt) fresh
 
     kept-leaf : (a : ℕ) (x : Name) → leafOf copy a ≡ kept x → x ≡ leaf c a
     kept-leaf a x h = ⊎-elim (λ e. ap nameOf (sym h ∙ e)) (λ g. absurd (subst IsMade h (grown-made a g))) (read .1 fresh a)
@@ -325,15 +268,13 @@ module _ {s : Settings} {l : List ℕ} {m : Machine} {w : ℕ} (ready : Ready s 
           let few : s .workers ≤ 16 = omega arith in
           let narrow : s .capacity ≤ 16 = omega arith in
           let full = full-is s narrow few l₁ (recordAt (account u)) _ (keeps-leaf (account u)) in
-          let settled = ticket-is s narrow few l₁ (recordAt (account u)) _ (keeps-leaf (account u)) i below in
-          let ticket = said i below u t slot .2 in
           let last : ℕ = settledWord l₁ s (startOf s (record′ (recordAt (account u)))) i in
           let unsettled : ltb last (word l₁ (readAt me i + 3)) ≡ not (settledAt (body c (bucket u)) i t) =
-          ltb-not last (word l₁ (readAt me i + 3)) ∙ (λ o. not (leb (ticket o) (settled o))) in
+          ap (ltb last) (said i below u t slot .2) ∙ unsettled-is s narrow few l₁ (recordAt (account u)) _ (keeps-leaf (account u)) i below t in
           ap (splitsAt l₁ s me i) (q-is ∙ record-of (account u)) ∙ (λ o. full o and ltb (depth-leaf (account u) o) (s .depth) and unsettled o)
 
-      announces : not (eqb (word l₁ (readAt me i)) 0) ≡ true
-      announces = ap not (ne-eqb _ 0 (said i below u t slot .0))
+      busy : not (eqb (word l₁ (readAt me i)) 0) ≡ true
+      busy = ap not (ne-eqb _ 0 (said i below u t slot .0))
 
       -- a bucket that an earlier step has split
       marks-made : IsMade (leafOf copy (account u)) → marks l₁ s me i ≡ false
@@ -344,7 +285,7 @@ module _ {s : Settings} {l : List ℕ} {m : Machine} {w : ℕ} (ready : Ready s 
       marks-kept :
           (v : Bool) → resizes s i t (bucket u) (body c (bucket u)) ≡ v → (IsMade (leafOf copy (account u)) → ⊥) → marks l₁ s me i ≡ v
       unfolding marks _and_
-      marks-kept v e h = rw (announces, splits-is, e) (last v (foundBefore l₁ s me i q) refl)
+      marks-kept v e h = rw (busy, splits-is, e) (last v (foundBefore l₁ s me i q) refl)
         where
           last : (v b : Bool) → foundBefore l₁ s me i q ≡ b → v and not b ≡ v
           last true true f = absurd (h (found-made f))
@@ -379,7 +320,7 @@ module _ {s : Settings} {l : List ℕ} {m : Machine} {w : ℕ} (ready : Ready s 
 
         by-slot : (x : Slot) → slots i ≡ x → Outcome (copySlot s c i (k .reads) x)
         by-slot empty e =
-            let z = seen-kind i below ∙ says-empty _ _ _ _ (means .workers w wn .slots i below ∙ e) in
+            let z = seen-kind i below ∙ says-empty _ _ _ _ (worker-means ready .slots i below ∙ e) in
             idle (and-left-false _ (and-left-false _ (ap not (eq-eqb _ 0 z)))) refl
         by-slot (announced u t) e = by-leaf u t e (leafOf copy (account u)) refl
 
@@ -421,11 +362,11 @@ module _ {s : Settings} {l : List ℕ} {m : Machine} {w : ℕ} (ready : Ready s 
       marks-split = record {
         to = λ a z. by-cases (ℕ-discrete (firstBits (bucket u .depth) a) (bucket u .prefix))
             (λ h. made-in (bucket u) (leafOf o a) (refined .inside a h))
-            (λ h. let d : z .by ≢ i = λ e. h (rw (sym own-bucket ∙ rw e at (z .here)) (leaf-inside a)) in
+            (λ h. let d : z .by ≢ i = λ e. h (rw (sym own-bucket ∙ rw e at (z .here)) (grove .named a)) in
             rw (refined .outside a h)
             (old .to a (record { by = z .by; below = z .below; set = sym (mark-beside (z .by) d) ∙ z .set; here = z .here })));
         from = λ a z. by-cases (ℕ-discrete (firstBits (bucket u .depth) a) (bucket u .prefix))
-            (λ h. record { by = i; below = below; set = mark-here; here = own-bucket ∙ sym (leaf-shared (account u) a h) })
+            (λ h. record { by = i; below = below; set = mark-here; here = own-bucket ∙ sym (grove .shared (account u) a h) })
             (λ h. let y = old .from a (rw (refined .outside a h) at z) in
             record { by = y .by; below = y .below; set = mark-beside (y .by) (mark-other (y .by) (y .set)) ∙ y .set; here = y .here });
         once = λ j q b d f g e. once j q b d f g e (ℕ-discrete j i) (ℕ-discrete q i);

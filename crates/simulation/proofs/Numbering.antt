@@ -8,7 +8,7 @@ use mathlib.Core.Bool.{Bool, true, false}
 use mathlib.Core.List.{List}
 use borrow.Author.Tests.{eq-eqb, eqb-true}
 use Rattle.machine.specs.Choice.{if_then_else_, assign}
-use Rattle.machine.proofs.Base.{no-both, if-elim, and-true, and-parts, assign-at, assign-other}
+use Rattle.machine.proofs.Base.{no-both, is-false, if-elim, and-true, and-parts, assign-at, assign-other}
 use Rattle.layout.specs.Shape.{word}
 use Rattle.layout.specs.Places.{workerAt}
 use Rattle.layout.specs.Numbers.{any, leastFree, numberTaken, freshNumber, directoryTaken, freshDirectory}
@@ -39,11 +39,7 @@ among-less n f i x h l k = go (ℕ-discrete (k .place) n)
 free-from :
     (taken : ℕ → Bool) (k i : ℕ) (f : ℕ → ℕ) → ((x : ℕ) → i ≤ x → taken x ≡ true → Among k f x) → taken (leastFree taken i k) ≡ false
 unfolding leastFree
-free-from taken zero i f h = go (taken i) (λ e. omega (arith, h i (omega arith) e .below))
-  where
-    go : (b : Bool) → (b ≡ true → ⊥) → b ≡ false
-    go true g = absurd (g refl)
-    go false g = refl
+free-from taken zero i f h = is-false (taken i) (λ e. omega (arith, h i (omega arith) e .below))
 free-from taken (suc k) i f h = if-elim (λ x. taken x ≡ false) (taken i) _ _
     (λ e. let t = h i (omega arith) e in
     free-from taken k (suc i) (assign f (t .place) (f k)) (λ x l g. among-less k f i x t (omega arith) (h x (omega arith) g)))

@@ -2,7 +2,7 @@
 -- Rests on the layout and on the laws of runs of words.
 use Prim.Native.Nat.{ℕ, zero, suc, _+_, _-_, _*_, _/_, _%_, _^_, _≤_, _<_}
 use native.Mathlib.Omega.{arith}
-use native.Mathlib.Nat.{add-zero, zero-add, add-assoc, zero-div, suc-mul, mul-le-mul-right, mul-le-mul}
+use native.Mathlib.Nat.{add-zero, zero-add, add-assoc, suc-mul, mul-le-mul-right, mul-le-mul}
 use lib.Pow.{pow-pos}
 use mathlib.Core.Path.{_≡_, refl, ap, sym, _∙_, subst}
 use mathlib.Core.Bool.{Bool, true, false, not, _||_, or-true}
@@ -19,8 +19,8 @@ use Rattle.machine.specs.Sequential.{firstBits}
 use Rattle.machine.specs.Records.{Machine, emptyBody, newBucket, firstDirectory, firstCells, noReads, opened, bucketOf}
 use Rattle.machine.specs.Words.{wordsNeeded}
 use Rattle.bucket.specs.declared.BucketState.{BucketState}
-use Rattle.bucket.specs.State.{sizeOf, bit}
-use Rattle.bucket.specs.Items.{pairs, itemsOf, settledOf, answerOf, bitsOf, readSlot, Means}
+use Rattle.bucket.specs.State.{sizeOf}
+use Rattle.bucket.specs.Items.{pairs, itemsOf, settledOf, answerOf, readSlot, Means}
 use Rattle.lists.specs.Parts.{part, overlay}
 use Rattle.memory.specs.Layout.{slot, worker, entry, record′, startOf, workersAt, workerSize, recordSize, poolSize, poolAt, settledFrom, answersFrom}
 use Rattle.memory.specs.Loads.{least, copied, loadedState}
@@ -34,6 +34,7 @@ use Rattle.table.specs.Turns.{freshWords}
 use Rattle.simulation.specs.Meaning.{at, operationIn, nameIn, Keeps, Directs, Live, current, referred, WorkerMeans, Meaning}
 use Rattle.simulation.proofs.Entering.{record-start, entry-start, directory-start}
 use Rattle.simulation.proofs.Frames.{entry-within, record-wide}
+use Rattle.simulation.proofs.WordBits.{no-bits}
 
 -- ---- the checks behind 8
 
@@ -114,10 +115,6 @@ module _ (s : Settings) (range : inRange (s .workers) (s .capacity) (s .depth) �
         )
 
 -- ---- the words of a fresh table
-
-no-bits : (j : ℕ) → bitsOf 0 j ≡ false
-unfolding bitsOf bit
-no-bits j = rw zero-div
 
 module _ (s : Settings) (range : inRange (s .workers) (s .capacity) (s .depth) ≡ true) where
   abbrev n : ℕ

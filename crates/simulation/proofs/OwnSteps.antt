@@ -1,17 +1,15 @@
 -- The steps that change only the worker's own words and go on: the words after each mean the machine after its transition.
 -- Rests on what one worker's words have to mean.
-use Prim.Native.Nat.{ℕ, zero, suc, _+_, _*_, _%_, _^_, _≤_, _<_}
+use Prim.Native.Nat.{ℕ, zero, suc, _+_, _*_, _≤_, _<_}
 use native.Mathlib.Omega.{arith}
-use native.Mathlib.Nat.{add-assoc, add-zero, zero-div}
+use native.Mathlib.Nat.{add-assoc, add-zero}
 use native.Mathlib.Decide.{ℕ-discrete, decLt}
 use mathlib.Core.Path.{_≡_, refl, ap, sym, _∙_, subst, subst⁻¹}
 use mathlib.Core.Logic.{_≢_, by-cases}
-use mathlib.Core.Bool.{true}
 use mathlib.Core.List.{List}
 use mathlib.Core.Option.{some}
 use lib.ListN.{length, set}
 use lib.Pow.{pow-pos}
-use Rattle.interface.specs.Limits.{inRange}
 use Rattle.interface.specs.declared.Settings.{Settings}
 use Rattle.interface.specs.declared.Stepped.{Stepped}
 use Rattle.machine.specs.Choice.{assign}
@@ -24,8 +22,7 @@ use Rattle.machine.proofs.Whereabouts.{Holds, Past}
 use Rattle.machine.proofs.Counter as Counter
 use Rattle.machine.proofs.Counter.{counter-within, Two, one, two, BStep, DStep, readS, readT, swap, slotB, copyD, swapD, slotD, state, PC, look₁, look₂, readD, flip, checkD, checkS, inB, inD, afterB, afterD}
 use Rattle.machine.proofs.Inv.{Task, IsMade, ReadFacts, Looking, Fresh, Announced, about, leaf, held, own, DirectoryFresh}
-use Rattle.machine.proofs.Tasks.{Good}
-use Rattle.machine.proofs.Transitions.{placeOf, tasksOf, lookupPlace}
+use Rattle.machine.proofs.Transitions.{tasksOf, lookupPlace}
 use Rattle.bucket.specs.State.{bit}
 use Rattle.bucket.specs.Items.{bitsOf, readSlot}
 use Rattle.lists.specs.Parts.{part, overlay}
@@ -37,15 +34,12 @@ use Rattle.layout.specs.Places.{slotAt, recordOf, heldBy}
 use Rattle.engine.specs.Engine.{heldAt, stateReadAt, toggleReadAt, slotReadAt, directoryReadAt, swappedAt}
 use Rattle.engine.specs.Splits.{redirectedAt}
 use Rattle.table.specs.Turns.{stepIn, updateAt, lookupAt}
-use Rattle.simulation.specs.Meaning.{at, slotIn, nameIn, Directs, Refers, Live, current, HasState, HasDirectory, Meaning}
-use Rattle.simulation.proofs.Entering.{raised, raised-beside, directed-record, refers-once, is-about, lookup-enters}
+use Rattle.simulation.specs.Meaning.{at, slotIn, nameIn, Directs, Refers, Live, current, HasState, HasDirectory}
+use Rattle.simulation.proofs.Entering.{raised, place-is, directed-record, refers-once, is-about, lookup-enters}
 use Rattle.simulation.proofs.Frames.{inside-trans, worker-wide, record-wide, slot-near, own-head, own-entry, directs-same, slot-wide, own-slot, overlay-inside, over-before, over-behind, over-here}
-use Rattle.simulation.proofs.OwnWorker.{Ready, Changed, SeenSlots, work-directory, nothing-changed, word-changed, put-here, put-beside, slots-before, slots-kept, toggle-kept, going, Onward, goes-on, enough₁, own₁, held-kept, live-kept, number-kept, directory-kept, few-kept, refers-back, one-word, word-here, mine, word-mine, keeps-mine}
+use Rattle.simulation.proofs.WordBits.{bit-zero}
+use Rattle.simulation.proofs.OwnWorker.{worker-means, Ready, Changed, SeenSlots, work-directory, changed₁, word-changed, put-here, put-beside, slots-before, slots-kept, toggle-kept, going, Onward, goes-on, enough₁, own₁, beside₁, held-kept, live-kept, number-kept, directory-kept, few-kept, refers-back, one-word, word-here, mine, word-mine, keeps-mine}
 use Rattle.simulation.proofs.OwnWorker.{announced-at, plan-step, stays}
-
-bit-zero : (i : ℕ) → bit 0 i ≡ 0
-unfolding bit
-bit-zero i = ap (λ (x : ℕ). x % 2) (zero-div (2 ^ i))
 
 -- the steps that a lookup has made, by its place
 look-first : (i : ℕ) → lookupPlace i ≡ look₁ → i ≡ 0
@@ -54,18 +48,6 @@ look-first (suc zero) e = let z : _≡_ {A = ℕ} 0 1 = cc in absurd (omega arit
 look-first (suc (suc i)) e = let z : _≡_ {A = ℕ} 0 1 = cc in absurd (omega arith)
 
 module _ {s : Settings} {l : List ℕ} {m : Machine} {w : ℕ} (ready : Ready s l m w) where
-  abbrev means : Meaning s l m
-  means = ready .means
-
-  abbrev wn : w < s .workers
-  wn = ready .known
-
-  abbrev range : inRange (s .workers) (s .capacity) (s .depth) ≡ true
-  range = ready .range
-
-  abbrev good : Good s m
-  good = ready .good
-
   abbrev k : Task
   k = tasksOf s m w
 
@@ -108,18 +90,17 @@ module _ {s : Settings} {l : List ℕ} {m : Machine} {w : ℕ} (ready : Ready s 
       a = at s l (worker w) 1
 
       about-a : about (m .workers w .operation) ≡ a
-      about-a = ap about e ∙ is-about _ _ _ o (means .workers w wn .operation ∙ e)
+      about-a = ap about e ∙ is-about _ _ _ o (worker-means ready .operation ∙ e)
 
       D : (r : ℕ) × Directs s l a r × (nameIn s l r ≡ leaf (m .cells) a)
-      D = means .directory a
+      D = ready .means .directory a
 
       refers : Refers s l₂ w (D .0)
       refers =
-          let same : word l₁ (me + 1) ≡ a = raised-beside s l (means .lent) w wn _ 1 (omega arith) (λ g. omega arith) in
           record {
             within = D .1 .within;
             names =
-                word-here ready 5 v (omega arith) ∙ ap (recordOf l₁ s) same
+                word-here ready 5 v (omega arith) ∙ ap (recordOf l₁ s) (beside₁ ready 1 (omega arith) (λ g. omega arith))
                 ∙ directed-record s l₁ (enough₁ ready) a (D .0) (directs-same s l l₁ a (D .0) (own-entry (own₁ ready) a) (D .1));
           }
 
@@ -226,19 +207,19 @@ module _ {s : Settings} {l : List ℕ} {m : Machine} {w : ℕ} (ready : Ready s 
 
     slot-changed : Changed s l w (m .workers w .steps) l₂ (24 + 4 * i) (24 + 4 * i + 4)
     slot-changed =
-        let c = nothing-changed s l (means .lent) w wn (m .workers w .steps) in
+        let c = changed₁ ready in
         rw slot-read (record {
-          own = inside-trans (own₁ ready) (overlay-inside s l₁ (enough₁ ready) (worker w) wn (24 + 4 * i) xs inside);
-          call = λ o h. over-before s l₁ (enough₁ ready) (worker w) wn (24 + 4 * i) xs inside o (omega arith) ∙ c .call o h;
-          count = over-before s l₁ (enough₁ ready) (worker w) wn (24 + 4 * i) xs inside 4 (omega arith) ∙ c .count;
-          before = λ o h g. over-before s l₁ (enough₁ ready) (worker w) wn (24 + 4 * i) xs inside o g ∙ c .behind o h (omega arith);
-          behind = λ o h g. over-behind s l₁ (enough₁ ready) (worker w) wn (24 + 4 * i) xs inside o (rw xs-length h) ∙ c .behind o (omega arith) g;
+          own = inside-trans (own₁ ready) (overlay-inside s l₁ (enough₁ ready) (worker w) (ready .known) (24 + 4 * i) xs inside);
+          call = λ o h. over-before s l₁ (enough₁ ready) (worker w) (ready .known) (24 + 4 * i) xs inside o (omega arith) ∙ c .call o h;
+          count = over-before s l₁ (enough₁ ready) (worker w) (ready .known) (24 + 4 * i) xs inside 4 (omega arith) ∙ c .count;
+          before = λ o h g. over-before s l₁ (enough₁ ready) (worker w) (ready .known) (24 + 4 * i) xs inside o g ∙ c .behind o h (omega arith);
+          behind = λ o h g. over-behind s l₁ (enough₁ ready) (worker w) (ready .known) (24 + 4 * i) xs inside o (rw xs-length h) ∙ c .behind o (omega arith) g;
         })
 
     slot-word : (o : ℕ) → o < 4 → at s l₂ (worker w) (24 + 4 * i + o) ≡ at s l (slot i) o
     unfolding xs startOf
     slot-word o h =
-        rw slot-read (over-here s l₁ (enough₁ ready) (worker w) wn (24 + 4 * i) xs inside o (rw xs-length h))
+        rw slot-read (over-here s l₁ (enough₁ ready) (worker w) (ready .known) (24 + 4 * i) xs inside o (rw xs-length h))
         ∙ getD-part l₁ (slotAt i) 4 o h ∙ own-slot (own₁ ready) i b o (rw slot-wide h)
 
     slot-first : at s l₂ (worker w) (24 + 4 * i) ≡ at s l (slot i) 0
@@ -258,21 +239,20 @@ module _ {s : Settings} {l : List ℕ} {m : Machine} {w : ℕ} (ready : Ready s 
         let y = slots-before ready in
         record {
           slots = λ j h. assign-elim (λ (x : Slot). slotIn s l₂ (worker w) (24 + 4 * j) ≡ x) (k .reads .slots) i _ j
-              (λ e. rw e (slot-whole ∙ means .slots i b))
+              (λ e. rw e (slot-whole ∙ ready .means .slots i b))
               (λ e. slot-near s l l₂ (worker w) (24 + 4 * j) (slot-beside j h e) ∙ y .slots j h);
-          narrow = λ j h. by-cases (ℕ-discrete j i) (λ e. rw (e, slot-word 1 (omega arith)) (means .narrow i b))
+          narrow = λ j h. by-cases (ℕ-discrete j i) (λ e. rw (e, slot-word 1 (omega arith)) (ready .means .narrow i b))
               (λ e. rw (slot-beside j h e (24 + 4 * j + 1) (omega arith) (omega arith)) (y .narrow j h));
-          fits = λ j h. by-cases (ℕ-discrete j i) (λ e. rw (e, slot-word 2 (omega arith)) (means .fits i b))
+          fits = λ j h. by-cases (ℕ-discrete j i) (λ e. rw (e, slot-word 2 (omega arith)) (ready .means .fits i b))
               (λ e. rw (slot-beside j h e (24 + 4 * j + 2) (omega arith) (omega arith)) (y .fits j h));
-          quiet = λ j h. by-cases (ℕ-discrete j i) (λ e. rw (e, slot-first, slot-word 3 (omega arith)) (means .quiet i b))
+          quiet = λ j h. by-cases (ℕ-discrete j i) (λ e. rw (e, slot-first, slot-word 3 (omega arith)) (ready .means .quiet i b))
               (λ e. let same = slot-beside j h e in
               rw (same (24 + 4 * j) (omega arith) (omega arith), same (24 + 4 * j + 3) (omega arith) (omega arith)) (y .quiet j h));
         }
 
   place-within : {u : Update} → m .workers w .operation ≡ some (update u) → {pc : PC} → k .pc ≡ pc → Counter.Within (s .workers) pc
   place-within e f =
-      subst (Counter.Within (s .workers)) (sym (ap (λ o. placeOf (s .workers) o (m .workers w .steps)) e) ∙ f)
-      (counter-within (s .workers) (m .workers w .steps))
+      subst (Counter.Within (s .workers)) (place-is s m w e f) (counter-within (s .workers) (m .workers w .steps))
 
   -- slotsB, lastB
   pub slotB-means :
@@ -315,9 +295,9 @@ module _ {s : Settings} {l : List ℕ} {m : Machine} {w : ℕ} (ready : Ready s 
 
       differ : word l₁ (me + 6) ≢ word l₁ (heldBy l₁ me + 5)
       differ g =
-          let six = raised-beside s l (means .lent) w wn (m .workers w .steps) 6 (omega arith) (λ g. omega arith) in
+          let six = beside₁ ready 6 (omega arith) (λ g. omega arith) in
           let five = word-mine ready h 5 (rw record-wide (omega arith)) in
-          stale (means .workers w wn .number (subst⁻¹ HasState e tt) (mine ready h .0) (mine ready h .1) .to (sym six ∙ g ∙ five))
+          stale (worker-means ready .number (subst⁻¹ HasState e tt) (mine ready h .0) (mine ready h .1) .to (sym six ∙ g ∙ five))
 
       a : Announced s (m .cells) w k
       a = announced-at ready (inB p r swap) e
@@ -336,8 +316,8 @@ module _ {s : Settings} {l : List ℕ} {m : Machine} {w : ℕ} (ready : Ready s 
     where
       differ : word l₁ (me + 8) ≢ word l₁ 3
       differ g =
-          let eight = raised-beside s l (means .lent) w wn (m .workers w .steps) 8 (omega arith) (λ g. omega arith) in
-          stale (means .workers w wn .directory (subst⁻¹ HasDirectory e tt) .to (sym eight ∙ g ∙ own-head (own₁ ready) 3 (omega arith)))
+          let eight = beside₁ ready 8 (omega arith) (λ g. omega arith) in
+          stale (worker-means ready .directory (subst⁻¹ HasDirectory e tt) .to (sym eight ∙ g ∙ own-head (own₁ ready) 3 (omega arith)))
 
       a : Announced s (m .cells) w k
       a = announced-at ready (inD p r swapD) e
@@ -385,16 +365,16 @@ module _ {s : Settings} {l : List ℕ} {m : Machine} {w : ℕ} (ready : Ready s 
 
       changed : Changed s l w (m .workers w .steps) l₃ 8 10
       changed =
-          word-changed s l (means .lent) w wn _ l₂′ 8 9 0 changed₂ 9 8 (omega arith) (omega arith) (omega arith) (omega arith)
+          word-changed s l (ready .means .lent) w (ready .known) _ l₂′ 8 9 0 changed₂ 9 8 (omega arith) (omega arith) (omega arith) (omega arith)
           (λ o x y z. absurd (omega arith))
 
       eight : at s l₃ (worker w) 8 ≡ word l 3
       eight =
-          put-beside s l (means .lent) w wn _ l₂′ 8 9 0 changed₂ 9 8 (omega arith) (omega arith) (λ g. omega arith)
+          put-beside s l (ready .means .lent) w (ready .known) _ l₂′ 8 9 0 changed₂ 9 8 (omega arith) (omega arith) (λ g. omega arith)
           ∙ word-here ready 8 v (omega arith) ∙ own-head (own₁ ready) 3 (omega arith)
 
       nine : at s l₃ (worker w) 9 ≡ 0
-      nine = put-here s l (means .lent) w wn _ l₂′ 8 9 0 changed₂ 9 (omega arith)
+      nine = put-here s l (ready .means .lent) w (ready .known) _ l₂′ 8 9 0 changed₂ 9 (omega arith)
 
   -- slotsD, lastD
   pub slotD-means :
@@ -430,7 +410,7 @@ module _ {s : Settings} {l : List ℕ} {m : Machine} {w : ℕ} (ready : Ready s 
       none-marked : (j : ℕ) → j < s .workers → bit (at s (l₂ i b) (worker w) 9) j ≡ 0
       none-marked j h =
           rw (changed .before 9 (omega arith) (omega arith))
-          (means .workers w wn .unmarked (subst⁻¹ HasDirectory e tt) j h (λ z. subst (Past (s .workers) j) e z))
+          (worker-means ready .unmarked (subst⁻¹ HasDirectory e tt) j h (λ z. subst (Past (s .workers) j) e z))
 
       no-mark : (j : ℕ) → j < s .workers → bit (at s (l₂ i b) (worker w) 9) j ≡ 1 → ⊥
       no-mark j h g = omega (arith, none-marked j h)
@@ -442,7 +422,7 @@ module _ {s : Settings} {l : List ℕ} {m : Machine} {w : ℕ} (ready : Ready s 
       here = assign-at (m .workers) w after w refl
 
       copy : k .reads .copy ≡ copyOf (k .reads .directory .value)
-      copy = subst (λ (pc : PC). ReadFacts s pc (m .cells) w k) e (good .own w wn .read) .read .1
+      copy = subst (λ (pc : PC). ReadFacts s pc (m .cells) w k) e (ready .good .own w (ready .known) .read) .read .1
 
       no-made : (c : ℕ) → IsMade (leafOf (k .reads .copy) c) → ⊥
       no-made c g = rw copy at g
@@ -453,9 +433,9 @@ module _ {s : Settings} {l : List ℕ} {m : Machine} {w : ℕ} (ready : Ready s 
   unfolding lookupAt
   looks-means e =
       let a : Looking s (m .cells) w k = announced-at ready look₁ e in
-      let first : m .workers w .steps ≡ 0 = look-first _ (sym (ap (λ o. placeOf (s .workers) o (m .workers w .steps)) (a .asks)) ∙ e) in
+      let first : m .workers w .steps ≡ 0 = look-first _ (place-is s m w (a .asks) e) in
       reads-directory (lookup (a .wanted)) (a .asks) look₂ (λ q. q) (λ q. q)
-      (lookup-enters s range l m means good w wn (a .wanted) (a .asks) ∙ ap (lookupAt l₁ s me) first)
+      (lookup-enters s (ready .range) l m (ready .means) (ready .good) w (ready .known) (a .wanted) (a .asks) ∙ ap (lookupAt l₁ s me) first)
 
   pub readsD-means :
       (p : Two) → k .pc ≡ readD p → Onward ready (flip p) (withDirectory (k .reads) (m .cells .directory))

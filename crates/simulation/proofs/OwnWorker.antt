@@ -15,13 +15,14 @@ use Rattle.interface.specs.declared.Settings.{Settings}
 use Rattle.interface.specs.declared.Answer.{Answer}
 use Rattle.interface.specs.declared.Stepped.{Stepped}
 use Rattle.machine.specs.Choice.{assign}
-use Rattle.machine.specs.Records.{Name, Slot, bucketOf, Cells, Reads, Worker, Machine}
+use Rattle.machine.specs.Records.{Name, Slot, Leaf, kept, made, bucketOf, Cells, Reads, Worker, Machine}
 use Rattle.machine.specs.Words.{wordsNeeded}
 use Rattle.machine.specs.Steps.{counted, reported}
 use Rattle.machine.proofs.Base.{assign-at, assign-elim}
 use Rattle.machine.proofs.Whereabouts.{Holds, Past}
 use Rattle.machine.proofs.Counter.{swapD, state, PC, inD, phaseOf}
-use Rattle.machine.proofs.Inv.{Task, Announced, SlotFacts, about, held, own}
+use Rattle.machine.proofs.Copies.{MadeIn}
+use Rattle.machine.proofs.Inv.{IsMade, Task, Announced, SlotFacts, about, held, own}
 use Rattle.machine.proofs.Keeping.{goes}
 use Rattle.machine.proofs.Tasks.{Good}
 use Rattle.machine.proofs.Transitions.{taskOf, tasksOf}
@@ -33,9 +34,9 @@ use Rattle.lists.proofs.PartLaws.{getD-part}
 use Rattle.layout.specs.Shape.{word}
 use Rattle.layout.specs.Places.{heldBy}
 use Rattle.table.specs.Turns.{stepIn, updateAt}
-use Rattle.simulation.specs.Meaning.{at, slotIn, nameIn, operationIn, Keeps, Refers, Live, referred, HasState, HasDirectory, HasWork, Agree, Marks, Meaning}
+use Rattle.simulation.specs.Meaning.{at, slotIn, nameIn, operationIn, Keeps, Refers, Live, referred, HasState, HasDirectory, HasWork, Agree, Marks, WorkerMeans, Meaning}
 use Rattle.simulation.proofs.Entering.{raised, raised-own, raised-count, raised-beside, raised-enough, held-record, update-enters, Follows}
-use Rattle.simulation.proofs.Frames.{at-here, at-beside, set-inside, inside-trans, worker-wide, record-wide, slot-near, name-same, OwnWords, own-head, own-record, own-means}
+use Rattle.simulation.proofs.Frames.{at-here, at-beside, set-inside, inside-trans, worker-wide, record-wide, slot-near, name-same, keeps-same, OwnWords, own-head, own-record, own-means}
 
 -- words that mean a machine, and a worker whose step or call is asked for
 pub record Ready (s : Settings) (l : List ℕ) (m : Machine) (w : ℕ) : Type 0 where
@@ -94,6 +95,11 @@ nowhere = ((λ x. x), (λ x. x), (λ x. x))
 pub work-directory : (pc : PC) → HasWork pc → HasDirectory pc
 work-directory (inD p r swapD) h = tt
 work-directory (inD p r (state i)) h = tt
+
+-- what is made inside a bucket is made
+pub made-in : (x : Name) (y : Leaf) → MadeIn x y → IsMade y
+made-in x (kept z) h = h
+made-in x (made z b) h = tt
 
 -- worker w's first 24 words are what f says, and no others have changed
 pub record Words (s : Settings) (w : ℕ) (l l′ : List ℕ) (f : ℕ → ℕ) : Type 0 where
@@ -167,14 +173,14 @@ module _ (s : Settings) (l : List ℕ) (enough : wordsNeeded s ≤ length l) (w 
     }
 
 -- the words of a slot that was read, in the worker's record and in the run of all its slots
-slots-at : (s : Settings) (l : List ℕ) (w i k : ℕ) → i < s .workers → k < 4
+pub slots-at : (s : Settings) (l : List ℕ) (w i k : ℕ) → i < s .workers → k < 4
     → getD (part l (startOf s (worker w) + 24) (4 * s .workers)) (4 * i + k) 0 ≡ at s l (worker w) (24 + 4 * i + k)
 slots-at s l w i k h b =
     let p : ℕ = startOf s (worker w) in
     let e : p + 24 + (4 * i + k) ≡ p + (24 + 4 * i + k) = omega arith in
     getD-part l (p + 24) (4 * s .workers) (4 * i + k) (omega arith) ∙ ap (word l) e
 
-slots-first : (s : Settings) (l : List ℕ) (w i : ℕ) → i < s .workers
+pub slots-first : (s : Settings) (l : List ℕ) (w i : ℕ) → i < s .workers
     → getD (part l (startOf s (worker w) + 24) (4 * s .workers)) (4 * i) 0 ≡ at s l (worker w) (24 + 4 * i)
 slots-first s l w i h = rw (add-zero (4 * i), add-zero (24 + 4 * i)) at (slots-at s l w i 0 h (omega arith))
 
@@ -190,20 +196,12 @@ sound-of s l w narrow fits quiet = record {
 }
 
 module _ {s : Settings} {l : List ℕ} {m : Machine} {w : ℕ} (ready : Ready s l m w) where
-  abbrev means : Meaning s l m
-  means = ready .means
-
-  abbrev wn : w < s .workers
-  wn = ready .known
-
-  abbrev range : inRange (s .workers) (s .capacity) (s .depth) ≡ true
-  range = ready .range
-
-  abbrev good : Good s m
-  good = ready .good
-
   abbrev k : Task
   k = tasksOf s m w
+
+  -- what the words mean about the worker
+  abbrev pub worker-means : WorkerMeans s l m w
+  worker-means = ready .means .workers w (ready .known)
 
   -- the words once the step is counted
   abbrev l₁ : List ℕ
@@ -212,7 +210,7 @@ module _ {s : Settings} {l : List ℕ} {m : Machine} {w : ℕ} (ready : Ready s 
   -- what the worker has seen before the step, and what it still has seen where these words stay
   pub slots-before : SeenSlots s w l (m .workers w .reads .slots)
   slots-before =
-      let h = means .workers w wn in
+      let h = worker-means in
       record {
         slots = h .slots;
         narrow = λ i b. rw (slots-at s l w i 1 b (omega arith)) at (h .sound .narrow i b);
@@ -233,7 +231,7 @@ module _ {s : Settings} {l : List ℕ} {m : Machine} {w : ℕ} (ready : Ready s 
       }
 
   pub toggle-kept : (l′ : List ℕ) → at s l′ (worker w) 7 ≡ at s l (worker w) 7 → SeenToggle s w l′ (m .workers w .reads .toggle)
-  toggle-kept l′ e i h = rw e (means .workers w wn .toggle i h)
+  toggle-kept l′ e i h = rw e (worker-means .toggle i h)
 
   -- if the words after the step mean this about the worker, they mean the whole machine
   pub mine-means :
@@ -241,7 +239,7 @@ module _ {s : Settings} {l : List ℕ} {m : Machine} {w : ℕ} (ready : Ready s 
       → SeenToggle s w l′ (v .reads .toggle) → SeenSlots s w l′ (v .reads .slots) → Stands s l m w l′ v pc
       → Meaning s l′ (record { cells = m .cells; workers = assign (m .workers) w v })
   mine-means l′ v pc e f c b x st =
-      own-means s l l′ m w wn v f means (record {
+      own-means s l l′ m w (ready .known) v f (ready .means) (record {
         operation = rw here (c .operation);
         narrow = c .narrow;
         fits = c .fits;
@@ -273,7 +271,7 @@ module _ {s : Settings} {l : List ℕ} {m : Machine} {w : ℕ} (ready : Ready s 
       (l′ : List ℕ) (x : Reads) → ((i : ℕ) → i < 4 → at s l′ (worker w) i ≡ at s l (worker w) i)
       → at s l′ (worker w) 4 ≡ suc (m .workers w .steps) → Called s w l′ (going x)
   going-called l′ x same count =
-      let h = means .workers w wn in
+      let h = worker-means in
       record {
         operation = rw (same 0 (omega arith), same 1 (omega arith), same 2 (omega arith)) (h .operation);
         narrow = rw (same 1 (omega arith)) (h .narrow);
@@ -297,10 +295,16 @@ module _ {s : Settings} {l : List ℕ} {m : Machine} {w : ℕ} (ready : Ready s 
       rw (e, read) (mine-means l′ (going x) pc place (f .own) (going-called l′ x (f .call) (f .count)) b seen st, refl)
 
   pub enough₁ : wordsNeeded s ≤ length l₁
-  enough₁ = raised-enough s l (means .lent) w wn (m .workers w .steps)
+  enough₁ = raised-enough s l (ready .means .lent) w (ready .known) (m .workers w .steps)
 
   pub own₁ : OwnWords s w l l₁
-  own₁ = raised-own s l (means .lent) w wn (m .workers w .steps)
+  own₁ = raised-own s l (ready .means .lent) w (ready .known) (m .workers w .steps)
+
+  pub beside₁ : (i : ℕ) → i < 4 * s .workers + 24 → i ≢ 4 → at s l₁ (worker w) i ≡ at s l (worker w) i
+  beside₁ = raised-beside s l (ready .means .lent) w (ready .known) (m .workers w .steps)
+
+  pub changed₁ : Changed s l w (m .workers w .steps) l₁ 5 5
+  changed₁ = nothing-changed s l (ready .means .lent) w (ready .known) (m .workers w .steps)
 
   -- ---- what the worker still holds and compares, where these words stay
 
@@ -311,24 +315,24 @@ module _ {s : Settings} {l : List ℕ} {m : Machine} {w : ℕ} (ready : Ready s 
     pub held-kept :
         at s l′ (worker w) 5 ≡ at s l (worker w) 5 → Holds (k .pc) → (r : ℕ) × Refers s l′ w r × (nameIn s l r ≡ held k)
     held-kept e h =
-        let x = means .workers w wn .held h in
+        let x = worker-means .held h in
         (x .0, record { within = x .1 .within; names = e ∙ x .1 .names }, x .2)
 
     pub live-kept : at s l′ (worker w) 5 ≡ at s l (worker w) 5 → Holds (k .pc) → (r : ℕ) → Refers s l′ w r → Live s l m r
-    live-kept e h r x = referred w wn h (refers-back e r x)
+    live-kept e h r x = referred w (ready .known) h (refers-back e r x)
 
     pub number-kept :
         at s l′ (worker w) 5 ≡ at s l (worker w) 5 → at s l′ (worker w) 6 ≡ at s l (worker w) 6 → HasState (k .pc) → (r : ℕ) → Refers s l′ w r
         → Agree (at s l′ (worker w) 6) (at s l (record′ r) 5) (k .reads .state .stamp) (own (m .cells) k .state .stamp)
-    number-kept e f h r x = rw f (means .workers w wn .number h r (refers-back e r x))
+    number-kept e f h r x = rw f (worker-means .number h r (refers-back e r x))
 
     pub directory-kept :
         at s l′ (worker w) 8 ≡ at s l (worker w) 8 → HasDirectory (k .pc)
         → Agree (at s l′ (worker w) 8) (word l 3) (k .reads .directory .stamp) (m .cells .directory .stamp)
-    directory-kept e h = rw e (means .workers w wn .directory h)
+    directory-kept e h = rw e (worker-means .directory h)
 
     pub few-kept : at s l′ (worker w) 9 ≡ at s l (worker w) 9 → at s l′ (worker w) 9 < 2 ^ s .workers
-    few-kept e = rw e (means .workers w wn .few)
+    few-kept e = rw e (worker-means .few)
 
     -- at a place where nothing is held or compared
     pub free : (v : Worker) (pc : PC) → Free pc → at s l′ (worker w) 9 ≡ at s l (worker w) 9 → Stands s l m w l′ v pc
@@ -346,51 +350,53 @@ module _ {s : Settings} {l : List ℕ} {m : Machine} {w : ℕ} (ready : Ready s 
 
   pub one-word : (i v : ℕ) → 5 ≤ i → i < 24 → Changed s l w (m .workers w .steps) (set l₁ (startOf s (worker w) + i) v) i (suc i)
   one-word i v a b =
-      word-changed s l (means .lent) w wn _ l₁ 5 5 v (nothing-changed s l (means .lent) w wn _) i i a b (omega arith) a (λ o x y z. y)
+      word-changed s l (ready .means .lent) w (ready .known) _ l₁ 5 5 v changed₁ i i a b (omega arith) a (λ o x y z. y)
 
   pub word-here : (i v : ℕ) → i < 24 → at s (set l₁ (startOf s (worker w) + i) v) (worker w) i ≡ v
-  word-here i v b = put-here s l (means .lent) w wn _ l₁ 5 5 v (nothing-changed s l (means .lent) w wn _) i (omega arith)
+  word-here i v b = put-here s l (ready .means .lent) w (ready .known) _ l₁ 5 5 v changed₁ i (omega arith)
 
   -- the record that the worker holds, in the words before the step and once it is counted
   module _ (h : Holds (k .pc)) where
     pub mine : (r : ℕ) × Refers s l w r × (nameIn s l r ≡ held k)
-    mine = means .workers w wn .held h
+    mine = worker-means .held h
 
     pub at-mine : heldBy l₁ (startOf s (worker w)) ≡ startOf s (record′ (mine .0))
     at-mine =
-        let same : at s l₁ (worker w) 5 ≡ at s l (worker w) 5 = raised-beside s l (means .lent) w wn _ 5 (omega arith) (λ g. omega arith) in
-        held-record s l₁ enough₁ w (mine .0) (record { within = mine .1 .within; names = same ∙ mine .1 .names })
+        held-record s l₁ enough₁ w (mine .0)
+        (record { within = mine .1 .within; names = beside₁ 5 (omega arith) (λ g. omega arith) ∙ mine .1 .names })
 
     pub word-mine : (i : ℕ) → i < sizeOf s (record′ (mine .0)) → word l₁ (heldBy l₁ (startOf s (worker w)) + i) ≡ at s l (record′ (mine .0)) i
     word-mine i b = ap (λ (q : ℕ). word l₁ (q + i)) at-mine ∙ own-record own₁ (mine .0) (mine .1 .within) i b
 
     pub keeps-mine : Keeps s l (mine .0) (own (m .cells) k)
-    keeps-mine = subst (λ (x : Name). Keeps s l (mine .0) (m .cells .buckets x)) (mine .2) (means .cells (mine .0) (referred w wn h (mine .1)))
+    keeps-mine =
+        subst (λ (x : Name). Keeps s l (mine .0) (m .cells .buckets x)) (mine .2)
+        (ready .means .cells (mine .0) (referred w (ready .known) h (mine .1)))
+
+    pub keeps₁ : Keeps s l₁ (mine .0) (own (m .cells) k)
+    keeps₁ = keeps-same s l l₁ (mine .0) _ (own-record own₁ (mine .0) (mine .1 .within)) keeps-mine
 
   pub announced-at : (pc : PC) → k .pc ≡ pc → SlotFacts s pc (m .cells) w k
-  announced-at pc e = subst (λ (x : PC). SlotFacts s x (m .cells) w k) e (good .own w wn .slot)
+  announced-at pc e = subst (λ (x : PC). SlotFacts s x (m .cells) w k) e (ready .good .own w (ready .known) .slot)
 
   -- the step of an announced update at place pc
   pub plan-step :
       (pc : PC) → Announced s (m .cells) w k → k .pc ≡ pc
       → stepIn l s w ≡ updateAt l₁ s (startOf s (worker w)) w (m .workers w .steps) (phaseOf pc)
-  plan-step pc a e = update-enters s range l m means good w wn (a .wanted) pc (a .asks) e
+  plan-step pc a e = update-enters s (ready .range) l m (ready .means) (ready .good) w (ready .known) (a .wanted) pc (a .asks) e
 
   -- ---- a step that only counts: passes, misses, missesD; and the count of one that changes shared cells
-
-  stays-changed : Changed s l w (m .workers w .steps) l₁ 5 5
-  stays-changed = nothing-changed s l (means .lent) w wn (m .workers w .steps)
 
   stays-stands :
       (pc : PC) → (Holds pc → Holds (k .pc)) → (HasState pc → ⊥) → (HasDirectory pc → ⊥) → Stands s l m w l₁ (going (k .reads)) pc
   stays-stands pc holds no-state no-directory =
-      let five = stays-changed .behind 5 (omega arith) (omega arith) in
+      let five = changed₁ .behind 5 (omega arith) (omega arith) in
       record {
         held = λ q. held-kept l₁ five (holds q);
         live = λ q. live-kept l₁ five (holds q);
         number = λ q. absurd (no-state q);
         directory = λ q. absurd (no-directory q);
-        few = few-kept l₁ (stays-changed .behind 9 (omega arith) (omega arith));
+        few = few-kept l₁ (changed₁ .behind 9 (omega arith) (omega arith));
         unmarked = λ q. absurd (no-directory q);
         marks = λ q. absurd (no-directory (work-directory pc q));
       }
@@ -398,8 +404,8 @@ module _ {s : Settings} {l : List ℕ} {m : Machine} {w : ℕ} (ready : Ready s 
   pub stays :
       (pc : PC) → (Holds pc → Holds (k .pc)) → (HasState pc → ⊥) → (HasDirectory pc → ⊥) → stepIn l s w ≡ (l₁, Stepped.Moved) → Onward pc (k .reads)
   stays pc holds no-state no-directory moved =
-      goes-on l₁ 5 5 pc (k .reads) moved stays-changed
-      (toggle-kept l₁ (stays-changed .behind 7 (omega arith) (omega arith))) (slots-kept l₁ (λ i h. stays-changed .behind i (omega arith)))
+      goes-on l₁ 5 5 pc (k .reads) moved changed₁
+      (toggle-kept l₁ (changed₁ .behind 7 (omega arith) (omega arith))) (slots-kept l₁ (λ i h. changed₁ .behind i (omega arith)))
       (stays-stands pc holds no-state no-directory)
 
   -- the words with the step counted mean the machine whose worker has gone on to such a place
@@ -408,6 +414,6 @@ module _ {s : Settings} {l : List ℕ} {m : Machine} {w : ℕ} (ready : Ready s 
       → Meaning s l₁ (record { cells = m .cells; workers = assign (m .workers) w (counted (m .workers w) (k .reads) none) })
   unfolding counted
   raised-means pc holds no-state no-directory place =
-      mine-means l₁ (going (k .reads)) pc place own₁ (going-called l₁ (k .reads) (stays-changed .call) (stays-changed .count))
-      (toggle-kept l₁ (stays-changed .behind 7 (omega arith) (omega arith))) (slots-kept l₁ (λ i h. stays-changed .behind i (omega arith)))
+      mine-means l₁ (going (k .reads)) pc place own₁ (going-called l₁ (k .reads) (changed₁ .call) (changed₁ .count))
+      (toggle-kept l₁ (changed₁ .behind 7 (omega arith) (omega arith))) (slots-kept l₁ (λ i h. changed₁ .behind i (omega arith)))
       (stays-stands pc holds no-state no-directory)

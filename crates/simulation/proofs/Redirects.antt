@@ -1,10 +1,10 @@
 -- The directory swap that succeeds, on the words, means the machine's.
 -- Rests on the marked buckets resolved in place, and on what words that stand for the working copy mean.
-use Prim.Native.Nat.{ℕ, _+_, _*_, _<_}
+use Prim.Native.Nat.{ℕ, _+_, _<_}
 use native.Mathlib.Omega.{arith}
 use mathlib.Core.Path.{_≡_, refl, ap, sym, _∙_, subst, subst⁻¹}
 use mathlib.Core.Logic.{inl, inr}
-use mathlib.Core.Bool.{Bool, true, false, _||_}
+use mathlib.Core.Bool.{or-false}
 use mathlib.Core.List.{List}
 use mathlib.Core.Option.{none}
 use lib.Dec.{eqb}
@@ -26,8 +26,8 @@ use Rattle.layout.specs.Numbers.{freshDirectory}
 use Rattle.engine.specs.Splits.{resolvedAt, nothingToSplit, redirectedAt}
 use Rattle.simulation.specs.Meaning.{at, current, HasDirectory, HasWork, Marked, Marks, Meaning}
 use Rattle.simulation.proofs.Frames.{own-head}
-use Rattle.simulation.proofs.Entering.{update-enters, raised, raised-beside}
-use Rattle.simulation.proofs.OwnWorker.{Ready, Next, slots-kept, own₁, announced-at}
+use Rattle.simulation.proofs.Entering.{raised}
+use Rattle.simulation.proofs.OwnWorker.{worker-means, Ready, Next, slots-kept, own₁, beside₁, announced-at, plan-step}
 use Rattle.simulation.proofs.Landing.{means₁, work, made-leaf, directed-keeps, landed}
 use Rattle.machine.proofs.Keeping.{goes}
 use Rattle.table.specs.Turns.{updateAt}
@@ -35,12 +35,6 @@ use Rattle.simulation.proofs.Resolving as Resolving
 use Rattle.simulation.proofs.Resolving.{Start, Resolved, resolves, unmarked}
 
 module _ {s : Settings} {l : List ℕ} {m : Machine} {w : ℕ} (ready : Ready s l m w) where
-  abbrev wn : w < s .workers
-  wn = ready .known
-
-  abbrev means : Meaning s l m
-  means = ready .means
-
   abbrev k : Task
   k = tasksOf s m w
 
@@ -64,11 +58,8 @@ module _ {s : Settings} {l : List ℕ} {m : Machine} {w : ℕ} (ready : Ready s 
   abbrev v : Worker
   v = counted (m .workers w) (m .workers w .reads) none
 
-  beside : (i : ℕ) → 4 < i → i < 4 * s .workers + 24 → at s l₁ (worker w) i ≡ at s l (worker w) i
-  beside i h b = raised-beside s l (means .lent) w wn (m .workers w .steps) i b (λ e. omega arith)
-
   nine : at s l₁ (worker w) 9 ≡ at s l (worker w) 9
-  nine = beside 9 (omega arith) (omega arith)
+  nine = beside₁ ready 9 (omega arith) (λ e. omega arith)
 
   module _ (p r : Two) (here : k .pc ≡ inD p r swapD) (fresh : DirectoryFresh c k)
       (next : taskOf (s .workers) v .pc ≡ afterD p r) where
@@ -76,7 +67,7 @@ module _ {s : Settings} {l : List ℕ} {m : Machine} {w : ℕ} (ready : Ready s 
     means₀ = means₁ ready p r here fresh next
 
     marks : Marks s l m w
-    marks = means .workers w wn .marks (subst⁻¹ HasWork here tt) fresh
+    marks = worker-means ready .marks (subst⁻¹ HasWork here tt) fresh
 
     -- a mark on the words is one of the working copy
     marked : (i a : ℕ) → i < s .workers → Resolving.Marks s l₁ c w slots o i a → Marked s l m w a
@@ -88,8 +79,8 @@ module _ {s : Settings} {l : List ℕ} {m : Machine} {w : ℕ} (ready : Ready s 
         range = ready .range;
         enough = means₀ .lent;
         keeps = directed-keeps ready p r here fresh next;
-        known = wn;
-        seen = slots-kept ready l₁ (λ i h. beside i (omega arith));
+        known = (ready .known);
+        seen = slots-kept ready l₁ (λ i h b. beside₁ ready i b (λ e. omega arith));
       };
       coherent = ready .good .directory;
       directory = means₀ .directory;
@@ -129,17 +120,13 @@ module _ {s : Settings} {l : List ℕ} {m : Machine} {w : ℕ} (ready : Ready s 
     long-enough : nothingToSplit l₁ s q ≡ eqb (word l₁ (q + 9)) 0
     unfolding nothingToSplit
     long-enough = rw (le-ltb (length l₁) (wordsNeeded s) (means₀ .lent)) (or-false (eqb (word l₁ (q + 9)) 0))
-      where
-        or-false : (b : Bool) → (b || false) ≡ b
-        or-false true = refl
-        or-false false = refl
 
     swapped : redirectedAt l₁ s q ≡ set l₂ 3 (freshDirectory l₁ (s .workers))
     unfolding redirectedAt l₂
     swapped =
         let three = own-head (own₁ ready) 3 (omega arith) in
         rw (← long-enough) (if-eq (word l₁ (q + 8)) (word l₁ 3) _ _
-        (beside 8 (omega arith) (omega arith) ∙ means .workers w wn .directory (subst⁻¹ HasDirectory here tt) .from fresh ∙ sym three))
+        (beside₁ ready 8 (omega arith) (λ e. omega arith) ∙ worker-means ready .directory (subst⁻¹ HasDirectory here tt) .from fresh ∙ sym three))
 
     redirected-means : Meaning s (redirectedAt l₁ s q) (record { cells = redirectedCells c k; workers = assign (m .workers) w v })
     redirected-means = rw swapped (landed ready p r here fresh next l₂ (resolution .copy) (resolution .mid) leaves)
@@ -152,5 +139,5 @@ module _ {s : Settings} {l : List ℕ} {m : Machine} {w : ℕ} (ready : Ready s 
   redirects-means p r e fresh y f =
       let a = announced-at ready (inD p r swapD) e in
       let g : y ≡ m .workers w .reads = ap (λ (x : Task). x .reads) f in
-      rw (update-enters s (ready .range) l m means (ready .good) w wn (a .wanted) _ (a .asks) e, g)
+      rw (plan-step ready _ a e, g)
       (redirected-means p r e fresh (ap (λ (x : Task). x .pc) f), refl)

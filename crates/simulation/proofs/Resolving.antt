@@ -1,8 +1,7 @@
 -- The marked buckets resolved in place, one after the other: the words then stand for the machine's working copy.
 -- Rests on taking the updates of one bucket, and on what a round makes of a full bucket.
-use Prim.Native.Nat.{ℕ, zero, suc, _+_, _/_, _%_, _^_, _≤_, _<_}
+use Prim.Native.Nat.{ℕ, zero, suc, _+_, _≤_, _<_}
 use native.Mathlib.Omega.{arith}
-use native.Mathlib.Nat.{zero-div}
 use native.Mathlib.Decide.{ℕ-discrete}
 use mathlib.Core.Path.{_≡_, refl, ap, sym, _∙_, subst}
 use mathlib.Core.Logic.{_≢_, inl, by-cases}
@@ -11,14 +10,13 @@ use mathlib.Core.List.{List}
 use lib.Dec.{eqb}
 use borrow.Author.Tests.{eqb-true, eqb-false}
 use Rattle.interface.specs.declared.Settings.{Settings}
-use Rattle.interface.proofs.Laws.{range-of}
 use Rattle.machine.specs.Choice.{if_then_else_}
 use Rattle.machine.specs.Sequential.{Update, account}
 use Rattle.machine.specs.Records.{bucketOf, Name, Body, kept, made, Copy, Slot, empty, announced, Cells}
 use Rattle.machine.specs.BucketPass.{splittable}
 use Rattle.machine.specs.DirectoryPass.{copyOf, leafOf, nameOf, plant, takeSlots}
 use Rattle.machine.proofs.Base.{if-elim}
-use Rattle.machine.proofs.Copies.{nameAt, Inside, Coherent, within, name-at, same-leaf, leafOf-copyOf, due}
+use Rattle.machine.proofs.Copies.{Inside, Coherent, Grove, grove-name, grove-of, same-leaf, leafOf-copyOf, due}
 use Rattle.machine.proofs.Inv.{leaf, leafBody, body, resolved, Grown}
 use Rattle.machine.proofs.Resolve.{taken-inside, taken-outside}
 use Rattle.memory.specs.Layout.{worker, record′, startOf}
@@ -29,12 +27,13 @@ use Rattle.engine.specs.Engine.{markedAt, recordFor}
 use Rattle.engine.specs.Splits.{duesAt, takenAll, resolvedAt}
 use Rattle.simulation.specs.Meaning.{at, nameIn, accountIn, Directs}
 use Rattle.simulation.proofs.Frames.{keeps-same, worker-wide}
-use Rattle.simulation.proofs.Entering.{directed-record}
+use Rattle.simulation.proofs.Entering.{depth-bound, directed-record}
 use Rattle.simulation.proofs.Halves.{frame-refl}
 use Rattle.simulation.proofs.InPlace.{Old, Content, Mid}
 use Rattle.simulation.proofs.Replanting.{replant}
 use Rattle.simulation.proofs.Taking.{Begun, slot-read, slot-is, takes-mid}
 use Rattle.simulation.proofs.Dues.{dues-bits, due-at}
+use Rattle.simulation.proofs.WordBits.{bit-zero}
 
 -- words l₀, cells c₀, the slots that worker w has read, and its working copy o
 module _ (s : Settings) (l₀ : List ℕ) (c₀ : Cells) (w : ℕ) (slots : ℕ → Slot) (o : Copy) where
@@ -69,7 +68,7 @@ module _ {s : Settings} {l₀ : List ℕ} {c₀ : Cells} {w : ℕ} {slots : ℕ 
   Middle = Mid s l₀ c₀
 
   small : s .depth ≤ 32
-  small = omega (arith, range-of (s .workers) (s .capacity) (s .depth) (begun .range) .greatest-depth)
+  small = depth-bound s (begun .range)
 
   start-mid : Middle l₀ (copyOf (c₀ .directory .value))
   unfolding leafOf copyOf bucketOf
@@ -100,21 +99,8 @@ module _ {s : Settings} {l₀ : List ℕ} {c₀ : Cells} {w : ℕ} {slots : ℕ 
   abbrev p : ℕ
   p = startOf s (worker w)
 
-  inside₀ : (a : ℕ) → Inside (leaf c₀ a) a
-  unfolding leafOf copyOf bucketOf
-  inside₀ a = b₀ .coherent .named a
-
-  shared₀ : (a e : ℕ) → Inside (leaf c₀ a) e → leaf c₀ e ≡ leaf c₀ a
-  unfolding leafOf copyOf bucketOf
-  shared₀ a e h = ap nameOf (b₀ .coherent .shared a e h)
-
-  named₀ : (a : ℕ) → leaf c₀ a ≡ nameAt (leaf c₀ a .depth) a
-  unfolding leafOf copyOf bucketOf
-  named₀ a = name-at (b₀ .coherent) a
-
-  low₀ : (a : ℕ) → leaf c₀ a .depth ≤ s .depth
-  unfolding leafOf copyOf bucketOf
-  low₀ a = omega (arith, within (b₀ .coherent) a, b₀ .coherent .bound)
+  grove : Grove (s .depth) (leaf c₀)
+  grove = grove-of _ (b₀ .coherent)
 
   -- the bucket of account a₀, whose worker j has marked it
   module _ (j : ℕ) (jn : j < s .workers) (l : List ℕ) (h : Resolved s l₀ c₀ w slots o j l) (u : Update) (t : ℕ) (read : slots j ≡ announced u t)
@@ -163,8 +149,8 @@ module _ {s : Settings} {l₀ : List ℕ} {c₀ : Cells} {w : ℕ} {slots : ℕ 
 
     flags : (i : ℕ) → i < s .workers → eqb (bit dues i) 1 ≡ due x b i (slots i)
     flags i k =
-        let z = old a₀ (inside₀ a₀) .0 in
-        let d = low₀ a₀ in
+        let z = old a₀ (grove .named a₀) .0 in
+        let d = grove .bound a₀ in
         let c = small in
         dues-bits l s p _ (s .workers) i k
         ∙ due-at s (begun .range) l (mid .place a₀) x (c₀ .buckets x) (mid .stands a₀ .named ∙ ap nameOf there) (omega arith)
@@ -180,13 +166,14 @@ module _ {s : Settings} {l₀ : List ℕ} {c₀ : Cells} {w : ℕ} {slots : ℕ 
 
     after-inside : (a : ℕ) → leaf c₀ a ≡ x → leafOf after a ≡ leafOf o a
     after-inside a e =
-        let i : Inside x a = subst (λ (y : Name). Inside y a) e (inside₀ a) in
-        taken-inside s small x a₀ (named₀ a₀) (low₀ a₀) b slots (h .copy) (mid .coherent) there (s .workers) a i
+        let i : Inside x a = subst (λ (y : Name). Inside y a) e (grove .named a) in
+        taken-inside s small x a₀ (grove-name grove a₀) (grove .bound a₀) b slots (h .copy) (mid .coherent) there (s .workers) a i
         ∙ ap (λ (y : Name). leafOf (resolved s y (body c₀ y) slots (s .workers)) a) (sym e) ∙ sym (b₀ .grown j a jn (mine a e) .is)
 
     after-outside : (a : ℕ) → leaf c₀ a ≢ x → leafOf after a ≡ leafOf (h .copy) a
     after-outside a d =
-        taken-outside s small x a₀ (named₀ a₀) (low₀ a₀) b slots (h .copy) (mid .coherent) there (s .workers) a (λ i. d (shared₀ a₀ a i))
+        taken-outside s small x a₀ (grove-name grove a₀) (grove .bound a₀) b slots (h .copy) (mid .coherent) there (s .workers) a
+        (λ i. d (grove .shared a₀ a i))
 
     next : Resolved s l₀ c₀ w slots o (suc j) (takenAll l s p dues (s .workers))
     next = record {
@@ -247,12 +234,11 @@ module _ {s : Settings} {l₀ : List ℕ} {c₀ : Cells} {w : ℕ} {slots : ℕ 
 
   -- where there is no mark there is nothing to do
   pub unmarked : at s l₀ (worker w) 9 ≡ 0 → Resolved s l₀ c₀ w slots o (s .workers) l₀
-  unfolding bit
   unmarked e = record {
     copy = start .copy;
     mid = start .mid;
     done = λ a i k g.
-        let z : 0 / 2 ^ i % 2 ≡ 1 = rw e at (g .marked) in
-        absurd (omega (arith, zero-div (2 ^ i)));
+        let z : bit 0 i ≡ 1 = rw e at (g .marked) in
+        absurd (omega (arith, bit-zero i));
     rest = λ a g. start .rest a (λ i k. absurd (omega arith));
   }

@@ -9,7 +9,6 @@ use mathlib.Core.Logic.{_≢_, _⊎_, inl, inr, by-cases}
 use mathlib.Core.Bool.{Bool, true, false, _||_}
 use mathlib.Core.List.{List}
 use lib.Dec.{ltb, eqb}
-use lib.Pow.{pow-pos}
 use borrow.Author.Tests.{eq-eqb, eqb-true, lt-ltb, le-ltb, ltb-true, ltb-false}
 use Rattle.interface.specs.declared.Settings.{Settings}
 use Rattle.machine.specs.Choice.{if_then_else_}
@@ -19,6 +18,8 @@ use Rattle.layout.specs.Shape.{word, directoryStart}
 use Rattle.layout.specs.Places.{workerAt}
 use Rattle.layout.specs.Numbers.{leastFree}
 use Rattle.layout.specs.Records.{recordStart, poolOf, firstEntry, currentAt, heldByAny, usedAt, spareFrom, spareOf}
+use Rattle.layout.proofs.Checks.{or-parts}
+use Rattle.layout.proofs.Pool.{entry-below, spare-below}
 use Rattle.simulation.specs.Meaning.{at}
 use Rattle.simulation.proofs.Numbering.{Among, least-free, any-some, some-any}
 use Rattle.simulation.proofs.Entering.{worker-start, entry-start, record-start, at-first}
@@ -27,10 +28,6 @@ use Rattle.simulation.proofs.Halves.{Spare}
 or-true : (x y : Bool) → (x || y) ≡ true → (x ≡ true) ⊎ (y ≡ true)
 or-true true y e = inl refl
 or-true false y e = inr e
-
-or-false : (x y : Bool) → (x || y) ≡ false → (x ≡ false) × (y ≡ false)
-or-false true y e = absurd (no-both refl e)
-or-false false y e = (refl, e)
 
 least-le : (taken : ℕ → Bool) (k i : ℕ) → leastFree taken i k ≤ i + k
 unfolding leastFree
@@ -61,10 +58,6 @@ module _ (s : Settings) (l : List ℕ) where
   abbrev list : ℕ → ℕ
   list i = if ltb i entries then named (word l (D + i)) else named (word l (workerAt (s .workers) (i - entries) + 5))
 
-  entry-below : (d q : ℕ) → firstEntry s d q < entries
-  unfolding firstEntry
-  entry-below d q = mod-lt (q * 2 ^ (s .depth - d)) (pow-pos (s .depth))
-
   used-among : (r : ℕ) → usedAt l s r ≡ true → Among (entries + s .workers) list r
   unfolding usedAt currentAt heldByAny
   used-among r h = go (or-true _ _ h)
@@ -72,7 +65,7 @@ module _ (s : Settings) (l : List ℕ) where
       go : (currentAt l s (recordStart s r) ≡ true) ⊎ (heldByAny l (s .workers) (recordStart s r) ≡ true) → Among (entries + s .workers) list r
       go (inl e) =
           let i : ℕ = firstEntry s (word l (recordStart s r + 3)) (word l (recordStart s r + 4)) in
-          let b : i < entries = entry-below (word l (recordStart s r + 3)) (word l (recordStart s r + 4)) in
+          let b : i < entries = entry-below s (word l (recordStart s r + 3)) (word l (recordStart s r + 4)) in
           record {
             place = i;
             below = omega arith;
@@ -105,12 +98,12 @@ module _ (s : Settings) (l : List ℕ) where
   abbrev Ahead : ℕ → ℕ → ℕ → Type 0
   Ahead r k u = ((r ≤ u) × (u < r + k)) ⊎ ((u < r) × (u + poolOf s < r + k))
 
-  found : (k r : ℕ) → r < poolOf s → Ahead r k free → (usedAt l s (spareFrom l s r k) ≡ false) × (spareFrom l s r k < poolOf s)
+  found : (k r : ℕ) → r < poolOf s → Ahead r k free → usedAt l s (spareFrom l s r k) ≡ false
   unfolding spareFrom
   found zero r h a = absurd (elim a [ inl z ↦ omega (arith, z .0, z .1) | inr z ↦ omega (arith, z .0, z .1, h) ])
   found (suc k) r h a =
-      if-elim (λ (x : ℕ). (usedAt l s x ≡ false) × (x < poolOf s)) (usedAt l s r) _ _
-      (λ e. let n = next e in found k (if ltb (suc r) (poolOf s) then suc r else 0) (n .0) (n .1)) (λ e. (e, h))
+      if-elim (λ (x : ℕ). usedAt l s x ≡ false) (usedAt l s r) _ _
+      (λ e. let n = next e in found k (if ltb (suc r) (poolOf s) then suc r else 0) (n .0) (n .1)) (λ e. e)
     where
       On : ℕ → Type 0
       On x = (x < poolOf s) × Ahead x k free
@@ -135,7 +128,7 @@ module _ (s : Settings) (l : List ℕ) where
             ],
           ))
 
-  search : (usedAt l s (spareOf l s) ≡ false) × (spareOf l s < poolOf s)
+  search : usedAt l s (spareOf l s) ≡ false
   unfolding spareOf
   search =
       let f = free-within in
@@ -147,18 +140,18 @@ module _ (s : Settings) (l : List ℕ) where
 
   pub spare-within : spareOf l s < poolSize s
   unfolding poolSize poolOf
-  spare-within = search .1
+  spare-within = spare-below l s
 
   pub spare-unheld : (j : ℕ) → j < s .workers → at s l (worker j) 5 ≢ startOf s (record′ (spareOf l s))
   unfolding usedAt heldByAny
   spare-unheld j h e =
       let z : word l (workerAt (s .workers) j + 5) ≡ recordStart s (spareOf l s) = rw (worker-start, record-start) e in
       no-both (some-any (s .workers) (λ i. eqb (word l (workerAt (s .workers) i + 5)) (recordStart s (spareOf l s))) j h (eq-eqb _ _ z))
-      (or-false (currentAt l s (recordStart s (spareOf l s))) _ (search .0) .1)
+      (or-parts (currentAt l s (recordStart s (spareOf l s))) _ search .1)
 
   pub spare-unnamed : Spare s l (spareOf l s)
   unfolding usedAt currentAt
   spare-unnamed e =
       let q : ℕ = recordStart s (spareOf l s) in
       let z : word l (D + firstEntry s (word l (q + 3)) (word l (q + 4))) ≡ q = rw (record-start, entry-start) (at-first s l _ ∙ e) in
-      no-both (eq-eqb _ _ z) (or-false _ _ (search .0) .0)
+      no-both (eq-eqb _ _ z) (or-parts _ _ search .0)

@@ -18,7 +18,7 @@ use Rattle.memory.proofs.Regions.{region-inside}
 use Rattle.layout.specs.Shape.{word}
 use Rattle.engine.specs.Splits.{deepenedAt}
 use Rattle.simulation.specs.Meaning.{at}
-use Rattle.simulation.proofs.Frames.{header-start, header-wide, entry-wide, record-wide, Inside, elsewhere-inside, set-inside}
+use Rattle.simulation.proofs.Frames.{inside-head, header-start, header-wide, entry-wide, record-wide, Inside, elsewhere-inside, set-inside}
 use Rattle.simulation.proofs.BucketWords.{Stored}
 use Rattle.simulation.proofs.Halves.{inside-frame, frame-refl, Frame, SameRecord, Deepened, Restated}
 
@@ -27,7 +27,7 @@ use Rattle.simulation.proofs.Halves.{inside-frame, frame-refl, Frame, S
 module _ (s : Settings) where
   module _ {l l′ : List ℕ} (r : ℕ) (f : Inside s (record′ r) l l′) where
     pub head-same : (i : ℕ) → i < 16 → word l′ i ≡ word l i
-    head-same i h = rw (header-start, zero-add) at (f .same header i tt (rw header-wide h) (λ e. let z : _≡_ {A = ℕ} 0 1 = cc in omega arith))
+    head-same = inside-head f (λ e. let z : _≡_ {A = ℕ} 0 1 = cc in omega arith)
 
     pub record-frame : Frame s l l′
     record-frame = inside-frame s (record′ r) (λ x. x) f (λ i h d e. head-same i h)

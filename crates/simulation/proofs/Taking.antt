@@ -19,12 +19,12 @@ use Rattle.machine.specs.Records.{Name, Body, State, Bucket, Leaf, kept, made, 
 use Rattle.machine.specs.BucketPass.{settledAt, full, holdsBack, splittable, carryOut}
 use Rattle.machine.specs.DirectoryPass.{leafOf, nameOf, plant, child, split, splitLeaf, splitWhile, carryLeaf, takeUpdate, takeSlot, takeSlots}
 use Rattle.machine.specs.Words.{wordsNeeded}
-use Rattle.machine.proofs.Base.{no-both, if-eq, eq-elim, and-parts}
-use Rattle.machine.proofs.Copies.{leaf-split, Coherent, within, own-leaf, MadeIn, refined-takeSlots, splittable-below, due}
+use Rattle.machine.proofs.Base.{no-both, if-eq, and-parts}
+use Rattle.machine.proofs.Copies.{leaf-split, Coherent, within, own-leaf, refined-takeSlots, splittable-below, due}
 use Rattle.machine.proofs.Inv.{leaf, IsMade}
 use Rattle.bucket.specs.declared.BucketState.{BucketState}
 use Rattle.bucket.specs.State.{bit, fullOf, carryOf}
-use Rattle.bucket.specs.Items.{bitsOf, updateOf, readSlot, Means}
+use Rattle.bucket.specs.Items.{bitsOf, readSlot, Means}
 use Rattle.bucket.proofs.Ties.{full-means, carry-means}
 use Rattle.memory.proofs.States.{least-same, least-bound}
 use Rattle.memory.specs.Loads.{loadedState, storedState}
@@ -36,30 +36,13 @@ use Rattle.engine.specs.Splits.{halfAt, deepenedAt, splitAt, splitWhileAt, carr
 use Rattle.simulation.specs.Meaning.{at, nameIn, Keeps, Directs}
 use Rattle.simulation.proofs.Frames.{worker-wide, keeps-same}
 use Rattle.simulation.proofs.Halves.{Deepened, Halved}
-use Rattle.simulation.proofs.Entering.{directed-record, account-of}
+use Rattle.simulation.proofs.Entering.{depth-bound, directed-record, Announces, announces}
 use Rattle.simulation.proofs.BucketWords.{Stored, stored-words, carry-count}
 use Rattle.simulation.proofs.Storing.{deepened-at, stored-beside, restated}
 use Rattle.simulation.proofs.Halving.{halved-at}
-use Rattle.simulation.proofs.OwnWorker.{SeenSlots}
+use Rattle.simulation.proofs.OwnWorker.{SeenSlots, made-in}
 use Rattle.simulation.proofs.Replanting.{replant}
 use Rattle.simulation.proofs.InPlace.{name-short, split-mid, Content, Mid}
-
--- the words of a slot that has update u with ticket t
-pub record Announces (k a v n : ℕ) (u : Update) (t : ℕ) : Type 0 where
-  pub update : updateOf k a v ≡ u
-  pub account : a ≡ account u
-  pub ticket : n ≡ t
-
-announces : (k a v n : ℕ) (u : Update) (t : ℕ) → readSlot k a v n ≡ announced u t → Announces k a v n u t
-unfolding readSlot
-announces k a v n u t =
-    eq-elim (λ (o : Slot). o ≡ announced u t → Announces k a v n u t) k 0 empty (announced (updateOf k a v) n)
-    (λ e q. let z : _≡_ {A = ℕ} 0 1 = cc in absurd (omega arith))
-    (λ d q. let e : updateOf k a v ≡ u = cc in record { update = e; account = sym (account-of k a v) ∙ ap account e; ticket = cc })
-
-in-made : (x : Name) (y : Leaf) → MadeIn x y → IsMade y
-in-made x (kept z) m = m
-in-made x (made z b) m = tt
 
 -- the record at q keeps a state of body b
 record Held (s : Settings) (l : List ℕ) (q : ℕ) (b : Body) : Type 0 where
@@ -79,14 +62,11 @@ pub record Begun (s : Settings) (l₀ : List ℕ) (c₀ : Cells) (w : ℕ) (slot
   pub seen : SeenSlots s w l₀ slots
 
 module _ {s : Settings} {l₀ : List ℕ} {c₀ : Cells} {w : ℕ} {slots : ℕ → Slot} (begun : Begun s l₀ c₀ w slots) where
-  abbrev range : inRange (s .workers) (s .capacity) (s .depth) ≡ true
-  range = begun .range
-
   limits : Range (s .workers) (s .capacity) (s .depth)
-  limits = range-of (s .workers) (s .capacity) (s .depth) range
+  limits = range-of (s .workers) (s .capacity) (s .depth) (begun .range)
 
   small : s .depth ≤ 32
-  small = omega (arith, limits .greatest-depth)
+  small = depth-bound s (begun .range)
 
   abbrev Middle : List ℕ → Copy → Type 0
   Middle = Mid s l₀ c₀
@@ -160,10 +140,10 @@ module _ {s : Settings} {l₀ : List ℕ} {c₀ : Cells} {w : ℕ} {slots : ℕ 
           let deep : Deepened s l l₁ (suc (x .depth)) = deepened-at s l enough′ (suc (x .depth)) in
           let l₂ : List ℕ = halfAt l₁ s (suc (x .depth)) (2 * x .prefix + 0) state in
           let one : Halved s l₁ l₂ (child x 0) b (spareOf l₁ s) = subst (λ (v : Body). Halved s l₁ l₂ (child x 0) v (spareOf l₁ s)) (h .body)
-          (halved-at s range l₁ (omega (arith, deep .frame .same-length, enough′)) (child x 0) state (h .value) low (omega arith) (h .means) few) in
+          (halved-at s (begun .range) l₁ (omega (arith, deep .frame .same-length, enough′)) (child x 0) state (h .value) low (omega arith) (h .means) few) in
           let l₃ : List ℕ = halfAt l₂ s (suc (x .depth)) (2 * x .prefix + 1) state in
           let two : Halved s l₂ l₃ (child x 1) b (spareOf l₂ s) = subst (λ (v : Body). Halved s l₂ l₃ (child x 1) v (spareOf l₂ s)) (h .body)
-          (halved-at s range l₂ (omega (arith, one .frame .same-length, deep .frame .same-length, enough′)) (child x 1) state (h .value) low
+          (halved-at s (begun .range) l₂ (omega (arith, one .frame .same-length, deep .frame .same-length, enough′)) (child x 1) state (h .value) low
           (omega arith) (h .means) few) in
           split-mid s l₀ c₀ small l c mid a x b there splits l₁ l₂ l₃ (spareOf l₁ s) (spareOf l₂ s) deep one two
 
@@ -312,7 +292,7 @@ module _ {s : Settings} {l₀ : List ℕ} {c₀ : Cells} {w : ℕ} {slots : ℕ 
         l′ = storedState l q (s .capacity) (s .workers) after
 
         stored : Keeps s l r (newBucket b) → Stored s l l′ r (newBucket (carryOut i u t b) .state .value)
-        stored k = stored-words s range l (enough′ l c mid) r w′ after _ (means k) few
+        stored k = stored-words s (begun .range) l (enough′ l c mid) r w′ after _ (means k) few
 
         keeps : Keeps s l r (newBucket b) → Keeps s l′ r (newBucket (carryOut i u t b))
         keeps k =
@@ -384,7 +364,7 @@ module _ {s : Settings} {l₀ : List ℕ} {c₀ : Cells} {w : ℕ} {slots : ℕ 
         by q (announced u t) e = test (due x b k (announced u t)) refl
           where
             test : (v : Bool) → due x b k (announced u t) ≡ v → Goal v (if v then takeUpdate s k u t c′ else c′)
-            test true f = take-mid k h u t e l′ c′ q (in-made x (leafOf c′ (account u))
+            test true f = take-mid k h u t e l′ c′ q (made-in x (leafOf c′ (account u))
                 (refined-takeSlots small s (omega arith) coherent a₀ x there b slots k .inside (account u)
                 (eqb-true (firstBits (x .depth) (account u)) (x .prefix) (and-parts _ (not (settledAt b k t)) f .0))))
             test false f = q

@@ -1,21 +1,30 @@
 -- Single bits of a word: one set, one taken away, one flipped. Rests on the laws of powers of two.
 use Prim.Native.Nat.{ℕ, suc, _+_, _-_, _*_, _/_, _%_, _^_, _<_}
-use native.Mathlib.Nat.{add-div-right, add-mul-div-right, mod-lt, div-eq-of-lt}
+use native.Mathlib.Nat.{add-div-right, add-mul-div-right, mod-lt, zero-div}
 use native.Mathlib.Omega.{arith}
 use native.Mathlib.Decide.{decLt}
 use mathlib.Core.Path.{_≡_, ap, sym, _∙_}
 use mathlib.Core.Logic.{_≢_, by-cases}
-use mathlib.Core.Bool.{not}
+use mathlib.Core.Bool.{false, not}
 use lib.Dec.{eqb}
-use lib.Pow.{pow-add, pow-pos, shr-shr}
+use lib.Pow.{pow-pos, shr-shr}
 use Rattle.machine.proofs.Base.{eq-elim}
 use Rattle.bucket.specs.State.{bit}
 use Rattle.bucket.specs.Items.{bitsOf}
 use Rattle.engine.specs.Engine.{flipBit}
+use Rattle.engine.proofs.Bits.{pow-above, bit-clear-fits}
 
 pub bit-below : (x j : ℕ) → bit x j < 2
 unfolding bit
 bit-below x j = mod-lt (x / 2 ^ j) (omega arith)
+
+pub bit-zero : (j : ℕ) → bit 0 j ≡ 0
+unfolding bit
+bit-zero j = ap (λ (k : ℕ). k % 2) (zero-div (2 ^ j))
+
+pub no-bits : (j : ℕ) → bitsOf 0 j ≡ false
+unfolding bitsOf
+no-bits j = ap (λ (k : ℕ). eqb k 1) (bit-zero j)
 
 -- ---- a bit that is 0 set
 
@@ -34,11 +43,8 @@ module _ (x w : ℕ) (clear : bit x w ≡ 0) where
       -- the bits from j on change by an even number
       lower : j < w → (x + 2 ^ w) / 2 ^ j % 2 ≡ x / 2 ^ j % 2
       lower h =
-          let e : w ≡ w - suc j + 1 + j = omega arith in
-          let p : 2 ^ w ≡ 2 ^ (w - suc j) * 2 * 2 ^ j =
-          ap (λ (k : ℕ). 2 ^ k) e ∙ pow-add 2 (w - suc j + 1) j ∙ ap (λ (k : ℕ). k * 2 ^ j) (pow-add 2 (w - suc j) 1) in
           let q : (x + 2 ^ w) / 2 ^ j ≡ x / 2 ^ j + 2 ^ (w - suc j) * 2 =
-          ap (λ (k : ℕ). (x + k) / 2 ^ j) p ∙ add-mul-div-right x (2 ^ (w - suc j) * 2) (pow-pos j) in
+          ap (λ (k : ℕ). (x + k) / 2 ^ j) (pow-above w j h) ∙ add-mul-div-right x (2 ^ (w - suc j) * 2) (pow-pos j) in
           rw q (omega arith)
 
       -- the bits above w stay
@@ -54,10 +60,7 @@ module _ (x w : ℕ) (clear : bit x w ≡ 0) where
 
 module _ (x w : ℕ) (is : bit x w ≡ 1) where
   rest : x - 2 ^ w + 2 ^ w ≡ x
-  unfolding bit
-  rest = by-cases (decLt x (2 ^ w))
-      (λ h. let e : x / 2 ^ w ≡ 0 = div-eq-of-lt h in let z : x / 2 ^ w % 2 ≡ 1 = is in absurd (omega arith))
-      (λ h. omega arith)
+  rest = let h = bit-clear-fits x w (λ e. omega (arith, is)) in omega arith
 
   pub bit-cleared : bit (x - 2 ^ w) w ≡ 0
   unfolding bit

@@ -1,12 +1,26 @@
 -- `direct` makes a bucket's entries of the directory name a record.
 -- Rests on the bounds of entries.
-use Prim.Native.Nat.{_-_}
+use Prim.Native.Nat.{_+_, _-_, _*_, _%_, _^_, _≤_}
 use native.Mathlib.Omega.{arith}
+use mathlib.Core.Path.{_≡_}
 use borrow.Author.Needs.{needs}
-use Rattle.layout.proofs.Pool.{pow-small, shifted}
+use lib.ListN.{length}
+use Rattle.layout.proofs.Pool.{shift-one}
 use Rattle.engine.proofs.Splitting.{directed-inside, directed-is}
 use Rattle.engine.proofs.splits.direct.Statement.{statement}
 use Rattle.engine.proofs.splits.direct.Tie as tie
+
+-- the bucket's entries are inside the words
+inside :
+    (c : tie.After-first-entry)
+    → let start = c .before .before .before in c .before .directory-start .result + c .first-entry .result + 2 ^ (start .args .g .depth - start .args .d)
+    ≤ length (start .args .words .now)
+inside c =
+    let start = c .before .before .before in
+    directed-inside (start .pre .0) (start .args .d) (start .args .q) _ _ (start .pre .1) (c .before .directory-start .ensures) (c .first-entry .ensures)
+
+width : (c : tie.After-first-entry) → let w = c .before .before .before .args .g .depth - c .before .before .before .args .d in 1 * 2 ^ w % 2 ^ 64 ≡ 2 ^ w
+width c = let start = c .before .before .before in shift-one _ (omega (arith, start .pre .0 .fits .depth))
 
 directory-start-requires : tie.Need-directory-start-requires
 directory-start-requires c κs = search needs
@@ -15,13 +29,7 @@ first-entry-requires : tie.Need-first-entry-requires
 first-entry-requires c κs = search needs
 
 add-from : tie.Need-add-from
-add-from c =
-    let start = c .before .before .before in
-    omega (
-      arith,
-      directed-inside (start .pre .0) (start .args .d) (start .args .q) _ _ (start .pre .1) (c .before .directory-start .ensures)
-          (c .first-entry .ensures),
-    )
+add-from c = omega (arith, inside c)
 
 sub-width : tie.Need-sub-width
 sub-width c = search needs
@@ -30,26 +38,10 @@ shl-width : tie.Need-shl-width
 shl-width c = search needs
 
 add-fill : tie.Need-add-fill
-add-fill c =
-    let entered = c .before .before in
-    let start = entered .before .before .before in
-    let few = pow-small (start .args .g .depth - start .args .d) (omega arith) in
-    omega (
-      arith,
-      directed-inside (start .pre .0) (start .args .d) (start .args .q) _ _ (start .pre .1) (entered .before .directory-start .ensures)
-          (entered .first-entry .ensures),
-    )
+add-fill c = omega (arith, inside (c .before .before), width (c .before .before))
 
 fill-requires : tie.Need-fill-requires
-fill-requires c κs =
-    let entered = c .before .before in
-    let start = entered .before .before .before in
-    let few = pow-small (start .args .g .depth - start .args .d) (omega arith) in
-    omega (
-      arith,
-      directed-inside (start .pre .0) (start .args .d) (start .args .q) _ _ (start .pre .1) (entered .before .directory-start .ensures)
-          (entered .first-entry .ensures),
-    )
+fill-requires c κs = omega (arith, inside (c .before .before), width (c .before .before))
 
 same-length : tie.Need-same-length
 same-length c = search needs
@@ -60,7 +52,7 @@ returns c =
     let entered = filled .before .before .before in
     let start = entered .before .before .before in
     directed-is _ _ _ (start .args .d) (start .args .q) _ _ _ _ (entered .before .directory-start .ensures) (entered .first-entry .ensures)
-    (shifted (start .args .g .depth - start .args .d) (omega arith)) (filled .fill .ensures)
+    (width entered) (filled .fill .ensures)
 
 pub direct-spec : {M : Type 1} → statement M
 direct-spec =

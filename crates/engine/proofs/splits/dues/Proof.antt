@@ -7,7 +7,8 @@ use mathlib.Core.Logic.{⊎-elim}
 use borrow.Author.Needs.{needs}
 use Rattle.layout.specs.Places.{workerAt}
 use Rattle.engine.specs.Splits.{duesAt}
-use Rattle.layout.proofs.Pool.{pow-small, shifted}
+use lib.Pow.{pow-mono}
+use Rattle.layout.proofs.Pool.{shift-one}
 use Rattle.engine.proofs.Splitting.{Dues, dues-start, dues-more, dues-same}
 use Rattle.engine.proofs.splits.dues.Statement.{statement}
 use Rattle.engine.proofs.splits.dues.Tie as tie
@@ -33,7 +34,7 @@ add-bits : tie.Need-add-bits Inv-loop μ-loop
 add-bits c =
     let here = c .before .before .before in
     let few = here .before .before .pre .0 .workers in
-    omega (arith, here .loop .inv .1 .small, pow-small (here .loop .i) (omega arith))
+    omega (arith, here .loop .inv .1 .small, pow-mono {i = here .loop .i} {j = 15} (omega arith))
 
 add-i : tie.Need-add-i Inv-loop μ-loop
 add-i c = search needs
@@ -48,7 +49,7 @@ loop-again c =
     let more = c .before .due .ensures in (
       search needs,
       ⊎-elim
-          (λ w. dues-more _ _ _ _ _ _ _ (here .loop .inv .1) more _ _ (w .0 .taken) (shifted (here .loop .i) (omega arith)) (w .1))
+          (λ w. dues-more _ _ _ _ _ _ _ (here .loop .inv .1) more _ _ (w .0 .taken) (shift-one (here .loop .i) (omega arith)) (w .1))
           (λ w. dues-same _ _ _ _ _ _ _ (here .loop .inv .1) more _ (w .0 .left) (w .1))
           (c .if1 .came),
     )

@@ -1,12 +1,20 @@
 -- `split` makes two buckets of one.
 -- Rests on the bounds of the halves' depth and prefix.
-use Prim.Native.Nat.{_+_, _-_, _%_}
+use Prim.Native.Nat.{_+_, _-_, _*_, _%_, _^_}
 use native.Mathlib.Omega.{arith}
+use mathlib.Core.Path.{_≡_}
 use borrow.Author.Needs.{needs}
-use Rattle.layout.proofs.Pool.{shifted}
-use Rattle.engine.proofs.Splitting.{depths, prefix-small, split-is}
+use Rattle.layout.proofs.Pool.{shift-one}
+use Rattle.engine.proofs.Splitting.{Depths, depths, prefix-small, split-is}
 use Rattle.engine.proofs.splits.split.Statement.{statement}
 use Rattle.engine.proofs.splits.split.Tie as tie
+
+-- the halves' depth, and the span of their prefixes
+deep : (c : tie.After-get) → Depths (c .before .before .before .args .g) (c .get .result)
+deep c = let start = c .before .before .before in depths (start .args .g) (c .get .result) (start .pre .1 .0) (start .pre .0 .fits .depth)
+
+span : (c : tie.After-get) → let d = c .get .result % c .before .before .before .args .g .depth + 1 - 1 in 1 * 2 ^ d % 2 ^ 64 ≡ 2 ^ d
+span c = let start = c .before .before .before in shift-one _ (omega (arith, deep c, start .pre .0 .fits .depth))
 
 add-get : tie.Need-add-get
 add-get c = search needs
@@ -18,9 +26,7 @@ rem-d : tie.Need-rem-d
 rem-d c = search needs
 
 add-d : tie.Need-add-d
-add-d c =
-    let start = c .before .before .before .before in
-    omega (arith, depths (start .args .g) (c .before .get .result) (start .pre .1 .0) (start .pre .0 .fits .depth))
+add-d c = omega (arith, deep (c .before), c .before .before .before .before .pre .0 .fits .depth)
 
 add-get-2 : tie.Need-add-get-2
 add-get-2 c = search needs
@@ -32,24 +38,16 @@ sub-p : tie.Need-sub-p
 sub-p c = search needs
 
 shl-p : tie.Need-shl-p
-shl-p c =
-    let read = c .before .before .before in
-    let start = read .before .before .before in
-    omega (arith, depths (start .args .g) (read .get .result) (start .pre .1 .0) (start .pre .0 .fits .depth))
+shl-p c = omega (arith, deep (c .before .before .before), c .before .before .before .before .before .before .pre .0 .fits .depth)
 
 rem-p : tie.Need-rem-p
-rem-p c =
-    let read = c .before .before .before in
-    let start = read .before .before .before in
-    omega (arith, depths (start .args .g) (read .get .result) (start .pre .1 .0) (start .pre .0 .fits .depth))
+rem-p c = omega (arith, deep (c .before .before .before))
 
 mul-p : tie.Need-mul-p
 mul-p c =
     let read = c .before .before .before in
     let start = read .before .before .before in
-    let d = depths (start .args .g) (read .get .result) (start .pre .1 .0) (start .pre .0 .fits .depth) in
-    let span = shifted (read .get .result % start .args .g .depth + 1 - 1) (omega arith) in
-    omega (arith, prefix-small (start .args .g) (read .get .result) (c .get2 .result) _ (start .pre .1 .0) (start .pre .0 .fits .depth) span)
+    omega (arith, prefix-small (start .args .g) (read .get .result) (c .get2 .result) _ (start .pre .1 .0) (start .pre .0 .fits .depth) (span read))
 
 load-state-requires : tie.Need-load-state-requires
 load-state-requires c κs = search needs
@@ -58,25 +56,18 @@ deepen-requires : tie.Need-deepen-requires
 deepen-requires c κs = search needs
 
 half-requires : tie.Need-half-requires
-half-requires c κs =
-    let read = c .before .before .before .before .before .before .before .before .before .before in
-    let start = read .before .before .before in
-    (search needs, omega (arith, depths (start .args .g) (read .get .result) (start .pre .1 .0) (start .pre .0 .fits .depth)))
+half-requires c κs = (search needs, omega (arith, deep (c .before .before .before .before .before .before .before .before .before .before)))
 
 add-half : tie.Need-add-half
 add-half c =
     let second = c .before .before .before .before .before .before .before .before .before .before .before in
     let read = second .before .before .before in
     let start = read .before .before .before in
-    let d = depths (start .args .g) (read .get .result) (start .pre .1 .0) (start .pre .0 .fits .depth) in
-    let span = shifted (read .get .result % start .args .g .depth + 1 - 1) (omega arith) in
-    omega (arith, prefix-small (start .args .g) (read .get .result) (second .get2 .result) _ (start .pre .1 .0) (start .pre .0 .fits .depth) span)
+    omega (arith, prefix-small (start .args .g) (read .get .result) (second .get2 .result) _ (start .pre .1 .0) (start .pre .0 .fits .depth) (span read))
 
 half-requires-2 : tie.Need-half-requires-2
 half-requires-2 c κs =
-    let read = c .before .before .before .before .before .before .before .before .before .before .before .before .before .before in
-    let start = read .before .before .before in
-    (search needs, omega (arith, depths (start .args .g) (read .get .result) (start .pre .1 .0) (start .pre .0 .fits .depth)))
+    (search needs, omega (arith, deep (c .before .before .before .before .before .before .before .before .before .before .before .before .before .before)))
 
 same-length : tie.Need-same-length
 same-length c = search needs
@@ -89,10 +80,7 @@ returns c =
     let loaded = deeper .before .before in
     let second = loaded .before .before in
     let read = second .before .before .before in
-    let start = read .before .before .before in
-    let d = depths (start .args .g) (read .get .result) (start .pre .1 .0) (start .pre .0 .fits .depth) in
-    let span = shifted (read .get .result % start .args .g .depth + 1 - 1) (omega arith) in
-    split-is _ _ _ _ _ _ _ _ _ _ (read .get .ensures) (second .get2 .ensures) span (loaded .load-state .ensures) (deeper .deepen .ensures)
+    split-is _ _ _ _ _ _ _ _ _ _ (read .get .ensures) (second .get2 .ensures) (span read) (loaded .load-state .ensures) (deeper .deepen .ensures)
     (first .half .ensures) (last .half2 .ensures)
 
 pub split-spec : {M : Type 1} → statement M

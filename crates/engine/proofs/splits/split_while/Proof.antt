@@ -1,14 +1,14 @@
 -- `split_while` splits an account's bucket while it is full. The loop's invariant: as many words, and f more splits give what all give; the
 -- measure: f. Rests on the outcomes of the loop's tests.
-use Prim.Native.Nat.{_≤_}
+use Prim.Native.Nat.{_+_, _≤_}
 use native.Mathlib.Omega.{arith}
 use mathlib.Core.Path.{_≡_, refl, sym, _∙_}
 use lib.ListN.{length}
 use borrow.Author.Needs.{needs}
-use Rattle.layout.specs.Shape.{Fits, Whole}
+use Rattle.layout.specs.Shape.{Whole}
 use Rattle.engine.specs.Splits.{splitWhileAt}
 use Rattle.layout.proofs.Pool.{whole-kept}
-use Rattle.layout.proofs.Positions.{fits-kept, record-inside}
+use Rattle.layout.proofs.Positions.{record-inside}
 use Rattle.engine.proofs.Splitting.{while-room, while-deep, while-turn, while-end}
 use Rattle.engine.proofs.splits.split_while.Statement.{statement}
 use Rattle.engine.proofs.splits.split_while.Tie as tie
@@ -20,19 +20,21 @@ Inv-loop words₀ g account f₀ words f =
 abbrev μ-loop : tie.MeasureT-loop
 μ-loop words₀ g account f₀ words f = f
 
+-- what the turns have left of the words holds every record, and the account's
+whole : (c : tie.At-loop Inv-loop μ-loop) → Whole (c .loop .words) (c .before .before .args .g)
+whole c = whole-kept (sym (c .loop .inv .1 .0)) (c .before .before .pre)
+
+inside : (c : tie.After-record-of Inv-loop μ-loop) → c .record-of .result + 54 ≤ length (c .before .before .before .loop .words)
+inside c = rw (c .record-of .ensures) (record-inside (whole (c .before .before .before) .fits) _)
+
 loop-holds : tie.Need-loop-holds Inv-loop μ-loop
 loop-holds c = (search needs, (refl, refl))
 
 record-of-requires : tie.Need-record-of-requires Inv-loop μ-loop
-record-of-requires c κs =
-    let here = c .before .before in
-    fits-kept (sym (here .loop .inv .1 .0)) (here .before .before .pre .fits)
+record-of-requires c κs = whole (c .before .before) .fits
 
 get-requires : tie.Need-get-requires Inv-loop μ-loop
-get-requires c κs =
-    let here = c .before .before .before .before in
-    let fits : Fits (here .loop .words) (here .before .before .args .g) = fits-kept (sym (here .loop .inv .1 .0)) (here .before .before .pre .fits) in
-    omega (arith, c .before .record-of .ensures, record-inside fits (here .before .before .args .account))
+get-requires c κs = omega (arith, inside (c .before))
 
 same-length : tie.Need-same-length Inv-loop μ-loop
 same-length c = search needs
@@ -44,18 +46,10 @@ returns c =
     while-room _ _ _ _ _ (found .record-of .ensures) (read .get .ensures) _ (c .if1 .taken) ∙ found .before .before .before .loop .inv .1 .1
 
 add-get : tie.Need-add-get Inv-loop μ-loop
-add-get c =
-    let found = c .before .before .before .before .before in
-    let here = found .before .before .before in
-    let fits : Fits (here .loop .words) (here .before .before .args .g) = fits-kept (sym (here .loop .inv .1 .0)) (here .before .before .pre .fits) in
-    omega (arith, found .record-of .ensures, record-inside fits (here .before .before .args .account))
+add-get c = omega (arith, inside (c .before .before .before .before .before))
 
 get-requires-2 : tie.Need-get-requires-2 Inv-loop μ-loop
-get-requires-2 c κs =
-    let found = c .before .before .before .before .before in
-    let here = found .before .before .before in
-    let fits : Fits (here .loop .words) (here .before .before .args .g) = fits-kept (sym (here .loop .inv .1 .0)) (here .before .before .pre .fits) in
-    omega (arith, found .record-of .ensures, record-inside fits (here .before .before .args .account))
+get-requires-2 c κs = omega (arith, inside (c .before .before .before .before .before))
 
 same-length-2 : tie.Need-same-length-2 Inv-loop μ-loop
 same-length-2 c = search needs
@@ -72,9 +66,7 @@ returns-2 c =
 split-requires : tie.Need-split-requires Inv-loop μ-loop
 split-requires c κs =
     let found = c .before .before .before .before .before .before .before .before .before in
-    let here = found .before .before .before in
-    let whole : Whole (here .loop .words) (here .before .before .args .g) = whole-kept (sym (here .loop .inv .1 .0)) (here .before .before .pre) in
-    (whole, (omega (arith, c .before .if2 .left), omega (arith, found .record-of .ensures, record-inside (whole .fits) (here .before .before .args .account))))
+    (whole (found .before .before .before), (omega (arith, c .before .if2 .left), inside found))
 
 sub-f : tie.Need-sub-f Inv-loop μ-loop
 sub-f c = search needs

@@ -1,12 +1,8 @@
 -- `announce` copies a worker's operation into its slot.
 -- Rests on the place of a worker's words.
-use Prim.Native.Nat.{ℕ}
 use native.Mathlib.Omega.{arith}
-use mathlib.Core.Path.{_∙_, ap}
 use mathlib.Core.Logic.{inr}
 use borrow.Author.Needs.{needs}
-use Rattle.lists.specs.Parts.{part, overlay}
-use Rattle.layout.specs.Places.{slotAt}
 use Rattle.engine.specs.Engine.{announcedAt}
 use Rattle.layout.proofs.Positions.{placed}
 use Rattle.engine.proofs.steps.announce.Statement.{statement}
@@ -31,10 +27,7 @@ same-length c = search needs
 
 returns : tie.Need-returns
 unfolding announcedAt
-returns c =
-    let s = c .before .before .before .before .before .before .args in
-    let l = s .words .now in
-    c .before .before .copy .ensures ∙ ap (λ (p : ℕ). overlay l (slotAt (s .w)) (part l p 4)) (c .before .before .before .worker-at .ensures)
+returns c = let copied = c .before .before in rw (copied .copy .ensures, copied .before .worker-at .ensures)
 
 pub announce-spec : {M : Type 1} → statement M
 announce-spec =

@@ -1,12 +1,8 @@
 -- `read_slot` copies a slot into a worker's record.
 -- Rests on the place of a worker's words.
-use Prim.Native.Nat.{ℕ}
 use native.Mathlib.Omega.{arith}
-use mathlib.Core.Path.{_∙_, ap}
 use mathlib.Core.Logic.{inl}
 use borrow.Author.Needs.{needs}
-use Rattle.lists.specs.Parts.{part, overlay}
-use Rattle.layout.specs.Places.{slotAt, readAt}
 use Rattle.engine.specs.Engine.{slotReadAt}
 use Rattle.layout.proofs.Positions.{placed}
 use Rattle.engine.proofs.steps.read_slot.Statement.{statement}
@@ -40,12 +36,7 @@ same-length c = search needs
 
 returns : tie.Need-returns
 unfolding slotReadAt
-returns c =
-    let worker-at = c .before .before .before .worker-at in
-    let copy = c .before .before .copy in
-    let s = c .before .before .before .before .before .before .args in
-    let l = s .words .now in
-    copy .ensures ∙ ap (λ (p : ℕ). overlay l (readAt p (s .j)) (part l (slotAt (s .j)) 4)) (worker-at .ensures)
+returns c = let copied = c .before .before in rw (copied .copy .ensures, copied .before .worker-at .ensures)
 
 pub read-slot-spec : {M : Type 1} → statement M
 read-slot-spec =

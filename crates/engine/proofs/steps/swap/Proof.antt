@@ -1,96 +1,65 @@
 -- `swap` carries out a round and takes a fresh number, if the state is still the one that was read.
--- Rests on the cases of `swappedAt`.
-use Prim.Native.Nat.{ℕ, _+_}
+-- Rests on the cases of `swappedAt`, and on the bound of a held record.
+use Prim.Native.Nat.{_+_, _≤_}
 use native.Mathlib.Omega.{arith}
 use mathlib.Core.Path.{_≡_, _∙_, ap}
 use lib.ListN.{length}
-use borrow.Author.Needs.{needs}
-use Rattle.layout.specs.Shape.{word}
 use Rattle.layout.specs.Places.{workerAt}
 use Rattle.engine.specs.Engine.{swappedAt}
-use Rattle.layout.proofs.Positions.{placed, held-inside}
-use Rattle.engine.proofs.Lengths.{length-round}
+use Rattle.layout.proofs.Positions.{held-inside}
 use Rattle.engine.proofs.Cases.{swap-none, swap-done}
+use borrow.Author.Needs.{needs}
 use Rattle.engine.proofs.steps.swap.Statement.{statement}
 use Rattle.engine.proofs.steps.swap.Tie as tie
+
+-- the record that the worker holds is inside the words
+inside : (c : tie.After-held-by) → c .held-by .result + 54 ≤ length (c .before .before .before .args .words .now)
+inside c = let start = c .before .before .before in rw (c .held-by .ensures) (held-inside (start .pre .0) _)
 
 held-by-requires : tie.Need-held-by-requires
 held-by-requires c κs = search needs
 
-worker-at-requires : tie.Need-worker-at-requires
-worker-at-requires c κs = search needs
+worker-word-requires : tie.Need-worker-word-requires
+worker-word-requires c κs = search needs
 
 add-get : tie.Need-add-get
-add-get c =
-    let known = c .before .before .before .before .before .pre in
-    let b = placed (known .0) _ (known .1) in
-    omega arith
+add-get c = let h = inside (c .before .before .before) in omega arith
 
 get-requires : tie.Need-get-requires
-get-requires c κs =
-    let known = c .before .before .before .before .before .pre in
-    let b = placed (known .0) _ (known .1) in
-    omega arith
-
-add-get-2 : tie.Need-add-get-2
-add-get-2 c =
-    let s = c .before .before .before .before .before .before .before .args in
-    let p = workerAt (s .g .workers) (s .w) in
-    let h = held-inside (c .before .before .before .before .before .before .before .pre .0) p in
-    omega arith
-
-get-requires-2 : tie.Need-get-requires-2
-get-requires-2 c κs =
-    let s = c .before .before .before .before .before .before .before .args in
-    let p = workerAt (s .g .workers) (s .w) in
-    let h = held-inside (c .before .before .before .before .before .before .before .pre .0) p in
-    omega arith
+get-requires c κs = let h = inside (c .before .before .before) in omega arith
 
 same-length : tie.Need-same-length
 same-length c = search needs
 
 returns : tie.Need-returns
 returns c =
-    let held-by = c .before .before .before .before .before .before .held-by in
-    let worker-at = c .before .before .before .before .worker-at in
-    let get = c .before .before .before .get in
-    let s = c .before .before .before .before .before .before .before .before .before .args in
-    let l = s .words .now in
-    let p = workerAt (s .g .workers) (s .w) in
-    swap-none l (s .g) p (held-by .result) _ _ (get .ensures ∙ ap (λ (p : ℕ). word l (p + 6)) (worker-at .ensures))
-    (c .before .get2 .ensures) (c .if1 .taken)
-    ∙ ap (swappedAt l (s .g) p) (held-by .ensures)
+    let read = c .before .before .before in
+    let held = read .before .before in
+    let args = held .before .before .before .args in
+    let p = workerAt (args .g .workers) (args .w) in
+    swap-none (args .words .now) (args .g) p _ _ _ (read .worker-word .ensures) (c .before .get .ensures) (c .if1 .taken)
+    ∙ ap (swappedAt (args .words .now) (args .g) p) (held .held-by .ensures)
 
 fresh-number-requires : tie.Need-fresh-number-requires
 fresh-number-requires c κs = search needs
 
 round-requires : tie.Need-round-requires
 round-requires c κs =
-    let s = c .before .before .before .before .before .before .before .before .before .before .before .before .args in
-    let p = workerAt (s .g .workers) (s .w) in
-    let known = c .before .before .before .before .before .before .before .before .before .before .before .before .pre in
-    let h = held-inside (known .0) p in (known .0, (known .1, omega arith))
+    let held = c .before .before .before .before .before .before .before .before in
+    let known = held .before .before .before .pre in
+    let h = inside held in (known .0, (known .1, omega arith))
 
 add-put : tie.Need-add-put
 add-put c =
-    let known = c .before .before .before .before .before .before .before .before .before .before .before .before .before .before .before .before .pre in
-    let s = c .before .before .before .before .before .before .before .before .before .before .before .before .before .before .before
-    .before .args in
-    let p = workerAt (s .g .workers) (s .w) in
-    let h = held-inside (known .0) p in
-    omega arith
+    let h = inside (c .before .before .before .before .before .before .before .before .before .before .before .before) in omega arith
 
 put-requires : tie.Need-put-requires
 put-requires c κs =
-    let start = c .before .before .before .before .before .before .before .before .before .before .before .before .before .before .before .before in
-    let held-by = c .before .before .before .before .before .before .before .before .before .before .before .before .before .held-by in
-    let round = c .before .before .before .round in
-    let s = start .args in
-    let l = s .words .now in
-    let p = workerAt (s .g .workers) (s .w) in
-    let h = held-inside (start .pre .0) p in
-    let e : length (round .last .0) ≡ length l =
-    ap length (round .ensures) ∙ length-round l (s .g) (start .pre .0) p (held-by .result) (omega arith) in
+    let round = c .before .before .before in
+    let held = round .before .before .before .before .before .before .before .before .before in
+    let start = held .before .before .before in
+    let h = inside held in
+    let e : length (round .round .last .0) ≡ length (start .args .words .now) = search needs in
     omega arith
 
 same-length-2 : tie.Need-same-length-2
@@ -98,33 +67,27 @@ same-length-2 c = search needs
 
 returns-2 : tie.Need-returns-2
 returns-2 c =
-    let held-by = c .before .before .before .before .before .before .before .before .before .before .before .before .before .before .before .before .held-by in
-    let worker-at = c .before .before .before .before .before .before .before .before .before .before .before .before .before .before .worker-at in
-    let get = c .before .before .before .before .before .before .before .before .before .before .before .before .before .get in
-    let get2 = c .before .before .before .before .before .before .before .before .before .before .before .get2 in
-    let if1 = c .before .before .before .before .before .before .before .before .before .before .if1 in
-    let fresh-number = c .before .before .before .before .before .before .before .before .fresh-number in
-    let round = c .before .before .before .before .before .before .round in
-    let put = c .before .before .put in
-    let s = c .before .before .before .before .before .before .before .before .before .before .before .before .before .before .before
-    .before .before .before .before .args in
-    let l = s .words .now in
-    let p = workerAt (s .g .workers) (s .w) in
-    put .ensures
-    ∙ swap-done l (s .g) p (held-by .result) _ _ (get .ensures ∙ ap (λ (p : ℕ). word l (p + 6)) (worker-at .ensures)) (get2 .ensures)
-    (if1 .left) _ _ (round .ensures) (fresh-number .ensures)
-    ∙ ap (swappedAt l (s .g) p) (held-by .ensures)
+    let put = c .before .before in
+    let round = put .before .before .before .before in
+    let fresh = round .before .before in
+    let tested = fresh .before .before in
+    let read = tested .before .before .before in
+    let held = read .before .before in
+    let args = held .before .before .before .args in
+    let p = workerAt (args .g .workers) (args .w) in
+    put .put .ensures
+    ∙ swap-done (args .words .now) (args .g) p _ _ _ (read .worker-word .ensures) (tested .before .get .ensures) (tested .if1 .left) _ _
+    (round .round .ensures) (fresh .fresh-number .ensures)
+    ∙ ap (swappedAt (args .words .now) (args .g) p) (held .held-by .ensures)
 
 pub swap-spec : {M : Type 1} → statement M
 swap-spec =
     tie.close
     (tie.spec
     held-by-requires
-    worker-at-requires
+    worker-word-requires
     add-get
     get-requires
-    add-get-2
-    get-requires-2
     same-length
     returns
     fresh-number-requires

@@ -21,16 +21,14 @@ loop-holds : tie.Need-loop-holds Inv-loop μ-loop
 unfolding freshDirectory
 loop-holds c = (search needs, (let e : c .before .args .g .workers - 0 ≡ c .before .args .g .workers = omega arith in rw e))
 
-directory-taken-requires : tie.Need-directory-taken-requires Inv-loop μ-loop
-directory-taken-requires c κs = c .before .before .before .before .pre
+any-has-requires : tie.Need-any-has-requires Inv-loop μ-loop
+any-has-requires c κs = (c .before .before .before .before .pre, omega arith)
 
 returns : tie.Need-returns Inv-loop μ-loop
+unfolding directoryTaken
 returns c =
-    let loop = c .before .before .before .before .loop in
-    let s = c .before .before .before .before .before .before .args in
-    sym
-    (least-hit (directoryTaken (s .words .now) (s .g .workers)) _ _ (sym (c .before .directory-taken .ensures) ∙ not-true _ (c .if2 .taken)))
-    ∙ loop .inv .1
+    let tested = c .before in
+    sym (least-hit _ _ _ (sym (tested .any-has .ensures) ∙ not-true _ (c .if2 .taken))) ∙ tested .before .before .before .loop .inv .1
 
 add-x : tie.Need-add-x Inv-loop μ-loop
 add-x c = search needs
@@ -39,20 +37,16 @@ loop-less : tie.Need-loop-less Inv-loop μ-loop
 loop-less c = search needs
 
 loop-again : tie.Need-loop-again Inv-loop μ-loop
+unfolding directoryTaken
 loop-again c =
-    let loop = c .before .before .before .before .loop in
-    let if1 = c .before .before .if1 in
-    let s = c .before .before .before .before .before .before .args in (
+    let tested = c .before in
+    let turn = tested .before in (
       search needs,
-      least-turn (directoryTaken (s .words .now) (s .g .workers)) _ _ (if1 .taken)
-          (sym (c .before .directory-taken .ensures) ∙ not-false _ (c .if2 .left))
-          ∙ loop .inv .1,
+      least-turn _ _ _ (turn .if1 .taken) (sym (tested .any-has .ensures) ∙ not-false _ (c .if2 .left)) ∙ turn .before .before .loop .inv .1,
     )
 
 returns-2 : tie.Need-returns-2 Inv-loop μ-loop
-returns-2 c =
-    let s = c .before .before .before .before .args in
-    sym (least-end (directoryTaken (s .words .now) (s .g .workers)) _ _ (c .if1 .left)) ∙ c .before .before .loop .inv .1
+returns-2 c = sym (least-end _ _ _ (c .if1 .left)) ∙ c .before .before .loop .inv .1
 
 pub fresh-directory-spec : {M : Type 1} → statement M
 fresh-directory-spec =
@@ -61,7 +55,7 @@ fresh-directory-spec =
     Inv-loop
     μ-loop
     loop-holds
-    directory-taken-requires
+    any-has-requires
     returns
     add-x
     loop-less

@@ -26,11 +26,8 @@ number-taken-requires c κs = c .before .before .before .before .pre
 
 returns : tie.Need-returns Inv-loop μ-loop
 returns c =
-    let loop = c .before .before .before .before .loop in
-    let s = c .before .before .before .before .before .before .args in
-    sym
-    (least-hit (numberTaken (s .words .now) (s .g .workers) (s .q)) _ _ (sym (c .before .number-taken .ensures) ∙ not-true _ (c .if2 .taken)))
-    ∙ loop .inv .1
+    let tested = c .before in
+    sym (least-hit _ _ _ (sym (tested .number-taken .ensures) ∙ not-true _ (c .if2 .taken))) ∙ tested .before .before .before .loop .inv .1
 
 add-x : tie.Need-add-x Inv-loop μ-loop
 add-x c = search needs
@@ -40,19 +37,14 @@ loop-less c = search needs
 
 loop-again : tie.Need-loop-again Inv-loop μ-loop
 loop-again c =
-    let loop = c .before .before .before .before .loop in
-    let if1 = c .before .before .if1 in
-    let s = c .before .before .before .before .before .before .args in (
+    let tested = c .before in
+    let turn = tested .before in (
       search needs,
-      least-turn (numberTaken (s .words .now) (s .g .workers) (s .q)) _ _ (if1 .taken)
-          (sym (c .before .number-taken .ensures) ∙ not-false _ (c .if2 .left))
-          ∙ loop .inv .1,
+      least-turn _ _ _ (turn .if1 .taken) (sym (tested .number-taken .ensures) ∙ not-false _ (c .if2 .left)) ∙ turn .before .before .loop .inv .1,
     )
 
 returns-2 : tie.Need-returns-2 Inv-loop μ-loop
-returns-2 c =
-    let s = c .before .before .before .before .args in
-    sym (least-end (numberTaken (s .words .now) (s .g .workers) (s .q)) _ _ (c .if1 .left)) ∙ c .before .before .loop .inv .1
+returns-2 c = sym (least-end _ _ _ (c .if1 .left)) ∙ c .before .before .loop .inv .1
 
 pub fresh-number-spec : {M : Type 1} → statement M
 fresh-number-spec =

@@ -1,14 +1,11 @@
 -- `number_taken` answers `numberTaken`. The loop's invariant: the workers below j decide; the measure: those left.
 -- Rests on the laws of searches.
-use Prim.Native.Nat.{ℕ, _+_, _-_, _≤_}
-use native.Mathlib.Omega.{arith}
-use mathlib.Core.Path.{_≡_, refl, sym, _∙_, ap}
+use Prim.Native.Nat.{_-_, _≤_}
+use mathlib.Core.Path.{_≡_, refl, sym, _∙_}
 use borrow.Author.Needs.{needs}
 use borrow.Author.Tests.{eq-eqb, ne-eqb}
 use Rattle.machine.proofs.Base.{and-true, and-left-false}
-use Rattle.layout.specs.Shape.{word}
 use Rattle.layout.specs.Numbers.{any, numberTaken}
-use Rattle.layout.proofs.Positions.{placed}
 use Rattle.layout.proofs.Searches.{readNumber, and-no, any-hit, any-turn, any-none}
 use Rattle.layout.proofs.numbers.number_taken.Statement.{statement}
 use Rattle.layout.proofs.numbers.number_taken.Tie as tie
@@ -26,59 +23,31 @@ loop-holds c = (search needs, refl)
 sub-j : tie.Need-sub-j Inv-loop μ-loop
 sub-j c = search needs
 
-worker-at-requires : tie.Need-worker-at-requires Inv-loop μ-loop
-worker-at-requires c κs = let h = c .before .before .before .pre .workers in omega arith
+worker-word-requires : tie.Need-worker-word-requires Inv-loop μ-loop
+worker-word-requires c κs = search needs
 
-add-get : tie.Need-add-get Inv-loop μ-loop
-add-get c =
-    let b = placed (c .before .before .before .before .pre) (c .before .before .loop .j - 1) (omega arith) in
-    omega arith
-
-get-requires : tie.Need-get-requires Inv-loop μ-loop
-get-requires c κs =
-    let b = placed (c .before .before .before .before .pre) (c .before .before .loop .j - 1) (omega arith) in
-    omega arith
-
-add-get-2 : tie.Need-add-get-2 Inv-loop μ-loop
-add-get-2 c =
-    let b = placed (c .before .before .before .before .before .before .pre) (c .before .before .before .before .loop .j - 1) (omega arith) in
-    omega arith
-
-get-requires-2 : tie.Need-get-requires-2 Inv-loop μ-loop
-get-requires-2 c κs =
-    let b = placed (c .before .before .before .before .before .before .pre) (c .before .before .before .before .loop .j - 1) (omega arith) in
-    omega arith
+worker-word-requires-2 : tie.Need-worker-word-requires-2 Inv-loop μ-loop
+worker-word-requires-2 c κs = search needs
 
 returns : tie.Need-returns Inv-loop μ-loop
 returns c =
-    let loop = c .before .before .before .before .before .before .loop in
-    let test = c .before .before .before .before .before .loop-test in
-    let worker-at = c .before .before .before .before .worker-at in
-    let get = c .before .before .before .get in
-    let if1 = c .before .before .if1 in
-    let s = c .before .before .before .before .before .before .before .before .args in
-    let l = s .words .now in
-    sym
-    (any-hit (readNumber l (s .g .workers) (s .q) (s .x)) (loop .j) (test .taken)
-    (and-true (eq-eqb _ _ (sym (get .ensures ∙ ap (λ (p : ℕ). word l (p + 5)) (worker-at .ensures)) ∙ if1 .taken))
-    (eq-eqb _ _ (sym (c .before .get2 .ensures ∙ ap (λ (p : ℕ). word l (p + 6)) (worker-at .ensures)) ∙ c .if2 .taken))))
-    ∙ loop .inv .1
+    let second = c .before in
+    let tested = second .before in
+    let first = tested .before in
+    let turn = first .before in
+    sym (any-hit _ _ (turn .loop-test .taken)
+    (and-true (eq-eqb _ _ (sym (first .worker-word .ensures) ∙ tested .if1 .taken)) (eq-eqb _ _ (sym (second .worker-word2 .ensures) ∙ c .if2 .taken))))
+    ∙ turn .before .loop .inv .1
 
 loop-less : tie.Need-loop-less Inv-loop μ-loop
 loop-less c = search needs
 
 loop-again : tie.Need-loop-again Inv-loop μ-loop
 loop-again c =
-    let loop = c .before .before .before .before .before .before .loop in
-    let test = c .before .before .before .before .before .loop-test in
-    let worker-at = c .before .before .before .before .worker-at in
-    let s = c .before .before .before .before .before .before .before .before .args in
-    let l = s .words .now in
-    let at-loop = loop in (
+    let second = c .before in
+    let turn = second .before .before .before in (
       search needs,
-      any-turn (readNumber l (s .g .workers) (s .q) (s .x)) (at-loop .j) (test .taken)
-          (and-no _ (ne-eqb _ _ (λ e. c .if2 .left ((c .before .get2 .ensures ∙ ap (λ (p : ℕ). word l (p + 6)) (worker-at .ensures)) ∙ e))))
-          ∙ at-loop .inv .1,
+      any-turn _ _ (turn .loop-test .taken) (and-no _ (ne-eqb _ _ (λ e. c .if2 .left (second .worker-word2 .ensures ∙ e)))) ∙ turn .before .loop .inv .1,
     )
 
 loop-less-2 : tie.Need-loop-less-2 Inv-loop μ-loop
@@ -86,23 +55,14 @@ loop-less-2 c = search needs
 
 loop-again-2 : tie.Need-loop-again-2 Inv-loop μ-loop
 loop-again-2 c =
-    let loop = c .before .before .before .before .loop in
-    let test = c .before .before .before .loop-test in
-    let worker-at = c .before .before .worker-at in
-    let s = c .before .before .before .before .before .before .args in
-    let l = s .words .now in
-    let at-loop = loop in (
+    let first = c .before in
+    let turn = first .before in (
       search needs,
-      any-turn (readNumber l (s .g .workers) (s .q) (s .x)) (at-loop .j) (test .taken)
-          (and-left-false _ (ne-eqb _ _ (λ e. c .if1 .left ((c .before .get .ensures ∙ ap (λ (p : ℕ). word l (p + 5)) (worker-at .ensures)) ∙ e))))
-          ∙ at-loop .inv .1,
+      any-turn _ _ (turn .loop-test .taken) (and-left-false _ (ne-eqb _ _ (λ e. c .if1 .left (first .worker-word .ensures ∙ e)))) ∙ turn .before .loop .inv .1,
     )
 
 returns-2 : tie.Need-returns-2 Inv-loop μ-loop
-returns-2 c =
-    let s = c .before .before .before .args in
-    let at-loop = c .before .loop in
-    sym (any-none (readNumber (s .words .now) (s .g .workers) (s .q) (s .x)) (at-loop .j) (c .loop-test .left)) ∙ at-loop .inv .1
+returns-2 c = sym (any-none _ _ (c .loop-test .left)) ∙ c .before .loop .inv .1
 
 pub number-taken-spec : {M : Type 1} → statement M
 number-taken-spec =
@@ -112,11 +72,8 @@ number-taken-spec =
     μ-loop
     loop-holds
     sub-j
-    worker-at-requires
-    add-get
-    get-requires
-    add-get-2
-    get-requires-2
+    worker-word-requires
+    worker-word-requires-2
     returns
     loop-less
     loop-again

@@ -1,9 +1,10 @@
 -- `current` tells whether the directory names a record at its bucket's first entry.
 -- Rests on the bounds of entries.
 use native.Mathlib.Omega.{arith}
+use lib.Pow.{pow-mono}
 use borrow.Author.Needs.{needs}
 use Rattle.layout.specs.Records.{currentAt}
-use Rattle.layout.proofs.Pool.{pow-small, entry-below}
+use Rattle.layout.proofs.Pool.{entry-below}
 use Rattle.layout.proofs.Positions.{start-bound}
 use Rattle.layout.proofs.records.current.Statement.{statement}
 use Rattle.layout.proofs.records.current.Tie as tie
@@ -35,7 +36,7 @@ add-e c =
       c .first-entry .ensures,
       start-bound (start .args .g .workers) (start .pre .0 .workers),
       entry-below (start .args .g) (c .before .before .get .result) (c .before .get2 .result),
-      pow-small (start .args .g .depth) (start .pre .0 .depth),
+      pow-mono (start .pre .0 .depth),
     )
 
 get-or-requires : tie.Need-get-or-requires

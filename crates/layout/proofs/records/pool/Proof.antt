@@ -1,9 +1,9 @@
 -- `pool` counts the bucket records.
 -- Rests on the bound of a power of two.
 use native.Mathlib.Omega.{arith}
+use lib.Pow.{pow-mono}
 use borrow.Author.Needs.{needs}
 use Rattle.layout.specs.Records.{poolOf}
-use Rattle.layout.proofs.Pool.{pow-small}
 use Rattle.layout.proofs.records.pool.Statement.{statement}
 use Rattle.layout.proofs.records.pool.Tie as tie
 
@@ -11,14 +11,14 @@ shl-result : tie.Need-shl-result
 shl-result c = search needs
 
 add-result : tie.Need-add-result
-add-result c = omega (arith, pow-small (c .args .g .depth) (c .pre .1))
+add-result c = omega (arith, pow-mono (c .pre .1))
 
 add-result-2 : tie.Need-add-result-2
-add-result-2 c = omega (arith, pow-small (c .args .g .depth) (c .pre .1))
+add-result-2 c = omega (arith, pow-mono (c .pre .1))
 
 returns : tie.Need-returns
 unfolding poolOf
-returns c = omega (arith, pow-small (c .args .g .depth) (c .pre .1))
+returns c = omega (arith, pow-mono (c .pre .1))
 
 pub pool-spec : {M : Type 1} → statement M
 pool-spec = tie.close (tie.spec shl-result add-result add-result-2 returns)

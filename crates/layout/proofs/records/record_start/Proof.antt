@@ -1,8 +1,9 @@
 -- `record_start` gives where a record begins.
 -- Rests on the bounds of the directory's start and of a record's place.
 use native.Mathlib.Omega.{arith}
+use lib.Pow.{pow-mono}
 use borrow.Author.Needs.{needs}
-use Rattle.layout.proofs.Pool.{pow-small, shifted, start-is, product-bound}
+use Rattle.layout.proofs.Pool.{shift-one, start-is, product-bound}
 use Rattle.layout.proofs.Positions.{start-bound}
 use Rattle.layout.proofs.records.record_start.Statement.{statement}
 use Rattle.layout.proofs.records.record_start.Tie as tie
@@ -16,7 +17,7 @@ shl-result c = search needs
 add-result : tie.Need-add-result
 add-result c =
     let known = c .before .pre in
-    omega (arith, c .directory-start .ensures, start-bound (c .before .args .g .workers) (known .0), pow-small (c .before .args .g .depth) (known .1 .1 .0))
+    omega (arith, c .directory-start .ensures, start-bound (c .before .args .g .workers) (known .0), pow-mono (known .1 .1 .0))
 
 mul-result : tie.Need-mul-result
 mul-result c = search needs
@@ -42,12 +43,12 @@ add-result-4 c =
       arith,
       c .directory-start .ensures,
       start-bound (c .before .args .g .workers) (known .0),
-      pow-small (c .before .args .g .depth) (known .1 .1 .0),
+      pow-mono (known .1 .1 .0),
       product-bound (c .before .args .g) (c .before .args .r) (known .0) (known .1 .0) (known .1 .1 .1),
     )
 
 returns : tie.Need-returns
-returns c = start-is (c .before .args .g) (c .before .args .r) _ _ (c .directory-start .ensures) (shifted _ (c .before .pre .1 .1 .0))
+returns c = start-is (c .before .args .g) (c .before .args .r) _ _ (c .directory-start .ensures) (shift-one _ (omega arith))
 
 pub record-start-spec : {M : Type 1} → statement M
 record-start-spec =

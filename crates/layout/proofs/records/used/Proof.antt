@@ -2,6 +2,7 @@
 -- Rests on the bounds of records.
 use native.Mathlib.Omega.{arith}
 use borrow.Author.Needs.{needs}
+use Rattle.layout.specs.Records.{heldByAny}
 use Rattle.layout.proofs.Pool.{pool-bound, pool-inside, used-current, used-held}
 use Rattle.layout.proofs.records.used.Statement.{statement}
 use Rattle.layout.proofs.records.used.Tie as tie
@@ -23,15 +24,16 @@ returns c =
     let tested = c .before in
     used-current _ _ _ _ _ (tested .before .record-start .ensures) (tested .current .ensures) (c .if1 .taken)
 
-held-by-any-requires : tie.Need-held-by-any-requires
-held-by-any-requires c κs = search needs
+any-has-requires : tie.Need-any-has-requires
+any-has-requires c κs = search needs
 
 returns-2 : tie.Need-returns-2
+unfolding heldByAny
 returns-2 c =
     let tested = c .before .before in
-    used-held _ _ _ _ _ (tested .before .record-start .ensures) (tested .current .ensures) _ (c .before .if1 .left) (c .held-by-any .ensures)
+    used-held _ _ _ _ _ (tested .before .record-start .ensures) (tested .current .ensures) _ (c .before .if1 .left) (c .any-has .ensures)
 
 pub used-spec : {M : Type 1} → statement M
 used-spec =
     tie.close
-    (tie.spec record-start-requires current-requires returns held-by-any-requires returns-2)
+    (tie.spec record-start-requires current-requires returns any-has-requires returns-2)

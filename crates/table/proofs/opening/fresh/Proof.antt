@@ -3,7 +3,7 @@
 use native.Mathlib.Omega.{arith}
 use mathlib.Core.Path.{refl}
 use lib.Pow.{pow-mono}
-use Rattle.engine.proofs.Bits.{shift-one}
+use Rattle.layout.proofs.Pool.{shift-one}
 use Rattle.layout.proofs.Positions.{start-bound}
 use Rattle.table.proofs.Fresh.{fresh-parts, fresh-laid}
 use borrow.Author.Needs.{needs}

@@ -4,11 +4,10 @@ use Prim.Native.Nat.{ℕ, zero, suc, _+_, _-_, _*_, _%_, _^_, _≤_, _<_}
 use native.Mathlib.Nat.{mod-lt}
 use native.Mathlib.Omega.{arith}
 use mathlib.Core.Path.{_≡_, refl, _∙_, sym}
-use mathlib.Core.Bool.{false}
 use mathlib.Core.List.{List}
 use lib.Dec.{ltb, leb, eqb}
 use lib.ListN.{length, getD, set, length-append, length-take, length-drop, length-set, length-map, length-replicate, replicate}
-use borrow.Author.Tests.{ltb-true, leb-true, ltb-false}
+use borrow.Author.Tests.{ltb-true, leb-true}
 use Rattle.interface.specs.declared.Settings.{Settings}
 use Rattle.machine.specs.Choice.{_and_}
 use Rattle.machine.proofs.Base.{if-elim, and-parts}
@@ -23,13 +22,11 @@ use Rattle.memory.proofs.States.{Sized, loaded-sized}
 use Rattle.memory.proofs.Trips.{length-state}
 use Rattle.layout.specs.Shape.{word, Fits, directoryStart, Whole}
 use Rattle.layout.specs.Places.{workerAt, slotAt, recordOf, readAt}
 use Rattle.engine.specs.Engine.{announcedAt, roundAt}
-use Rattle.machine.specs.Words.{wordsNeeded}
 use Rattle.memory.specs.Loads.{loadedState}
 use Rattle.layout.specs.Records.{recordStart, firstEntry, spareOf}
-use Rattle.engine.specs.Splits.{madeAt, directedAt, halfAt, deepenedAt, splitAt, splitWhileAt, carriedAt, takenAt, nothingToSplit}
+use Rattle.engine.specs.Splits.{madeAt, directedAt, halfAt, deepenedAt, splitAt, splitWhileAt, carriedAt, takenAt}
 use Rattle.layout.proofs.Positions.{fits-kept, record-inside, placed}
-use Rattle.layout.proofs.Checks.{or-right}
 use Rattle.layout.proofs.Pool.{whole-kept, pool-inside, directory-inside, entries-inside, spare-below}
 
 -- ---- a state's arrays keep their 16 items
@@ -151,12 +148,6 @@ module _ (l : List ℕ) (s : Settings) (fits : Fits l s) where
   length-round p q h =
       if-elim (λ (m : List ℕ). length m ≡ length l) (eqb (word l (p + 7)) (word l (q + 1))) l _ (λ e. refl)
       (λ e. length-state l q (s .capacity) (s .workers) _ h (fits .capacity) (fits .workers) (round-sized _ _ _ _ _ (loaded-sized l q _ _)))
-
--- where there is something to split, every record is there
-pub whole-else : (l : List ℕ) (s : Settings) (p : ℕ) → Fits l s → nothingToSplit l s p ≡ false → Whole l s
-unfolding nothingToSplit
-whole-else l s p h f =
-    record { fits = h; all = ltb-false (length l) (wordsNeeded s) (or-right (eqb (word l (p + 9)) 0) (ltb (length l) (wordsNeeded s)) f) }
 
 -- ---- each part of the swap keeps the number of words
 
