@@ -56,6 +56,18 @@ examples() {
   example bindings/rust/target/release/examples/dispatcher "the Rust example prints the stored output"
 }
 
+# readme LANGUAGE: the README's text in that language
+readme() { awk -v start="\`\`\`$1" '$0 == start { on = 1; next } /^```/ { on = 0 } on' README.md; }
+
+# what the README shows is built and does what it says there
+shown() {
+  readme c >"$run/shown.c" && cc -std=c99 "${strict[@]}" "$run/shown.c" "$library" -o "$run/shown" && [ "$("$run/shown")" = "found 700" ]
+  check $? "the README's C prints what it says"
+  readme rust >"$run/shown.rs" && rustc --edition 2021 --extern totals=bindings/rust/target/release/libtotals.rlib -L native=target/staticlib \
+    "$run/shown.rs" -o "$run/shown-rust" && "$run/shown-rust"
+  check $? "the README's Rust runs"
+}
+
 # adds the counts of the crate's tests; a run that failed without a count is one failure
 crate() {
   local status a b p=0 f=0
@@ -113,6 +125,7 @@ build
 header
 symbols
 examples
+shown
 crate
 lines "$@"
 sanitized
