@@ -22,7 +22,7 @@ pub enum Phase {
 }
 
 // k, or what is left past one round of len steps.
-fn reduce(k: usize, len: usize) -> usize
+pub fn reduce(k: usize, len: usize) -> usize
     ensures { λ r. ⌜ r ≡ (if leb len k then k - len else k) ⌝ }
 {
     if k >= len { k - len } else { k }

@@ -1,6 +1,6 @@
 -- Laws of turns: the phases of a plan, and each case of a step, a lookup, a run and a call.
 -- Rests on the definitions of turns, and on the machine's plan.
-use Prim.Native.Nat.{ℕ, zero, suc, _+_, _-_, _%_, _≤_, _<_}
+use Prim.Native.Nat.{ℕ, zero, suc, _+_, _-_, _*_, _%_, _≤_, _<_}
 use native.Mathlib.Numerals.{add-one}
 use native.Mathlib.Omega.{arith}
 use mathlib.Core.Path.{_≡_, refl, sym, _∙_, ap, subst}
@@ -31,7 +31,8 @@ use Rattle.layout.specs.Places.{workerAt, heldBy}
 use Rattle.engine.specs.Engine.{settledWord, answerWordAt, checkedAt}
 use Rattle.bucket.specs.Items.{answerOf}
 use Rattle.engine.specs.Phases.{planned}
-use Rattle.table.specs.Turns.{endedAt, checkAt, updateAt, foundAt, lookedAt, lookupAt, operationAt, stepIn, stepWords, begunAt, callIn, callWords, lastOf, orElse, runIn, runWords}
+use Rattle.engine.proofs.Phases.{bucket-round, pass-bucket, plan-pass}
+use Rattle.table.specs.Turns.{endedAt, checkAt, numbered, updateAt, foundAt, lookedAt, lookupAt, operationAt, stepIn, stepWords, begunAt, callIn, callWords, lastOf, orElse, runIn, runWords}
 use Rattle.layout.proofs.Checks.{both-passed}
 use Rattle.layout.proofs.Positions.{held-inside}
 
@@ -89,23 +90,53 @@ pub state-below : (n k j : ℕ) (r : Code.Phase) → r ≡ Code.Phase.StateStep 
 unfolding phase planned Below
 state-below n k j r h e = subst (λ (x : Phase). Below n x) (sym e ∙ ap planned h) (all-at n k (all-plan n))
 
+-- ---- the steps before the first check
+
+module _ (n : ℕ) where
+  pub early-directory : phase n 1 ≡ readDirectory
+  unfolding phase plan pass
+  early-directory = refl
+
+  pub early-flip : phase n 2 ≡ flipToggle
+  unfolding phase plan pass bucketPass
+  early-flip = refl
+
+  pub early-round : (k i : ℕ) → 3 ≤ k → k < 2 * n + 9 → i ≡ (if leb (n + 3) (k - 3) then k - 3 - (n + 3) else k - 3) → phase n k ≡ getD (bucketRound n) i checkState
+  early-round k i h m e =
+      let z : k - 1 - 1 - 1 ≡ k - 3 = omega arith in
+      plan-pass n k (k - 1) (omega arith) (sym (if-false _ _ (lt-leb (6 * n + 16) (k - 1) (omega arith))))
+      ∙ pass-bucket n (k - 1) (omega arith) (omega arith)
+      ∙ bucket-round n (k - 1 - 1) i (omega arith) (rw z e)
+
 -- ---- a step of an update
 
-pub updated :
-    (l : List ℕ) (s : Settings) (p w k n : ℕ) (r q : Code.Phase) (m : List ℕ × Stepped) → r ≡ q → planned r ≡ phase n k
-    → m ≡ updateAt l s p w k (planned q) → m ≡ updateAt l s p w k (phase n k)
-updated l s p w k n r q m h e x = x ∙ ap (updateAt l s p w k) (sym (ap planned h) ∙ e)
+module _ (l : List ℕ) (s : Settings) (p w k n : ℕ) (m : List ℕ × Stepped) where
+  pub at-phase : (q : Phase) → phase n k ≡ q → m ≡ updateAt l s p w k q → m ≡ updateAt l s p w k (phase n k)
+  at-phase q e x = x ∙ ap (updateAt l s p w k) (sym e)
+
+  pub updated : (r q : Code.Phase) → r ≡ q → planned r ≡ phase n k → m ≡ updateAt l s p w k (planned q) → m ≡ updateAt l s p w k (phase n k)
+  updated r q h e = at-phase (planned q) (sym e ∙ ap planned h)
+
+-- an answer's number, and 0 where there is none
+module _ (k : ℕ) where
+  pub numbered-stored : (x : ℕ) (a : Answer) → x ≢ 0 → a ≡ answerOf x → numbered k x ≡ Stepped.Answered (record { answer = a; steps = k + 1 })
+  unfolding numbered
+  numbered-stored zero a h e = absurd (h refl)
+  numbered-stored (suc x) a h e = rw e
+
+  pub numbered-none : (x : ℕ) → x ≡ 0 → numbered k 6 ≡ Stepped.Answered (record { answer = answerOf x; steps = k + 1 })
+  unfolding numbered answerOf if_then_else_
+  numbered-none x e = rw e
 
 -- ---- a check of worker w at p, whose bucket's record is at q
 
 module _ (l : List ℕ) (s : Settings) (p q w k t u : ℕ) (ticket : t ≡ word l (p + 3)) (settled : u ≡ settledWord l s q w) where
   pub check-settled :
-      (x : ℕ) (a : Answer) (m : List ℕ × Stepped) → t ≤ u → x ≡ answerWordAt l s q w → a ≡ answerOf x → m ≡ endedAt l p k a
-      → m ≡ checkAt l p k (checkedAt l s p q w)
-  unfolding checkedAt checkAt
-  check-settled x a m h e f g =
-      g ∙ ap (endedAt l p k) (f ∙ ap answerOf e)
-      ∙ ap (checkAt l p k) (sym (if-true _ _ (le-leb _ _ (rw (ticket, settled) at h))))
+      (x : ℕ) (m : List ℕ) (r : Stepped) → t ≤ u → x ≡ answerWordAt l s q w → r ≡ Stepped.Answered (record { answer = answerOf x; steps = k + 1 })
+      → m ≡ set (set l p 0) (p + 4) 0 → (m, r) ≡ checkAt l p k (checkedAt l s p q w)
+  unfolding endedAt checkedAt checkAt
+  check-settled x m r h e f g =
+      rw (f, g, e) (ap (checkAt l p k) (sym (if-true _ _ (le-leb _ _ (rw (ticket, settled) at h)))))
 
   module _ (c : ℕ) (h : u < t) (count : c ≡ word l q) where
     unsettled : (r : Option ℕ) → r ≡ if leb (s .capacity) (word l q) and leb (s .depth) (word l (q + 3)) then some 9 else none → checkedAt l s p q w ≡ r
@@ -123,12 +154,12 @@ module _ (l : List ℕ) (s : Settings) (p q w k t u : ℕ) (ticket : t ≡ word 
           ap (checkAt l p k)
           (sym (unsettled none (rw (le-leb (s .capacity) (word l q) (rw count at full), lt-leb (s .depth) (word l (q + 3)) (rw depth at n)))))
 
-      pub check-crowded : (m : List ℕ × Stepped) → s .depth ≤ d → m ≡ endedAt l p k Answer.Crowded → m ≡ checkAt l p k (checkedAt l s p q w)
-      unfolding checkAt answerOf _and_ if_then_else_
+      pub check-crowded : (m : List ℕ) → s .depth ≤ d → m ≡ set (set l p 0) (p + 4) 0 → (m, numbered k 9) ≡ checkAt l p k (checkedAt l s p q w)
+      unfolding endedAt checkAt numbered _and_ if_then_else_
       check-crowded m n e =
-          e
-          ∙ ap (checkAt l p k)
-          (sym (unsettled (some 9) (rw (le-leb (s .capacity) (word l q) (rw count at full), le-leb (s .depth) (word l (q + 3)) (rw depth at n)))))
+          rw e
+          (ap (checkAt l p k)
+          (sym (unsettled (some 9) (rw (le-leb (s .capacity) (word l q) (rw count at full), le-leb (s .depth) (word l (q + 3)) (rw depth at n))))))
 
 pub held-room : {l : List ℕ} {s : Settings} (q p : ℕ) → Fits l s → q ≡ heldBy l p → q + 54 ≤ length l
 held-room q p f e = rw e (held-inside f p)
@@ -189,10 +220,10 @@ module _ (l : List ℕ) (s : Settings) (w k c : ℕ) where
     unfolding runIn
     run-idle e = rw (next, ← place) (sym (if-true _ _ (eq-eqb _ _ (sym kind ∙ e))))
 
-    module _ (m : List ℕ) (r : Stepped) (goes : x ≢ 0) (step : (m, r) ≡ operationAt l s (workerAt (s .workers) w) w (word l (workerAt (s .workers) w + 4) % 65_536)) where
+    module _ (m : List ℕ) (r : Stepped) (goes : x ≢ 0) (step : (m, r) ≡ operationAt l s p w (word l (p + 4) % 65_536)) where
       run-step : runIn l s w k (c - k) ≡ orElse m (lastOf k r) (runIn m s w (k + 1) (c - (k + 1)))
       unfolding runIn
-      run-step = rw (next, ← step, add-one, ← place) (if-false _ _ (ne-eqb _ _ (λ z. goes (kind ∙ z))))
+      run-step = rw (next, ← place, ← step, add-one) (if-false _ _ (ne-eqb _ _ (λ z. goes (kind ∙ z))))
 
       pub run-moved : r ≡ Stepped.Moved → runIn m s w (k + 1) (c - (k + 1)) ≡ runIn l s w k (c - k)
       unfolding orElse lastOf
@@ -261,9 +292,9 @@ module _ (l : List ℕ) (x : Bool) (g : Settings) (w : ℕ) (tested : x ≡ stra
     unfolding stepIn
     step-idle e = step-words _ (rw (← place) (sym (if-true _ _ (eq-eqb _ _ (sym kind ∙ e)))))
 
-    pub step-goes : (m : List ℕ × Stepped) → y ≢ 0 → m ≡ operationAt l g (workerAt (g .workers) w) w (word l (workerAt (g .workers) w + 4) % 65_536) → m ≡ stepWords l w
+    pub step-goes : (m : List ℕ × Stepped) → y ≢ 0 → m ≡ operationAt l (shapeOf l) p w (word l (p + 4) % 65_536) → m ≡ stepWords l w
     unfolding stepIn
-    step-goes m e h = step-words m (h ∙ rw (← place) (sym (if-false _ _ (ne-eqb _ _ (λ z. e (kind ∙ z))))))
+    step-goes m e h = step-words m (h ∙ rw (← read, ← place) (sym (if-false _ _ (ne-eqb _ _ (λ z. e (kind ∙ z))))))
 
     run-words : (m : List ℕ × Ran) (most : ℕ) → m ≡ if eqb (word l (workerAt (g .workers) w)) 0 then (l, Ran.Refused Refusal.Idle) else runIn l g w 0 (least most 256) → m ≡ runWords l w most
     unfolding runWords
@@ -275,5 +306,5 @@ module _ (l : List ℕ) (x : Bool) (g : Settings) (w : ℕ) (tested : x ≡ stra
     pub run-none : (most : ℕ) → y ≡ 0 → (l, Ran.Refused Refusal.Idle) ≡ runWords l w most
     run-none most e = run-words _ most (rw (← place) (sym (if-true _ _ (eq-eqb _ _ (sym kind ∙ e)))))
 
-    pub run-goes : (m : List ℕ × Ran) (most c : ℕ) → y ≢ 0 → c ≡ least most 256 → m ≡ runIn l g w 0 c → m ≡ runWords l w most
-    run-goes m most c e n h = run-words m most (h ∙ ap (runIn l g w 0) n ∙ rw (← place) (sym (if-false _ _ (ne-eqb _ _ (λ z. e (kind ∙ z))))))
+    pub run-goes : (m : List ℕ × Ran) (most c : ℕ) → y ≢ 0 → c ≡ least most 256 → m ≡ runIn l (shapeOf l) w 0 c → m ≡ runWords l w most
+    run-goes m most c e n h = run-words m most (h ∙ ap (runIn l (shapeOf l) w 0) n ∙ rw (← read, ← place) (sym (if-false _ _ (ne-eqb _ _ (λ z. e (kind ∙ z))))))

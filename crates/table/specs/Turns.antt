@@ -41,6 +41,11 @@ unfoldable pub checkAt : List ℕ → ℕ → ℕ → Option ℕ → List ℕ ×
 checkAt l p k none = (l, Stepped.Moved)
 checkAt l p k (some x) = endedAt l p k (answerOf x)
 
+-- what a step gives, after k own steps before it, whose update ended with an answer's number; 0 where the operation goes on
+unfoldable pub numbered : ℕ → ℕ → Stepped
+numbered k zero = Stepped.Moved
+numbered k (suc x) = Stepped.Answered (record { answer = answerOf (suc x); steps = k + 1 })
+
 -- worker w's step at a phase of its update, its record at p, after k own steps
 unfoldable pub updateAt : List ℕ → Settings → ℕ → ℕ → ℕ → Phase → List ℕ × Stepped
 updateAt l s p w k announce = (announcedAt l p w, Stepped.Moved)

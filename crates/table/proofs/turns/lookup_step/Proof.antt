@@ -1,65 +1,85 @@
 -- `lookup_step` reads the directory, or looks and ends, as `lookupAt` says.
 -- Rests on the bounds of words that fit.
-use native.Mathlib.Omega.{arith}
-use mathlib.Core.Path.{ap}
-use mathlib.Core.List.{List}
-use Prim.Native.Nat.{ℕ}
-use Rattle.interface.specs.declared.Stepped.{Stepped}
-use Rattle.layout.proofs.Positions.{placed}
-use Rattle.table.proofs.TurnLaws.{held-room, lookup-later}
-use Rattle.table.specs.Turns.{lookupAt}
+use Rattle.layout.specs.Places.{heldBy}
+use Rattle.layout.proofs.Positions.{long, within-inside}
+use Rattle.engine.specs.Engine.{heldAt}
+use Rattle.table.proofs.TurnLaws.{lookup-later}
+use Rattle.table.specs.Turns.{endedAt, lookupAt}
 use borrow.Author.Needs.{needs}
 use Rattle.table.proofs.turns.lookup_step.Statement.{statement}
 use Rattle.table.proofs.turns.lookup_step.Tie as tie
 
-read-directory-requires : tie.Need-read-directory-requires
-read-directory-requires c κs = search needs
+add-get : tie.Need-add-get
+add-get c = search needs
+
+get-requires : tie.Need-get-requires
+get-requires c κs = search needs
+
+record-of-requires : tie.Need-record-of-requires
+record-of-requires c κs = search needs
+
+add-put : tie.Need-add-put
+add-put c = search needs
+
+put-requires : tie.Need-put-requires
+put-requires c κs = search needs
 
 same-length : tie.Need-same-length
 same-length c = search needs
 
 returns : tie.Need-returns
-unfolding lookupAt
-returns c = rw (c .before .before .before .before .if1 .taken) (ap (λ (l : List ℕ). (l, Stepped.Moved)) (c .before .before .read-directory .ensures))
+unfolding lookupAt heldAt
+returns c = rw (c .before .before .before .before .before .before .before .if1 .taken, ← c .before .before .before .before .before .get .ensures, ← c .before .before .before .before .record-of .ensures, ← c .before .before .put .ensures)
 
-held-by-requires : tie.Need-held-by-requires
-held-by-requires c κs = search needs
+add-get-2 : tie.Need-add-get-2
+add-get-2 c = search needs
 
-worker-at-requires : tie.Need-worker-at-requires
-worker-at-requires c κs = search needs
+get-requires-2 : tie.Need-get-requires-2
+get-requires-2 c κs = search needs
 
-add-get : tie.Need-add-get
-add-get c = let b = placed (c .before .before .before .before .before .before .pre .0) _ (c .before .before .before .before .before .before .pre .1 .0) in omega (arith, c .worker-at .ensures)
+within-words-requires : tie.Need-within-words-requires
+within-words-requires c κs = search needs
 
-get-requires : tie.Need-get-requires
-get-requires c κs = let b = placed (c .before .before .before .before .before .before .pre .0) _ (c .before .before .before .before .before .before .pre .1 .0) in omega (arith, c .worker-at .ensures)
+add-get-3 : tie.Need-add-get-3
+add-get-3 c = search needs
+
+get-requires-3 : tie.Need-get-requires-3
+get-requires-3 c κs = search needs
 
 look-requires : tie.Need-look-requires
-look-requires c κs = (c .before .before .before .before .before .before .before .pre .0, held-room _ _ (c .before .before .before .before .before .before .before .pre .0) (c .before .before .before .held-by .ensures))
+look-requires c κs = (c .before .before .before .before .before .before .before .pre .0, rw (c .before .before .within-words .ensures) (within-inside _ _ (long (c .before .before .before .before .before .before .before .pre .0))))
 
 finish-requires : tie.Need-finish-requires
 finish-requires c κs = search needs
+
+completed-requires : tie.Need-completed-requires
+completed-requires c κs = search needs
 
 same-length-2 : tie.Need-same-length-2
 same-length-2 c = search needs
 
 returns-2 : tie.Need-returns-2
-returns-2 c =
-    rw (lookup-later _ _ _ _ (c .before .before .before .before .before .before .before .before .before .before .if1 .left), ← c .before .before .before .before .before .before .before .before .held-by .ensures, ← c .before .before .before .before .before .before .worker-at .ensures, ← c .before .before .before .before .before .get .ensures, ← c .before .before .before .before .look .ensures)
-    (rw (c .before .before .before .before .before .before .worker-at .ensures) (c .before .before .finish .ensures))
+unfolding endedAt heldBy
+returns-2 c = rw (lookup-later _ _ _ _ (c .before .before .before .before .before .before .before .before .before .before .before .if1 .left), c .completed .ensures, ← c .before .before .before .before .before .before .before .before .before .get2 .ensures, ← c .before .before .before .before .before .before .before .before .within-words .ensures, ← c .before .before .before .before .before .before .get3 .ensures, ← c .before .before .before .before .before .look .ensures, ← c .before .before .before .finish .ensures)
 
 pub lookup-step-spec : {M : Type 1} → statement M
 lookup-step-spec =
     tie.close
     (tie.spec
-    read-directory-requires
-    same-length
-    returns
-    held-by-requires
-    worker-at-requires
     add-get
     get-requires
+    record-of-requires
+    add-put
+    put-requires
+    same-length
+    returns
+    add-get-2
+    get-requires-2
+    within-words-requires
+    add-get-3
+    get-requires-3
     look-requires
     finish-requires
+    completed-requires
     same-length-2
     returns-2)

@@ -21,8 +21,8 @@ returns : tie.Need-returns
 unfolding runWords
 returns c = strange-first _ _ _ _ (c .before .strange-words .ensures) (c .if1 .taken)
 
-slice-read-settings-of : tie.Need-slice-read-settings-of
-slice-read-settings-of c = omega (arith, fits-of _ (sym (c .before .before .strange-words .ensures) ∙ c .before .if1 .left))
+slice-read-x : tie.Need-slice-read-x
+slice-read-x c = omega (arith, fits-of _ (sym (c .before .before .strange-words .ensures) ∙ c .before .if1 .left))
 
 settings-of-requires : tie.Need-settings-of-requires
 settings-of-requires c κs = search needs
@@ -47,7 +47,7 @@ returns-3 : tie.Need-returns-3
 returns-3 c = run-none _ _ _ _ (c .before .before .before .before .before .before .before .before .strange-words .ensures) (c .before .before .before .before .before .before .before .if1 .left) (c .before .before .before .before .before .settings-of .ensures) (c .before .before .before .before .if2 .left) _ _ (c .before .before .worker-at .ensures) (c .before .get .ensures) _ (c .if3 .taken)
 
 run-in-requires : tie.Need-run-in-requires
-run-in-requires c κs = let f = fits-read _ _ _ (c .before .before .before .before .before .before .before .before .before .before .strange-words .ensures) (c .before .before .before .before .before .before .before .before .before .if1 .left) (c .before .before .before .before .before .before .before .settings-of .ensures) in (f, (c .before .before .before .before .before .before .if2 .left, ⊎-elim (λ w. omega arith) (λ w. omega arith) (c .if4 .came)))
+run-in-requires c κs = (fits-of _ (sym (c .before .before .before .before .before .before .before .before .before .before .strange-words .ensures) ∙ c .before .before .before .before .before .before .before .before .before .if1 .left), (rw (c .before .before .before .before .before .before .before .settings-of .ensures) at (c .before .before .before .before .before .before .if2 .left), ⊎-elim (λ w. omega arith) (λ w. omega arith) (c .if4 .came)))
 
 same-length-4 : tie.Need-same-length-4
 same-length-4 c = search needs
@@ -62,7 +62,7 @@ run-spec =
     strange-words-requires
     same-length
     returns
-    slice-read-settings-of
+    slice-read-x
     settings-of-requires
     same-length-2
     returns-2
