@@ -8,7 +8,8 @@ use lib.Dec.{ltb, leb, eqb}
 use lib.ListN.{set}
 use Rattle.interface.specs.declared.Settings.{Settings}
 use Rattle.machine.specs.Choice.{if_then_else_, _and_}
-use Rattle.bucket.specs.State.{bit, roundOf}
+use Rattle.bucket.specs.State.{bit, carryOf, roundOf}
+use Rattle.bucket.specs.declared.BucketState.{BucketState}
 use Rattle.lists.specs.Parts.{part, overlay}
 use Rattle.memory.specs.Loads.{loadedState, storedState}
 use Rattle.layout.specs.Shape.{word}
@@ -56,6 +57,16 @@ roundAt l s p q =
     then l
     else storedState l q (s .capacity) (s .workers)
     (roundOf (loadedState l q (s .capacity) (s .workers)) (part l (p + 24) (4 * s .workers)) (s .capacity) (word l (p + 7)) (s .workers))
+
+-- a state with other applied bits
+unfoldable pub withApplied : BucketState → ℕ → BucketState
+withApplied x bits =
+    record { accounts = x .accounts; totals = x .totals; settled = x .settled; answers = x .answers; count = x .count; applied = bits }
+
+-- the record at q after worker j's update alone, with other applied bits
+unfoldable pub ownAt : List ℕ → Settings → ℕ → ℕ → ℕ → ℕ → ℕ → ℕ → ℕ → List ℕ
+ownAt l s q bits j kind a v ticket =
+    storedState l q (s .capacity) (s .workers) (withApplied (carryOf (loadedState l q (s .capacity) (s .workers)) j kind a v ticket) bits)
 
 -- "only if the bucket's state is still the one that was read"
 unfoldable pub swappedAt : List ℕ → Settings → ℕ → ℕ → List ℕ

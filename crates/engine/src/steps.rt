@@ -5,6 +5,7 @@ ghost use lib.ListN.{length};
 ghost use Rattle.layout.specs.Shape.{Fits};
 ghost use Rattle.layout.specs.Places.{workerAt, heldBy};
 ghost use Rattle.engine.specs.Engine.{announcedAt, slotReadAt, heldAt, flipBit, flippedAt, stateReadAt, toggleReadAt, directoryReadAt, roundAt, swappedAt, settledWord, foundBefore, marks, stateStepAt};
+use crate::own::own_round;
 use interface::Settings;
 use layout::numbers::fresh_number;
 use layout::places::held_by;
@@ -68,13 +69,18 @@ pub fn read_toggle(words: &mut [u64], g: Settings, w: usize)
     put_worker_word(words, g, w, 7, held_word(words, g, w, 2));
 }
 
-// The state of the record at q after a round with what worker w has read.
+// The state of the record at q after a round with what worker w has read. Where only its own bit differs, its own update is all that the round carries out.
 fn round(words: &mut [u64], g: Settings, w: usize, q: usize)
     requires { ⌜ Fits (now words) g × ((w < g .workers) × (q + 54 ≤ length (now words))) ⌝ }
     ensures { λ _. ⌜ now (words .exit) ≡ roundAt (now (words .entry)) g (workerAt (g .workers) w) q ⌝ }
 {
     let toggle = worker_word(words, g, w, 7);
-    if toggle == memory::get(words, q + 1) {
+    let applied = memory::get(words, q + 1);
+    if toggle == applied {
+        return;
+    }
+    if toggle == flip_bit(applied, w) {
+        own_round(words, g, w, q, toggle);
         return;
     }
     let n = g.workers as usize;

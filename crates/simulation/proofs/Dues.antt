@@ -24,10 +24,10 @@ use Rattle.layout.specs.Shape.{word}
 use Rattle.layout.specs.Places.{readAt}
 use Rattle.engine.specs.Engine.{settledWord}
 use Rattle.engine.specs.Splits.{dueAt, duesAt}
+use Rattle.engine.proofs.Bits.{bit-set, bit-beside}
 use Rattle.simulation.specs.Meaning.{nameIn, Keeps}
 use Rattle.simulation.proofs.Entering.{account-of}
 use Rattle.simulation.proofs.Answering.{unsettled-is}
-use Rattle.simulation.proofs.WordBits.{bit-set, bit-beside}
 
 -- ---- the bits
 

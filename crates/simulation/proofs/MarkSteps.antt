@@ -33,13 +33,13 @@ use Rattle.layout.specs.Shape.{word}
 use Rattle.layout.specs.Places.{readAt, recordOf}
 use Rattle.engine.specs.Engine.{withBit, settledWord, recordFor, foundBefore, splitsAt, marks, stateStepAt}
 use Rattle.engine.proofs.Bits.{bit-room}
+use Rattle.engine.proofs.Bits.{bit-set, bit-beside}
 use Rattle.table.specs.Turns.{updateAt}
 use Rattle.simulation.specs.Meaning.{at, nameIn, accountIn, Keeps, current, HasDirectory, HasWork, Marks}
 use Rattle.simulation.proofs.Frames.{record-wide, own-entry, own-record, directs-same, keeps-same, marks-same}
 use Rattle.simulation.proofs.Entering.{depth-bound, announces, directed-record, raised}
 use Rattle.simulation.proofs.Answering.{full-is, unsettled-is}
 use Rattle.simulation.proofs.Numbering.{any-some, some-any}
-use Rattle.simulation.proofs.WordBits.{bit-set, bit-beside}
 use Rattle.simulation.proofs.OwnWorker.{worker-means, Ready, made-in, Changed, Onward, changed₁, one-word, word-here, goes-on, going, enough₁, own₁, beside₁, slots-kept, toggle-kept, directory-kept, announced-at, plan-step}
 
 -- the kind of an empty slot that was read

@@ -1,10 +1,11 @@
--- `round` stores the record's state after a round with what the worker has read.
+-- `round` stores the record's state after a round with what the worker has read; its own update, where it is alone, is carried out in the words.
 -- Rests on the cases of `roundAt`.
 use Prim.Native.Nat.{ℕ, _+_, _*_}
 use native.Mathlib.Omega.{arith}
-use mathlib.Core.Path.{ap}
+use mathlib.Core.Path.{_∙_, ap}
 use Rattle.layout.specs.Places.{workerAt}
 use Rattle.layout.proofs.Positions.{Placed, placed}
+use Rattle.engine.specs.Engine.{flipBit}
 use Rattle.engine.proofs.Cases.{slots-read, round-none, round-done}
 use borrow.Author.Needs.{needs}
 use Rattle.engine.proofs.steps.round.Statement.{statement}
@@ -13,10 +14,10 @@ use Rattle.engine.proofs.steps.round.Tie as tie
 -- the worker's record lies inside the words
 own :
     (c : tie.After-worker-at)
-    → let args = c .before .before .before .before .before .before .before .before .before .args in
+    → let args = c .before .before .before .before .before .before .before .before .before .before .before .args in
     Placed (args .words .now) (args .g) (c .worker-at .result)
 own c =
-    let known = c .before .before .before .before .before .before .before .before .before .pre in
+    let known = c .before .before .before .before .before .before .before .before .before .before .before .pre in
     rw (c .worker-at .ensures) (placed (known .0) _ (known .1 .0))
 
 worker-word-requires : tie.Need-worker-word-requires
@@ -36,6 +37,26 @@ returns c =
     let read = c .before .before .before in
     let args = read .before .before .before .args in
     round-none _ _ (workerAt (args .g .workers) (args .w)) _ _ _ (read .worker-word .ensures) (c .before .get .ensures) (c .if1 .taken)
+
+flip-bit-requires : tie.Need-flip-bit-requires
+flip-bit-requires c κs = search needs
+
+own-round-requires : tie.Need-own-round-requires
+own-round-requires c κs =
+    let tested = c .before in
+    let flipped = tested .before in
+    let applied = flipped .before .before in
+    let read = applied .before .before in
+    let start = read .before .before .before in
+    let known = start .pre in
+    let bit = tested .if2 .taken ∙ flipped .flip-bit .ensures ∙ ap (λ (x : ℕ). flipBit x (start .args .w)) (applied .get .ensures) in
+    (known .0, (known .1 .0, (known .1 .1, (read .worker-word .ensures, bit))))
+
+same-length-2 : tie.Need-same-length-2
+same-length-2 c = search needs
+
+returns-2 : tie.Need-returns-2
+returns-2 c = search needs
 
 load-state-requires : tie.Need-load-state-requires
 load-state-requires c κs = search needs
@@ -69,19 +90,19 @@ round-requires c κs = search needs
 
 store-state-requires : tie.Need-store-state-requires
 store-state-requires c κs =
-    let known = c .before .before .before .before .before .before .before .before .before .before .before .before .before .pre in
+    let known = c .before .before .before .before .before .before .before .before .before .before .before .before .before .before .before .pre in
     (known .1 .1, (known .0 .capacity, known .0 .workers))
 
-same-length-2 : tie.Need-same-length-2
-same-length-2 c = search needs
+same-length-3 : tie.Need-same-length-3
+same-length-3 c = search needs
 
-returns-2 : tie.Need-returns-2
-returns-2 c =
+returns-3 : tie.Need-returns-3
+returns-3 c =
     let stored = c .before .before in
     let done = stored .before .before in
     let worker = done .before .before .before in
     let loaded = worker .before in
-    let tested = loaded .before .before in
+    let tested = loaded .before .before .before .before in
     let read = tested .before .before .before in
     let args = read .before .before .before .args in
     let l = args .words .now in
@@ -98,6 +119,10 @@ round-spec =
     get-requires
     same-length
     returns
+    flip-bit-requires
+    own-round-requires
+    same-length-2
+    returns-2
     load-state-requires
     worker-at-requires
     add-from
@@ -109,5 +134,5 @@ round-spec =
     part-round-end
     round-requires
     store-state-requires
-    same-length-2
-    returns-2)
+    same-length-3
+    returns-3)
