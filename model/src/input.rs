@@ -1,4 +1,4 @@
-//! Random input for `totals`, all a function of the seed: sessions of every setting that fits the lent
+//! Random input for `totals`, all a function of the seed: lists for every setting that fits the lent
 //! words, with lines that are refused or cannot be read in between.
 
 use crate::fault::Fault;
@@ -24,9 +24,9 @@ enum Pace {
 pub struct Input {
     prng: Prng,
     driver: Driver,
-    /// Lines left in this session, or before the first.
+    /// Lines left before the next opening.
     left: u64,
-    /// Draws the session's lines, if they are orders as `search` tries them.
+    /// Draws the list's lines, if they are orders as `search` tries them.
     orders: Option<Generator>,
     settings: Settings,
     pace: Pace,
@@ -62,7 +62,7 @@ impl Input {
         }
     }
 
-    /// The next line, without its line feed. A session's opening is always a good one.
+    /// The next line, without its line feed. The opening of a list is always a good one.
     pub fn next_line(&mut self) -> Vec<u8> {
         let opens = self.left == 0;
         let line = if opens { self.begin() } else { self.draw() };
@@ -88,7 +88,7 @@ impl Input {
         }
     }
 
-    /// Draws a new session, and opens it.
+    /// Draws a new list, and its opening.
     fn begin(&mut self) -> Line {
         let filling = self.prng.percent(3);
         self.left = match filling {
