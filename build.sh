@@ -11,9 +11,12 @@ quiet() { "$@" >"$log" 2>&1 || { cat "$log" >&2 && exit 1; }; }
 
 quiet rt staticlib capi
 mkdir -p target/examples
-quiet cc -std=c99 -O2 -Wall -Wextra -pedantic -Iinclude examples/c/dispatcher.c target/staticlib/libcapi.a -o target/examples/dispatcher
-quiet cargo build --release --offline --manifest-path bindings/rust/Cargo.toml --target-dir bindings/rust/target --lib --examples
+quiet cc -std=c99 -O2 -Wall -Wextra -pedantic -Iinclude examples/c/dispatcher.c target/staticlib/libcapi.a \
+  -o target/examples/dispatcher
+quiet cargo build --release --offline --manifest-path bindings/rust/Cargo.toml --target-dir bindings/rust/target \
+  --lib --examples
 
-for built in target/staticlib/libcapi.a target/examples/dispatcher bindings/rust/target/release/{libtotals.rlib,examples/dispatcher}; do
+for built in target/staticlib/libcapi.a target/examples/dispatcher \
+  bindings/rust/target/release/{libtotals.rlib,examples/dispatcher}; do
   [ -e "$built" ] && echo "built $built ($(wc -c <"$built") bytes)"
 done

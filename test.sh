@@ -1,7 +1,7 @@
 #!/usr/bin/env bash
-# All tests: the layout of the Rattle files, the proofs with their must-fail edits (rt ci), the second model's tests, the program and the
-# interfaces for C and Rust against the model, foreign memory, and the compiled library against its source as Rust.
-# The last line is 'N passed, M failed'; the exit status is 0 only if M is 0.
+# All tests: the layout of the Rattle files, the proofs with their must-fail edits (rt ci), the second model's tests,
+# the program and the interfaces for C and Rust against the model, foreign memory, and the compiled library against its
+# source as Rust. The last line is 'N passed, M failed'; the exit status is 0 only if M is 0.
 set -u
 cd "$(dirname "$0")" || exit 2
 log=$(mktemp) || exit 2
@@ -9,7 +9,7 @@ trap 'rm -f "$log"' EXIT
 passed=0
 failed=0
 
-# adds the counts of every line of the log that matches the sed expression; a run that failed without a count is one failure
+# adds the counts of every line of the log that matches the sed expression; a failed run without a count is one failure
 count() {
   local status=$1 expression=$2 p=0 f=0 lines
   lines=$(sed -nE "$expression" "$log")

@@ -1,4 +1,5 @@
-// Makes a Rust file for each static library that is compared: its Rattle crates, a module a crate, the contracts left out. Links the libraries.
+// Makes a Rust file for each static library that is compared: its Rattle crates, a module a crate, the contracts left
+// out. Links the libraries.
 use std::path::{Path, PathBuf};
 use std::{env, fs};
 
@@ -10,12 +11,13 @@ struct Library {
 const LIBRARIES: [Library; 2] = [
     Library {
         name: "leaves",
-        crates: &["bucket", "memory", "leaves"],
+        crates: &["interface", "fields", "bucket", "memory", "leaves"],
     },
     Library {
         name: "capi",
         crates: &[
             "interface",
+            "fields",
             "bucket",
             "memory",
             "layout",
@@ -33,12 +35,22 @@ impl Library {
         println!("cargo:rerun-if-changed={}", file.display());
         let source = fs::read_to_string(file).unwrap_or_else(|e| panic!("{}: {e}", file.display()));
         let mut out = self.imports(own);
+        // braces of a contract that are still open: it may go over lines
+        let mut open = 0;
         for line in source.lines() {
             let word = line.trim_start();
-            let contract = ["ghost use ", "requires {", "ensures {"]
+            let contract = ["requires {", "ensures {"]
                 .iter()
                 .any(|p| word.starts_with(p));
-            if contract || word.starts_with("#[no_mangle]") {
+            if contract || open > 0 {
+                open += word.matches('{').count();
+                open -= word.matches('}').count();
+                continue;
+            }
+            if ["ghost use ", "#[no_mangle]"]
+                .iter()
+                .any(|p| word.starts_with(p))
+            {
                 continue;
             }
             let item = word.strip_prefix("pub ").unwrap_or(word);

@@ -1,6 +1,7 @@
 #!/usr/bin/env bash
-# Instructions of load, search, put, remove and half on a bucket record: the proved library beside the same source compiled as Rust.
-# Counted by callgrind inside the compared function, so that the driver's loop is not in it. Needs rt, cargo and valgrind.
+# Instructions of load, search, put, remove and half on a bucket record: the proved library beside the same source
+# compiled as Rust. Counted by callgrind inside the compared function, so that the driver's loop is not in it. Needs rt,
+# cargo and valgrind.
 set -euo pipefail
 cd "$(dirname "$0")/.."
 rt staticlib leaves >/dev/null
@@ -22,6 +23,7 @@ for operation in move search put remove half; do
     read -r accounts workers <<<"$shape"
     ours=$(count proved "$operation" "$accounts" "$workers" leaf)
     theirs=$(count same "$operation" "$accounts" "$workers" '*same_leaf*')
-    printf '%-8s %9s %8s %8s %8s %6s\n' "$operation" "$accounts" "$workers" "$ours" "$theirs" "$(awk -v a="$ours" -v b="$theirs" 'BEGIN { printf "%.2f", a / b }')"
+    ratio=$(awk -v a="$ours" -v b="$theirs" 'BEGIN { printf "%.2f", a / b }')
+    printf '%-8s %9s %8s %8s %8s %6s\n' "$operation" "$accounts" "$workers" "$ours" "$theirs" "$ratio"
   done
 done

@@ -1,6 +1,7 @@
 #!/usr/bin/env bash
-# The whole table beside the same source compiled as Rust, a hand-written twin and a locked map: instructions an operation, and time ratios.
-# callgrind counts inside the compared functions only, so that the driver's loop is not in it. Needs rt, cargo and valgrind.
+# The whole table beside the same source compiled as Rust, a hand-written twin and a locked map: instructions an
+# operation, and time ratios. callgrind counts inside the compared functions only, so that the driver's loop is not in
+# it. Needs rt, cargo and valgrind.
 set -euo pipefail
 cd "$(dirname "$0")/.."
 folder=$(mktemp -d)
@@ -18,7 +19,8 @@ counted() {
     options+=("--toggle-collect=$symbol")
   done
   valgrind --tool=callgrind --callgrind-out-file="$folder/dump" --collect-atstart=no "${options[@]}" \
-    --zero-before='*measured_*' --dump-before='*counted*' bench/target/release/table count >"$folder/cases" 2>"$folder/log" ||
+    --zero-before='*measured_*' --dump-before='*counted*' bench/target/release/table count \
+    >"$folder/cases" 2>"$folder/log" ||
     { cat "$folder/log" >&2 && return 1; }
   while read -r work workers side operations; do
     i=$((i + 1))
@@ -42,7 +44,8 @@ table() {
         split(row, name, " ")
         printf "%-9s %2s", name[1], name[2]
         for (i = 1; i <= sides; i++) printf " %9" format, value[row, side[i]]
-        printf " %10s %9s %9s %9s\n", ratio(row, "steps", "same"), ratio(row, "steps", "twin"), ratio(row, "run", "twin"), ratio(row, "run", "map")
+        printf " %10s %9s", ratio(row, "steps", "same"), ratio(row, "steps", "twin")
+        printf " %9s %9s\n", ratio(row, "run", "twin"), ratio(row, "run", "map")
       }
     }'
 }
@@ -51,7 +54,9 @@ table() {
 goals() {
   awk '
     { value[$1, $2, $3] = $4 }
-    function goal(text, is, most) { printf "%-58s %8.2f  at most %7.2f  %s\n", text, is, most, is <= most ? "met" : "missed" }
+    function goal(text, is, most) {
+      printf "%-58s %8.2f  at most %7.2f  %s\n", text, is, most, is <= most ? "met" : "missed"
+    }
     END {
       goal("lookup by single steps", value["lookups", 1, "steps"], 220)
       goal("insert by single steps, n 1", value["inserts", 1, "steps"], 1750)
@@ -63,18 +68,21 @@ goals() {
       }
       goal("single steps to the same source as Rust: worst ratio", worst, 1.2)
       goal("lookup by run, most: the map", value["lookups", 1, "run"], value["lookups", 1, "map"])
-      goal("insert by run, n 1, most: 1.3 of the twin by single steps", value["inserts", 1, "run"], 1.3 * value["inserts", 1, "twin"])
+      goal("insert by run, n 1, most: 1.3 of the twin by single steps", \
+        value["inserts", 1, "run"], 1.3 * value["inserts", 1, "twin"])
       a = value["depth-0", 1, "steps"]; b = value["depth-8", 1, "steps"]
       goal("lookup at M 8 to M 0, buckets equally full: ratio", b / a, 1.1)
     }'
 }
 
 counted >"$folder/counts"
-echo "instructions an operation, b 8, M 8 (inserts, lookups, mixed: 1,000 accounts are there; growing: they are inserted)"
+printf '%s' 'instructions an operation, b 8, M 8 '
+echo '(inserts, lookups, mixed: 1,000 accounts are there; growing: they are inserted)'
 table .0f <"$folder/counts"
 echo
 goals <"$folder/counts"
-echo "lookup by single steps at M 0, 4, 8, 4 accounts in each bucket: $(awk '/^depth-. 1 steps/ { printf "%s ", $4 }' "$folder/counts")"
+depths=$(awk '/^depth-. 1 steps/ { printf "%s ", $4 }' "$folder/counts")
+echo "lookup by single steps at M 0, 4, 8, 4 accounts in each bucket: $depths"
 echo
 echo "nanoseconds an operation, one run, the least of nine rounds"
 bench/target/release/table time | table .1f

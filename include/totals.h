@@ -3,16 +3,20 @@
  * The functions are those of the static library capi, whose contracts (crates/capi) are what is said here.
  *
  * What every function promises
- *   - It takes any words and any numbers. Whatever the words hold, it reads and writes nothing outside the slices it was lent, and returns.
+ *   - It takes any words and any numbers. Whatever the words hold, it reads and writes nothing outside the slices it
+ *     was lent, and returns.
  *   - Where it returns a refusal (1 to 8, 10), it has changed no word, no list and no report.
- *   - It keeps nothing between calls: all of the table is in the words. It allocates nothing, and calls nothing but memcpy and memset.
- *   - Over words that totals_open accepted and that nothing but these calls has changed since, lent whole each time: TOTALS_STRANGE never
- *     comes; answers and listings are those of a plain table that serves each operation at one moment between its call and its answer;
- *     a lookup is answered at the second step after its call, an update at step 12n+33 or earlier, whatever the other workers do.
+ *   - It keeps nothing between calls: all of the table is in the words. It allocates nothing, and calls nothing but
+ *     memcpy and memset.
+ *   - Over words that totals_open accepted and that nothing but these calls has changed since, lent whole each time:
+ *     TOTALS_STRANGE never comes; answers and listings are those of a plain table that serves each operation at one
+ *     moment between its call and its answer; a lookup is answered at the second step after its call, an update at step
+ *     12n+33 or earlier, whatever the other workers do.
  *
  * What the caller owes
- *   - A slice is a pointer and a length, counted in its items. The pointer is not null, also where the length is 0, is aligned for the
- *     item's type, and as many items as the length says can be read there and, where the pointer is not const, written.
+ *   - A slice is a pointer and a length, counted in its items. The pointer is not null, also where the length is 0, is
+ *     aligned for the item's type, and as many items as the length says can be read there and, where the pointer is not
+ *     const, written.
  *   - The slices of one call do not overlap.
  *   - One call at a time over the same words: the workers' steps are interleaved by the caller, not by threads.
  */
@@ -34,7 +38,10 @@ extern "C" {
 #define TOTALS_LEAST_DEPTH 0
 #define TOTALS_GREATEST_DEPTH 8
 
-/* The words needed for the least and for the greatest settings, and the most accounts a table can hold: b for each of 2^M prefixes. */
+/*
+ * The words needed for the least and for the greatest settings, and the most accounts a table can hold: b for each of
+ * 2^M prefixes.
+ */
 #define TOTALS_LEAST_WORDS 150
 #define TOTALS_GREATEST_WORDS 15169
 #define TOTALS_GREATEST_COUNT 4096
@@ -70,27 +77,30 @@ extern "C" {
 #define TOTALS_ABSENT 20   /* delete: the account was not there */
 #define TOTALS_FOUND 21    /* lookup: the total is in the report */
 #define TOTALS_NONE 22     /* lookup: the account is not there */
-#define TOTALS_CROWDED 25  /* insert or delete: the table holds b accounts that agree with this one in the first M bits; nothing changed */
+#define TOTALS_CROWDED 25  /* insert or delete: the table holds b accounts that agree with this one in the first M bits;
+                              nothing changed */
 
 /*
- * How many words a table of these settings needs: 150 to 15,169. Or TOTALS_SETTINGS, 1, where one of them is outside its range.
+ * How many words a table of these settings needs: 150 to 15,169. Or TOTALS_SETTINGS, 1, where one of them is outside
+ * its range.
  */
 uint64_t totals_words_needed(uint64_t workers, uint64_t capacity, uint64_t depth);
 
 /*
- * Lays a fresh, empty table with idle workers into the words, whatever they held; words past those needed stay as they are.
- * Returns TOTALS_OK, or, tested in this order and with no word changed:
+ * Lays a fresh, empty table with idle workers into the words, whatever they held; words past those needed stay as they
+ * are. Returns TOTALS_OK, or, tested in this order and with no word changed:
  *   TOTALS_SETTINGS  a setting is outside its range;
  *   TOTALS_SHORT     length is below totals_words_needed.
  */
 uint64_t totals_open(uint64_t *words, size_t length, uint64_t workers, uint64_t capacity, uint64_t depth);
 
 /*
- * Hands an operation to an idle worker. It takes its steps later; an update takes its ticket here. total counts for an insert only.
- * Returns TOTALS_OK, or, tested in this order and with no word changed:
- *   TOTALS_STRANGE   the words fail a check: there are fewer than 150; the first one has no mark of a table; the second one, the words
- *                    needed, is above length; they are too few for the workers that the first one names and one record. Words of zeros
- *                    always fail. Words that pass are served, whatever the rest of them holds.
+ * Hands an operation to an idle worker. It takes its steps later; an update takes its ticket here. total counts for an
+ * insert only. Returns TOTALS_OK, or, tested in this order and with no word changed:
+ *   TOTALS_STRANGE   the words fail a check: there are fewer than 150; the first one has no mark of a table; the second
+ *                    one, the words needed, is above length; they are too few for the workers that the first one names
+ *                    and one record. Words of zeros always fail. Words that pass are served, whatever the rest of them
+ *                    holds.
  *   TOTALS_STRANGER  worker is n or more;
  *   TOTALS_BUSY      the worker's operation has no answer yet;
  *   TOTALS_KIND      kind is none of TOTALS_INSERT, TOTALS_DELETE, TOTALS_LOOKUP;
@@ -101,9 +111,10 @@ uint64_t totals_call(uint64_t *words, size_t length, uint64_t worker, uint64_t k
 /*
  * One step of a worker's operation. Returns
  *   TOTALS_MOVED     the operation goes on; the report is not touched;
- *   an answer, TOTALS_ADDED to TOTALS_CROWDED: the operation has ended and the worker is idle again. A report of two places or more
- *                    then has at place 0 the steps that the operation took in all, and at place 1 the total found as a word of two's
- *                    complement, (int64_t)report[1], or 0 where the answer is not TOTALS_FOUND. A shorter report is not touched.
+ *   an answer, TOTALS_ADDED to TOTALS_CROWDED: the operation has ended and the worker is idle again. A report of two
+ *                    places or more then has at place 0 the steps that the operation took in all, and at place 1 the
+ *                    total found as a word of two's complement, (int64_t)report[1], or 0 where the answer is not
+ *                    TOTALS_FOUND. A shorter report is not touched.
  * Or, tested in this order and with no word and no report changed:
  *   TOTALS_STRANGE   as in totals_call;
  *   TOTALS_STRANGER  worker is n or more;
@@ -112,16 +123,19 @@ uint64_t totals_call(uint64_t *words, size_t length, uint64_t worker, uint64_t k
 uint64_t totals_step(uint64_t *words, size_t length, uint64_t worker, uint64_t *report, size_t report_length);
 
 /*
- * Up to `most` steps of a worker's operation, ending early at its answer, and given up after TOTALS_GREATEST_RUN steps, which no operation of
- * an opened table takes. Returns as totals_step does, with the same tests in the same order, made once; but where it returns TOTALS_MOVED, a
- * report of two places or more has at place 0 the steps that were given, and at place 1 a 0. Over words that no opening left an operation
- * may vanish at a step; the run then ends there with TOTALS_MOVED.
+ * Up to `most` steps of a worker's operation, ending early at its answer, and given up after TOTALS_GREATEST_RUN steps,
+ * which no operation of an opened table takes. Returns as totals_step does, with the same tests in the same order, made
+ * once; but where it returns TOTALS_MOVED, a report of two places or more has at place 0 the steps that were given, and
+ * at place 1 a 0. Over words that no opening left an operation may vanish at a step; the run then ends there with
+ * TOTALS_MOVED.
  */
-uint64_t totals_run(uint64_t *words, size_t length, uint64_t worker, uint64_t most, uint64_t *report, size_t report_length);
+uint64_t totals_run(uint64_t *words, size_t length, uint64_t worker, uint64_t most, uint64_t *report,
+                    size_t report_length);
 
 /*
- * Writes the accounts in ascending order with their totals to the start of both lists, and nothing past the count; a report of one place or
- * more has the count at place 0. The words stay as they are. Lists of TOTALS_GREATEST_COUNT places are long enough for every table.
+ * Writes the accounts in ascending order with their totals to the start of both lists, and nothing past the count; a
+ * report of one place or more has the count at place 0. The words stay as they are. Lists of TOTALS_GREATEST_COUNT
+ * places are long enough for every table.
  * Returns TOTALS_OK, or, tested in this order and with no list and no report changed:
  *   TOTALS_STRANGE   as in totals_call;
  *   TOTALS_NARROW    the accounts or the totals list is shorter than the count.

@@ -1,4 +1,5 @@
-# What the scripts that run `totals` share: the program, the second model, and the counts. Sourced at the top of the repository.
+# What the scripts that run `totals` share: the program, the second model, and the counts.
+# Sourced at the top of the repository.
 totals=target/bin/totals
 model=model/target/release/model
 [ -x "$totals" ] || rt check totals >/dev/null || exit 2

@@ -1,7 +1,8 @@
 #!/usr/bin/env bash
-# Random input, answered by the compiled program and by the second model: every byte has to agree, and every sort of answer has to occur.
-# compare.sh [SEED LINES]...: without arguments, fixed seeds of 400,000 lines in all, and each wrong machine of the model has to be told
-# from the program by the last of them.
+# Random input, answered by the compiled program and by the second model: every byte has to agree, and every sort of
+# answer has to occur.
+# compare.sh [SEED LINES]...: without arguments, fixed seeds of 400,000 lines in all, and each wrong machine of the
+# model has to be told from the program by the last of them.
 set -u
 cd "$(dirname "$0")/.." || exit 2
 . tests/common.sh
@@ -9,7 +10,8 @@ cd "$(dirname "$0")/.." || exit 2
 
 # compare SEED LINES
 compare() {
-  "$model" lines "$1" "$2" >"$run/input" && "$model" totals <"$run/input" >"$run/model" && "$totals" <"$run/input" >"$run/totals"
+  "$model" lines "$1" "$2" >"$run/input" && "$model" totals <"$run/input" >"$run/model" &&
+    "$totals" <"$run/input" >"$run/totals"
   local status=$?
   [ "$status" -eq 0 ] && { cmp "$run/totals" "$run/model" || status=1; }
   check "$status" "seed $1: $2 lines, $(wc -c <"$run/totals") bytes of output"

@@ -1,5 +1,6 @@
 #!/usr/bin/env bash
-# The program at the edges of its input and output: no input, long lines, any bytes, input in pieces, output that cannot be written.
+# The program at the edges of its input and output: no input, long lines, any bytes, input in pieces, output that cannot
+# be written.
 set -u
 cd "$(dirname "$0")/.." || exit 2
 . tests/common.sh
@@ -43,7 +44,9 @@ blocks() {
 
 # the most accounts that fit the lent words: 11 in each of 256 buckets; the longest rows
 listings() {
-  awk 'BEGIN { for (p = 0; p < 256; p++) for (i = 1; i <= 11; i++) printf "%.0f -9223372036854775808\n", p * 16777216 + i }' >"$run/rows"
+  awk 'BEGIN {
+    for (p = 0; p < 256; p++) for (i = 1; i <= 11; i++) printf "%.0f -9223372036854775808\n", p * 16777216 + i
+  }' >"$run/rows"
   { echo 'O 1 11 8' && sed 's/.*/I 0 &\nS 0 9999/' "$run/rows"; } >"$run/fill"
   echo 'end 2816' >>"$run/rows"
   { cat "$run/fill" && repeat 50 $'T\n' && printf 'I 0 0 1\nS 0 9999\nT'; } >"$run/input"

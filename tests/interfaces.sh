@@ -1,6 +1,7 @@
 #!/usr/bin/env bash
-# The interfaces for C and Rust: the header, the library's symbols, both examples, the Rust crate's tests, and the lines of `totals` over
-# the C interface against the second model. The last line is 'N passed, M failed'; the exit status is 0 only if M is 0.
+# The interfaces for C and Rust: the header, the library's symbols, both examples, the Rust crate's tests, and the lines
+# of `totals` over the C interface against the second model. The last line is 'N passed, M failed'; the exit status is 0
+# only if M is 0.
 # interfaces.sh [SEED LINES]...: without arguments, fixed seeds of 600,000 lines in all.
 set -u
 cd "$(dirname "$0")/.." || exit 2
@@ -26,7 +27,8 @@ header() {
     "$compiler" -std=c99 "${strict[@]}" -fsyntax-only -x c "$run/header.h"
     check $? "the header as C99 by $compiler"
   done
-  printf '#include "totals.h"\nint main() { return totals_words_needed(1, 2, 0) != TOTALS_LEAST_WORDS; }\n' >"$run/linked.cc"
+  printf '#include "totals.h"\nint main() { return totals_words_needed(1, 2, 0) != TOTALS_LEAST_WORDS; }\n' \
+    >"$run/linked.cc"
   for compiler in c++ clang++; do
     command -v "$compiler" >/dev/null || continue
     "$compiler" -std=c++11 "${strict[@]}" -fsyntax-only -x c++ "$run/header.h"
@@ -41,7 +43,8 @@ symbols() {
   sed -nE 's/^uint64_t (totals_[a-z_]+)\(.*$/\1/p' include/totals.h | sort >"$run/declared"
   nm -g --defined-only "$library" | awk 'NF == 3 { print $3 }' | sort | diff "$run/declared" -
   check $? "the library exports the $(wc -l <"$run/declared") functions of the header and no more"
-  nm -g --undefined-only "$library" | awk 'NF == 2 && $2 != "memcpy" && $2 != "memset" { print; other = 1 } END { exit other }'
+  nm -g --undefined-only "$library" |
+    awk 'NF == 2 && $2 != "memcpy" && $2 != "memset" { print; other = 1 } END { exit other }'
   check $? "the library calls memcpy and memset only"
 }
 
@@ -61,10 +64,11 @@ readme() { awk -v start="\`\`\`$1" '$0 == start { on = 1; next } /^```/ { on = 0
 
 # what the README shows is built and does what it says there
 shown() {
-  readme c >"$run/shown.c" && cc -std=c99 "${strict[@]}" "$run/shown.c" "$library" -o "$run/shown" && [ "$("$run/shown")" = "found 700" ]
+  readme c >"$run/shown.c" && cc -std=c99 "${strict[@]}" "$run/shown.c" "$library" -o "$run/shown" &&
+    [ "$("$run/shown")" = "found 700" ]
   check $? "the README's C prints what it says"
-  readme rust >"$run/shown.rs" && rustc --edition 2021 --extern totals=bindings/rust/target/release/libtotals.rlib -L native=target/staticlib \
-    "$run/shown.rs" -o "$run/shown-rust" && "$run/shown-rust"
+  readme rust >"$run/shown.rs" && rustc --edition 2021 --extern totals=bindings/rust/target/release/libtotals.rlib \
+    -L native=target/staticlib "$run/shown.rs" -o "$run/shown-rust" && "$run/shown-rust"
   check $? "the README's Rust runs"
 }
 
@@ -92,8 +96,9 @@ compare() {
 }
 
 lines() {
-  local sorts='answered absent,answered added,answered crowded,answered found,answered none,answered removed,answered replaced'
-  sorts+=',end,moved,ok,refused 1,refused 2,refused 3,refused 4,refused 5,refused 8,row,unread,'
+  local occurred sorts='answered absent,answered added,answered crowded,answered found,answered none,'
+  sorts+='answered removed,answered replaced,'
+  sorts+='end,moved,ok,refused 1,refused 2,refused 3,refused 4,refused 5,refused 8,row,unread,'
   cc -std=c99 -O2 "${strict[@]}" tests/c/lines.c "$library" -o "$run/lines"
   check $? "the program for lines over the C interface is built"
   while [ $# -ge 2 ]; do
@@ -101,7 +106,9 @@ lines() {
     cat "$run/output" >>"$run/all"
     shift 2
   done
-  [ "$(awk '{ print /^(answered|refused) / ? $1 " " $2 : /^[0-9]/ ? "row" : $1 }' "$run/all" | sort -u | tr '\n' ',')" = "$sorts" ]
+  occurred=$(awk '{ print /^(answered|refused) / ? $1 " " $2 : /^[0-9]/ ? "row" : $1 }' "$run/all" |
+    sort -u | tr '\n' ',')
+  [ "$occurred" = "$sorts" ]
   check $? "every sort of line comes up, and no other"
 }
 

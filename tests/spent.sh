@@ -1,6 +1,6 @@
 #!/usr/bin/env bash
-# Document 01: "Update 65,535 of one worker is accepted, the next 7; its lookup is still accepted." Inserts and deletes in turn; then what
-# tests/spent.in asks, which is met with tests/spent.out.
+# Document 01: "Update 65,535 of one worker is accepted, the next 7; its lookup is still accepted." Inserts and deletes
+# in turn; then what tests/spent.in asks, which is met with tests/spent.out.
 set -u
 cd "$(dirname "$0")/.." || exit 2
 . tests/common.sh

@@ -15,6 +15,13 @@ extern "C" {
     ) -> u64;
 }
 
+// The operations by their numbers, `which` below; any other number moves.
+pub const MOVE: u64 = 0;
+pub const SEARCH: u64 = 1;
+pub const PUT: u64 = 2;
+pub const REMOVE: u64 = 3;
+pub const HALF: u64 = 4;
+
 // What is asked of a record; the fields are those of the compared function.
 #[derive(Clone, Copy)]
 pub struct Work {

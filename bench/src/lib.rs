@@ -1,4 +1,6 @@
-// The table by its proved library, by the same source compiled as Rust, by a hand-written twin, and a locked map: the same work for each.
+// The table by its proved library, by the same source compiled as Rust, by a hand-written twin, and a locked map: the
+// same work for each.
+pub mod fields;
 pub mod leaf;
 pub mod sides;
 pub mod turns;

@@ -1,12 +1,13 @@
 // The compared tables behind one trait, and a locked map.
+use crate::fields::*;
 use crate::same::capi::capi;
 use crate::twin::{Answer, Kind, Stepped, Twin};
-use crate::work::{Operation, DELETE, INSERT};
+use crate::work::Operation;
 use std::collections::HashMap;
 use std::hint::black_box;
 use std::sync::Mutex;
 
-// 0 moved, a refusal's number, or 16 and the answer's number with the steps of the operation and the total found.
+// TOTALS_MOVED, a refusal's number, or an answer's number with the steps of the operation and the total found.
 #[derive(Clone, Copy, PartialEq, Eq, Debug)]
 pub struct Reply {
     pub code: u64,
@@ -25,7 +26,7 @@ impl Reply {
 
     // of up to so many steps; what is reported where none of them answered, the steps given, is left out
     fn of_run(code: u64, report: [u64; 2]) -> Reply {
-        Reply::new(code, if code == 0 { [0; 2] } else { report })
+        Reply::new(code, if code == TOTALS_MOVED { [0; 2] } else { report })
     }
 }
 
@@ -75,7 +76,7 @@ extern "C" {
     ) -> u64;
 }
 
-const PLACES: usize = 4096;
+const PLACES: usize = TOTALS_GREATEST_COUNT;
 
 // The proved library.
 pub struct Proved(pub Vec<u64>);
@@ -86,7 +87,7 @@ impl Table for Proved {
         let mut words = vec![0; black_box(needed as usize)];
         let opened =
             unsafe { totals_open(words.as_mut_ptr(), words.len(), workers, capacity, depth) };
-        assert_eq!(opened, 0);
+        assert_eq!(opened, TOTALS_OK);
         Proved(words)
     }
 
@@ -147,7 +148,7 @@ impl Table for Proved {
                 2,
             )
         };
-        assert_eq!(code, 0);
+        assert_eq!(code, TOTALS_OK);
         (0..report[0] as usize).map(|i| (a[i], t[i])).collect()
     }
 }
@@ -161,7 +162,7 @@ impl Table for Same {
             vec![0; black_box(capi::same_totals_words_needed(workers, capacity, depth) as usize)];
         assert_eq!(
             capi::same_totals_open(&mut words, workers, capacity, depth),
-            0
+            TOTALS_OK
         );
         Same(words)
     }
@@ -186,7 +187,7 @@ impl Table for Same {
         let (mut a, mut t, mut report) = ([0; PLACES], [0; PLACES], [0; 2]);
         assert_eq!(
             capi::same_totals_list(&self.0, &mut a, &mut t, &mut report),
-            0
+            TOTALS_OK
         );
         (0..report[0] as usize).map(|i| (a[i], t[i])).collect()
     }
@@ -194,15 +195,15 @@ impl Table for Same {
 
 fn reply_of(stepped: Stepped) -> Reply {
     let (code, steps, total) = match stepped {
-        Stepped::Moved => (0, 0, 0),
+        Stepped::Moved => (TOTALS_MOVED, 0, 0),
         Stepped::Refused(number) => (u64::from(number), 0, 0),
-        Stepped::Answered(Answer::Added, k) => (17, k, 0),
-        Stepped::Answered(Answer::Replaced, k) => (18, k, 0),
-        Stepped::Answered(Answer::Removed, k) => (19, k, 0),
-        Stepped::Answered(Answer::Absent, k) => (20, k, 0),
-        Stepped::Answered(Answer::Found(total), k) => (21, k, total),
-        Stepped::Answered(Answer::Missing, k) => (22, k, 0),
-        Stepped::Answered(Answer::Crowded, k) => (25, k, 0),
+        Stepped::Answered(Answer::Added, k) => (TOTALS_ADDED, k, 0),
+        Stepped::Answered(Answer::Replaced, k) => (TOTALS_REPLACED, k, 0),
+        Stepped::Answered(Answer::Removed, k) => (TOTALS_REMOVED, k, 0),
+        Stepped::Answered(Answer::Absent, k) => (TOTALS_ABSENT, k, 0),
+        Stepped::Answered(Answer::Found(total), k) => (TOTALS_FOUND, k, total),
+        Stepped::Answered(Answer::None, k) => (TOTALS_NONE, k, 0),
+        Stepped::Answered(Answer::Crowded, k) => (TOTALS_CROWDED, k, 0),
     };
     Reply {
         code,
@@ -218,8 +219,8 @@ impl Table for Twin {
 
     fn call(&mut self, worker: u64, o: Operation) -> u64 {
         let kind = match o.kind {
-            INSERT => Kind::Insert,
-            DELETE => Kind::Delete,
+            KIND_INSERT => Kind::Insert,
+            KIND_DELETE => Kind::Delete,
             _ => Kind::Lookup,
         };
         u64::from(Twin::call(self, worker as usize, kind, o.account, o.total))
@@ -238,7 +239,7 @@ impl Table for Twin {
     }
 }
 
-// The standard library's map behind a lock, as it comes: its hash keys are drawn anew in each run, all else here is fixed.
+// The standard library's map behind a lock, as it comes: its hash keys are drawn anew in each run, all else is fixed.
 #[derive(Default)]
 pub struct Map(Mutex<HashMap<u32, i64>>);
 
@@ -248,23 +249,25 @@ impl Map {
     pub fn operate(&self, o: Operation) -> (u64, i64) {
         let mut map = self.0.lock().unwrap();
         match o.kind {
-            INSERT => (
+            KIND_INSERT => (
                 if map.insert(o.account, o.total).is_some() {
-                    18
+                    TOTALS_REPLACED
                 } else {
-                    17
+                    TOTALS_ADDED
                 },
                 0,
             ),
-            DELETE => (
+            KIND_DELETE => (
                 if map.remove(&o.account).is_some() {
-                    19
+                    TOTALS_REMOVED
                 } else {
-                    20
+                    TOTALS_ABSENT
                 },
                 0,
             ),
-            _ => map.get(&o.account).map_or((22, 0), |total| (21, *total)),
+            _ => map
+                .get(&o.account)
+                .map_or((TOTALS_NONE, 0), |total| (TOTALS_FOUND, *total)),
         }
     }
 

@@ -1,12 +1,11 @@
 // How operations are handed to the workers, and steps given to them.
+use crate::fields::{GREATEST_WORKERS, TOTALS_GREATEST_RUN, TOTALS_MOVED, TOTALS_OK};
 use crate::sides::{Map, Reply, Table};
 use crate::work::Operation;
 use std::hint::black_box;
 
-// More steps than any operation takes.
-const MOST: u64 = 256;
-
-// One step a worker in turn; a worker takes the next operation as soon as its last is answered. Told: each operation's place and reply.
+// One step a worker in turn; a worker takes the next operation as soon as its last is answered. Told: each operation's
+// place and reply.
 #[inline(always)]
 pub fn by_steps<T: Table>(
     table: &mut T,
@@ -14,17 +13,17 @@ pub fn by_steps<T: Table>(
     operations: &[Operation],
     mut told: impl FnMut(usize, Reply),
 ) {
-    let mut under_way = [None; 8];
+    let mut under_way = [None; GREATEST_WORKERS];
     let (mut next, mut answered, mut w) = (0, 0, 0);
     while answered < operations.len() {
         if under_way[w].is_none() && next < operations.len() {
-            assert_eq!(table.call(w as u64, operations[next]), 0);
+            assert_eq!(table.call(w as u64, operations[next]), TOTALS_OK);
             under_way[w] = Some(next);
             next += 1;
         }
         if let Some(place) = under_way[w] {
             let reply = table.step(w as u64);
-            if reply.code != 0 {
+            if reply.code != TOTALS_MOVED {
                 told(place, reply);
                 under_way[w] = None;
                 answered += 1;
@@ -34,7 +33,7 @@ pub fn by_steps<T: Table>(
     }
 }
 
-// Each operation run to its answer, the workers in turn.
+// Each operation run to its answer, the workers in turn; none takes as many steps as a run gives.
 #[inline(always)]
 pub fn by_run<T: Table>(
     table: &mut T,
@@ -44,8 +43,8 @@ pub fn by_run<T: Table>(
 ) {
     for (place, o) in operations.iter().enumerate() {
         let w = place as u64 % workers;
-        assert_eq!(table.call(w, *o), 0);
-        told(place, table.run(w, black_box(MOST)));
+        assert_eq!(table.call(w, *o), TOTALS_OK);
+        told(place, table.run(w, black_box(TOTALS_GREATEST_RUN)));
     }
 }
 

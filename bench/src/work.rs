@@ -1,4 +1,5 @@
 // Operations for all sides, from fixed seeds.
+use crate::fields::{KIND_DELETE, KIND_INSERT, KIND_LOOKUP};
 
 // xorshift: the same numbers in every run
 pub struct Random(pub u64);
@@ -16,10 +17,6 @@ impl Random {
         (self.next() >> 16) % n
     }
 }
-
-pub const INSERT: u64 = 1;
-pub const DELETE: u64 = 2;
-pub const LOOKUP: u64 = 3;
 
 #[derive(Clone, Copy)]
 pub struct Operation {
@@ -40,7 +37,7 @@ pub struct Work {
 
 fn insert(account: u32, random: &mut Random) -> Operation {
     Operation {
-        kind: INSERT,
+        kind: KIND_INSERT,
         account,
         total: random.next() as i64 >> 8,
     }
@@ -64,49 +61,41 @@ fn spread_accounts(count: usize, random: &mut Random) -> Vec<u32> {
 // Of ten operations nine are lookups; of four others three are inserts and one a delete.
 fn mixed_kind(random: &mut Random) -> u64 {
     if random.below(10) < 9 {
-        LOOKUP
+        KIND_LOOKUP
     } else if random.below(4) < 3 {
-        INSERT
+        KIND_INSERT
     } else {
-        DELETE
+        KIND_DELETE
     }
 }
 
-// So many operations on 1,000 accounts, b 8, M 8. Growing is their first insert; the other works start with all of them inserted.
+// So many operations on 1,000 accounts, b 8, M 8. Growing is their first insert; the other works start after it.
 pub fn work(name: &'static str, workers: u64, count: usize) -> Work {
     let mut random = Random(88172645463325252);
     let accounts = spread_accounts(1000, &mut random);
     let first: Vec<Operation> = accounts.iter().map(|a| insert(*a, &mut random)).collect();
-    if name == "growing" {
-        return Work {
-            name,
-            workers,
-            capacity: 8,
-            depth: 8,
-            filling: Vec::new(),
-            measured: first,
+    let mut operation = |_| {
+        let kind = match name {
+            "inserts" => KIND_INSERT,
+            "lookups" => KIND_LOOKUP,
+            _ => mixed_kind(&mut random),
         };
-    }
-    let measured = (0..count)
-        .map(|_| {
-            let kind = match name {
-                "inserts" => INSERT,
-                "lookups" => LOOKUP,
-                _ => mixed_kind(&mut random),
-            };
-            let account = accounts[random.below(1000) as usize];
-            Operation {
-                kind,
-                ..insert(account, &mut random)
-            }
-        })
-        .collect();
+        let account = accounts[random.below(1000) as usize];
+        Operation {
+            kind,
+            ..insert(account, &mut random)
+        }
+    };
+    let (filling, measured) = match name {
+        "growing" => (Vec::new(), first),
+        _ => (first, (0..count).map(&mut operation).collect()),
+    };
     Work {
         name,
         workers,
         capacity: 8,
         depth: 8,
-        filling: first,
+        filling,
         measured,
     }
 }
@@ -121,7 +110,7 @@ pub fn even(depth: u64, count: usize) -> Work {
     }
     for i in [1, 3, 5] {
         filling.extend((0..1 << depth).map(|p| Operation {
-            kind: DELETE,
+            kind: KIND_DELETE,
             account: account(p, i),
             total: 0,
         }));
@@ -130,7 +119,7 @@ pub fn even(depth: u64, count: usize) -> Work {
         .map(|_| {
             let place = random.below(1 << depth);
             Operation {
-                kind: LOOKUP,
+                kind: KIND_LOOKUP,
                 account: account(place, 2 * random.below(4)),
                 total: 0,
             }

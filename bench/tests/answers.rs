@@ -1,11 +1,10 @@
-// Every side gives the same answers, totals and step counts on the same random work; those of whole operations are a plain map's where not
-// crowded.
+// Every side gives the same answers, totals and step counts on the same random work; those of whole operations are a
+// plain map's where not crowded.
+use bench::fields::*;
 use bench::sides::{Map, Proved, Reply, Same, Table};
 use bench::turns::{by_run, by_steps};
 use bench::twin::Twin;
-use bench::work::{Operation, Random, DELETE, INSERT, LOOKUP};
-
-const CROWDED: u64 = 25;
+use bench::work::{Operation, Random};
 
 struct Case {
     workers: u64,
@@ -25,7 +24,7 @@ fn case(random: &mut Random) -> Case {
         .collect();
     let operations = (0..random.below(400))
         .map(|_| Operation {
-            kind: [INSERT, INSERT, DELETE, LOOKUP][random.below(4) as usize],
+            kind: [KIND_INSERT, KIND_INSERT, KIND_DELETE, KIND_LOOKUP][random.below(4) as usize],
             account: accounts[random.below(accounts.len() as u64) as usize],
             total: random.next() as i64,
         })
@@ -105,7 +104,7 @@ fn operations_run_to_their_answer_answer_as_a_map() {
         assert_eq!(ours, replies::<Twin>(&c, ran).0);
         let map = Map::default();
         for (o, reply) in c.operations.iter().zip(&ours) {
-            if reply.code == CROWDED {
+            if reply.code == TOTALS_CROWDED {
                 crowded += 1;
             } else {
                 assert_eq!((reply.code, reply.total), map.operate(*o));
@@ -138,12 +137,12 @@ impl Turn {
     }
 }
 
-// Calls, steps and runs of any worker in any order, the refused ones too: the same replies, and the same words after each. The twin knows
-// no kinds but three.
+// Calls, steps and runs of any worker in any order, the refused ones too: the same replies, and the same words after
+// each. The twin knows no kinds but three.
 #[test]
 fn any_order_of_calls_steps_and_runs_answers_alike() {
     let mut random = Random(3);
-    let mut replied = [0; 32];
+    let mut replied = [0; TOTALS_CROWDED as usize + 1];
     for _ in 0..400 {
         let c = case(&mut random);
         let mut proved = Proved::open(c.workers, c.capacity, c.depth);
@@ -163,13 +162,21 @@ fn any_order_of_calls_steps_and_runs_answers_alike() {
             replied[ours.code as usize] += 1;
         }
     }
+    let codes = [
+        TOTALS_STRANGER,
+        TOTALS_BUSY,
+        TOTALS_IDLE,
+        TOTALS_ADDED,
+        TOTALS_CROWDED,
+    ];
     assert!(
-        [3, 4, 5, 17, 25].iter().all(|c| replied[*c] > 100),
+        codes.iter().all(|c| replied[*c as usize] > 100),
         "{replied:?}"
     );
 }
 
-// Words that no opening left, and any arguments: the proved library and the same source in Rust reply alike and leave the same words.
+// Words that no opening left, and any arguments: the proved library and the same source in Rust reply alike and leave
+// the same words.
 #[test]
 fn on_any_words_the_proved_library_does_what_its_source_says() {
     let mut random = Random(4);
@@ -204,7 +211,7 @@ fn on_any_words_the_proved_library_does_what_its_source_says() {
             let ours = turn.given(&mut proved);
             assert_eq!(ours, turn.given(&mut same));
             assert_eq!(proved.0, same.0);
-            strange += (ours.code == 8) as u32;
+            strange += (ours.code == TOTALS_STRANGE) as u32;
         }
         changed += (proved.0 != before) as u32;
     }

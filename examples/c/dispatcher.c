@@ -1,6 +1,7 @@
 /*
- * A report run: three workers post twelve invoices to a table of totals; a dispatcher gives each a few steps at a time. Worker 2 is parked
- * in the middle of an update until the others have finished: they carry it out. Nothing is allocated, every return value is handled.
+ * A report run: three workers post twelve invoices to a table of totals; a dispatcher gives each a few steps at a time.
+ * Worker 2 is parked in the middle of an update until the others have finished: they carry it out. Nothing is
+ * allocated, every return value is handled.
  */
 #include <inttypes.h>
 #include <limits.h>
@@ -11,7 +12,10 @@
 enum { WORKERS = 3, CAPACITY = 4, DEPTH = 2, INVOICES = 4, NOBODY = WORKERS };
 enum { PLACES = CAPACITY << DEPTH }; /* the most accounts that the table can hold */
 
-/* Posting is a lookup, then an insert of the new total. Nobody else may post to the account in between: its invoices go to one worker. */
+/*
+ * Posting is a lookup, then an insert of the new total. Nobody else may post to the account in between: its invoices go
+ * to one worker.
+ */
 struct invoice {
     uint32_t account;
     int64_t cents;
@@ -46,7 +50,10 @@ static const char *answer_word(uint64_t answer)
     }
 }
 
-/* After the lookup's answer comes the insert, after the insert's the next invoice. Returns TOTALS_OK or a refusal, as all below do. */
+/*
+ * After the lookup's answer comes the insert, after the insert's the next invoice. Returns TOTALS_OK or a refusal, as
+ * all below do.
+ */
 static uint64_t answered(unsigned w, uint64_t answer, uint64_t steps, int64_t found)
 {
     const struct invoice *invoice = &invoices[w][workers[w].invoice];
@@ -111,7 +118,8 @@ static uint64_t at_once(unsigned w, uint64_t kind, uint32_t account)
         number = totals_run(words, length, w, TOTALS_GREATEST_RUN, report, 2);
     if (number < TOTALS_ADDED)
         return number;
-    printf("worker %u %s %" PRIu32 ": %s", w, kind == TOTALS_LOOKUP ? "looks up" : "deletes", account, answer_word(number));
+    printf("worker %u %s %" PRIu32 ": %s", w, kind == TOTALS_LOOKUP ? "looks up" : "deletes", account,
+           answer_word(number));
     if (number == TOTALS_FOUND)
         printf(" %" PRId64, (int64_t)report[1]);
     printf(", %" PRIu64 " steps\n", report[0]);
@@ -138,13 +146,15 @@ static uint64_t report_run(void)
     uint64_t refusal;
     if ((refusal = totals_open(words, length, WORKERS, CAPACITY, DEPTH)) != TOTALS_OK)
         return refusal;
-    if ((refusal = dispatch(30, NOBODY)) != TOTALS_OK || (refusal = show("worker 2 is parked, posting 450 to 1030")) != TOTALS_OK)
+    if ((refusal = dispatch(30, NOBODY)) != TOTALS_OK ||
+        (refusal = show("worker 2 is parked, posting 450 to 1030")) != TOTALS_OK)
         return refusal;
     if ((refusal = dispatch(UINT_MAX, 2)) != TOTALS_OK || (refusal = show("worker 2 is still parked")) != TOTALS_OK)
         return refusal;
     if ((refusal = dispatch(UINT_MAX, NOBODY)) != TOTALS_OK)
         return refusal;
-    if ((refusal = at_once(0, TOTALS_LOOKUP, 1010)) != TOTALS_OK || (refusal = at_once(1, TOTALS_DELETE, 4000000020)) != TOTALS_OK)
+    if ((refusal = at_once(0, TOTALS_LOOKUP, 1010)) != TOTALS_OK ||
+        (refusal = at_once(1, TOTALS_DELETE, 4000000020)) != TOTALS_OK)
         return refusal;
     return show("at the end");
 }

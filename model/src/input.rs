@@ -240,10 +240,10 @@ fn opening(settings: &Settings) -> Line {
 fn any_settings(prng: &mut Prng, test: impl Fn(&Settings) -> bool) -> Settings {
     loop {
         let settings = Settings {
-            workers: prng.between(1, Settings::MOST_WORKERS) as usize,
-            bucket_size: prng.between(Settings::LEAST_BUCKET_SIZE, Settings::MOST_BUCKET_SIZE)
+            workers: prng.between(1, Settings::GREATEST_WORKERS) as usize,
+            bucket_size: prng.between(Settings::LEAST_BUCKET_SIZE, Settings::GREATEST_BUCKET_SIZE)
                 as usize,
-            greatest_depth: prng.between(0, Settings::MOST_DEPTH) as u32,
+            greatest_depth: prng.between(0, Settings::GREATEST_DEPTH) as u32,
         };
         if test(&settings) {
             return settings;

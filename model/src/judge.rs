@@ -8,7 +8,7 @@ use crate::machine::{Machine, Report, Stepped};
 use crate::moments::Moment;
 use crate::records::Kind;
 use crate::settings::Settings;
-use crate::totals::{kind_number, LENT, PLACES};
+use crate::totals::{LENT, PLACES};
 use crate::violation::Violation;
 
 /// Takes driver lines one at a time.
@@ -93,7 +93,7 @@ impl Judge for Internal {
             } => {
                 // A refused call changes nothing; the refusals are the driver's tests' business.
                 if let Some(checker) = self.checker.as_mut() {
-                    let _ = checker.call(worker, kind_number(kind), account, total);
+                    let _ = checker.call(worker, kind.number(), account, total);
                 }
             }
             Line::Step { worker, count } => self.steps(worker, count)?,
@@ -184,7 +184,7 @@ impl Judge for External {
                 let Some((machine, explainer)) = self.present.as_mut() else {
                     return Ok(());
                 };
-                let called = machine.call(worker, kind_number(kind), account, total);
+                let called = machine.call(worker, kind.number(), account, total);
                 if let (Ok(()), Some(task)) = (called, task_of(machine, worker)) {
                     explainer.called(worker, task);
                 }

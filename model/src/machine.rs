@@ -1,14 +1,11 @@
 //! The machine: the shared cells, and the calls open, call, step and listing.
 
 use crate::fault::Fault;
-use crate::records::{Answer, Bucket, Directory, Kind, State, Update};
+use crate::records::{Answer, Bucket, Directory, Kind, State, Update, GREATEST_TICKET};
 use crate::refusal;
 use crate::settings::Settings;
 use crate::task::{StepKind, Task};
 use std::rc::Rc;
-
-/// Inserts and deletes that one worker may make.
-pub const MOST_TICKETS: u32 = 65_535;
 
 /// One worker: the ticket number last taken, and the operation under way.
 #[derive(Clone, Debug, Default)]
@@ -88,14 +85,9 @@ impl Machine {
         if worker.task.is_some() {
             return Err(refusal::BUSY);
         }
-        let kind = match kind {
-            1 => Kind::Insert,
-            2 => Kind::Delete,
-            3 => Kind::Lookup,
-            _ => return Err(refusal::KIND),
-        };
+        let kind = Kind::of(kind).ok_or(refusal::KIND)?;
         if kind != Kind::Lookup {
-            if worker.last_ticket == MOST_TICKETS {
+            if worker.last_ticket == GREATEST_TICKET {
                 return Err(refusal::SPENT);
             }
             worker.last_ticket += 1;

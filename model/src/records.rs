@@ -4,12 +4,37 @@
 use std::cell::RefCell;
 use std::rc::Rc;
 
+/// The numbers of the kinds in a call.
+pub const KIND_INSERT: u64 = 1;
+pub const KIND_DELETE: u64 = 2;
+pub const KIND_LOOKUP: u64 = 3;
+
+/// The greatest ticket number, and with it how many inserts and deletes one worker may make.
+pub const GREATEST_TICKET: u32 = 65_535;
+
 /// What an operation does.
 #[derive(Clone, Copy, PartialEq, Eq, PartialOrd, Ord, Hash, Debug)]
 pub enum Kind {
     Insert,
     Delete,
     Lookup,
+}
+
+impl Kind {
+    pub const ALL: [Kind; 3] = [Kind::Insert, Kind::Delete, Kind::Lookup];
+
+    pub fn number(self) -> u64 {
+        match self {
+            Kind::Insert => KIND_INSERT,
+            Kind::Delete => KIND_DELETE,
+            Kind::Lookup => KIND_LOOKUP,
+        }
+    }
+
+    /// The kind that a number in a call means, if it means one.
+    pub fn of(number: u64) -> Option<Kind> {
+        Kind::ALL.into_iter().find(|kind| kind.number() == number)
+    }
 }
 
 /// What an operation is answered.

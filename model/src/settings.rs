@@ -11,16 +11,17 @@ pub struct Settings {
 }
 
 impl Settings {
-    pub const MOST_WORKERS: u64 = 8;
+    pub const GREATEST_WORKERS: u64 = 8;
     pub const LEAST_BUCKET_SIZE: u64 = 2;
-    pub const MOST_BUCKET_SIZE: u64 = 16;
-    pub const MOST_DEPTH: u64 = 8;
+    pub const GREATEST_BUCKET_SIZE: u64 = 16;
+    pub const GREATEST_DEPTH: u64 = 8;
 
     /// Builds the settings, or refuses 1.
     pub fn new(workers: u64, bucket_size: u64, greatest_depth: u64) -> Result<Settings, u8> {
-        let workers_fit = (1..=Self::MOST_WORKERS).contains(&workers);
-        let size_fits = (Self::LEAST_BUCKET_SIZE..=Self::MOST_BUCKET_SIZE).contains(&bucket_size);
-        if !workers_fit || !size_fits || greatest_depth > Self::MOST_DEPTH {
+        let workers_fit = (1..=Self::GREATEST_WORKERS).contains(&workers);
+        let size_fits =
+            (Self::LEAST_BUCKET_SIZE..=Self::GREATEST_BUCKET_SIZE).contains(&bucket_size);
+        if !workers_fit || !size_fits || greatest_depth > Self::GREATEST_DEPTH {
             return Err(refusal::SETTINGS);
         }
         Ok(Settings {

@@ -127,13 +127,7 @@ impl Machine {
             }
             StepKind::SwapState { succeeded }
         };
-        task.clear_round();
-        if task.round == 0 {
-            task.round = 1;
-            task.next = Position::ReadState;
-        } else {
-            task.next = Position::CheckDirectory;
-        }
+        task.end_round(Position::ReadState);
         kind
     }
 
@@ -292,13 +286,7 @@ impl Machine {
             }
             StepKind::SwapDirectory { succeeded }
         };
-        task.clear_round();
-        if task.round == 0 {
-            task.round = 1;
-            task.next = Position::ResizeDirectory;
-        } else {
-            task.next = Position::CheckDirectory;
-        }
+        task.end_round(Position::ResizeDirectory);
         kind
     }
 }

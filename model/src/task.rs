@@ -150,11 +150,17 @@ impl Task {
         self.is_update() && self.next != Position::Announce
     }
 
-    /// Forgets what the round read.
-    pub fn clear_round(&mut self) {
+    /// Forgets what the round read. The second round starts at its first step; a check follows it.
+    pub fn end_round(&mut self, first: Position) {
         self.state = None;
         self.toggle.clear();
         self.slots.clear();
         self.working = None;
+        if self.round == 0 {
+            self.round = 1;
+            self.next = first;
+        } else {
+            self.next = Position::CheckDirectory;
+        }
     }
 }

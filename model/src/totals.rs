@@ -21,15 +21,6 @@ pub struct Driver {
     pub fault: Fault,
 }
 
-/// The number of a kind in a call.
-pub fn kind_number(kind: Kind) -> u64 {
-    match kind {
-        Kind::Insert => 1,
-        Kind::Delete => 2,
-        Kind::Lookup => 3,
-    }
-}
-
 /// An answer as it is printed, with its total if found.
 pub fn answer_words(answer: Answer) -> String {
     match answer {
@@ -86,7 +77,7 @@ impl Driver {
     }
 
     fn call(&mut self, kind: Kind, w: usize, account: u32, total: i64) -> Result<String, u8> {
-        self.opened()?.call(w, kind_number(kind), account, total)?;
+        self.opened()?.call(w, kind.number(), account, total)?;
         Ok("ok\n".to_string())
     }
 

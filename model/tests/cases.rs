@@ -2,7 +2,8 @@
 
 use model::fault::Fault;
 use model::machine::{Machine, Stepped};
-use model::records::{Answer, Kind};
+use model::records::{Answer, Kind, GREATEST_TICKET, KIND_DELETE, KIND_INSERT, KIND_LOOKUP};
+use model::refusal;
 use model::settings::Settings;
 use model::totals::transcript;
 
@@ -29,8 +30,11 @@ fn settings_outside_their_range_are_refused() {
 fn the_greatest_settings_open_over_the_words_needed() {
     let words = Settings::new(8, 16, 8).expect("in range").words();
     assert!(Machine::open(8, 16, 8, words).is_ok());
-    assert_eq!(Machine::open(8, 16, 8, words - 1).err(), Some(2));
-    assert_eq!(Machine::open(9, 16, 8, 0).err(), Some(1));
+    assert_eq!(
+        Machine::open(8, 16, 8, words - 1).err(),
+        Some(refusal::SHORT)
+    );
+    assert_eq!(Machine::open(9, 16, 8, 0).err(), Some(refusal::SETTINGS));
 }
 
 #[test]
@@ -165,14 +169,15 @@ fn the_second_pass_is_needed() {
 #[test]
 fn update_65535_is_accepted_and_the_next_is_spent() {
     let mut input = String::from("O 1 2 1\n");
-    for _ in 0..65_535 {
+    for _ in 0..GREATEST_TICKET {
         input.push_str("I 0 5 7\nS 0 99\n");
     }
     input.push_str("I 0 5 7\nD 0 5\nS 0 1\nL 0 5\nS 0 2\n");
     let output = String::from_utf8(transcript(input.as_bytes(), Fault::None)).expect("text");
     let lines: Vec<&str> = output.lines().collect();
+    let updates = GREATEST_TICKET as usize;
     let replaced = |line: &&&str| **line == "answered replaced 13";
-    assert_eq!(lines.iter().filter(replaced).count(), 65_534);
+    assert_eq!(lines.iter().filter(replaced).count(), updates - 1);
     let end = [
         "ok",
         "answered replaced 13",
@@ -181,34 +186,34 @@ fn update_65535_is_accepted_and_the_next_is_spent() {
         "refused 5",
         "ok",
     ];
-    assert_eq!(lines[65_535 * 2 - 1..65_535 * 2 + 5], end);
+    assert_eq!(lines[updates * 2 - 1..updates * 2 + 5], end);
     assert_eq!(lines.last(), Some(&"answered found 7 2"));
 }
 
 #[test]
 fn refusals_of_a_call_come_in_order() {
     let mut machine = Machine::open(1, 2, 1, u64::MAX).expect("in range");
-    assert_eq!(machine.call(1, 9, 5, 0), Err(3));
-    assert_eq!(machine.call(0, 0, 5, 0), Err(6));
-    assert_eq!(machine.call(0, 4, 5, 0), Err(6));
-    machine.workers[0].last_ticket = 65_535;
-    assert_eq!(machine.call(0, 4, 5, 0), Err(6));
-    assert_eq!(machine.call(0, 1, 5, 0), Err(7));
-    assert_eq!(machine.call(0, 2, 5, 0), Err(7));
-    assert_eq!(machine.call(0, 3, 5, 0), Ok(()));
-    assert_eq!(machine.call(0, 9, 5, 0), Err(4));
-    assert_eq!(machine.step(1).stepped, Stepped::Refused(3));
+    assert_eq!(machine.call(1, 9, 5, 0), Err(refusal::STRANGER));
+    assert_eq!(machine.call(0, 0, 5, 0), Err(refusal::KIND));
+    assert_eq!(machine.call(0, 4, 5, 0), Err(refusal::KIND));
+    machine.workers[0].last_ticket = GREATEST_TICKET;
+    assert_eq!(machine.call(0, 4, 5, 0), Err(refusal::KIND));
+    assert_eq!(machine.call(0, KIND_INSERT, 5, 0), Err(refusal::SPENT));
+    assert_eq!(machine.call(0, KIND_DELETE, 5, 0), Err(refusal::SPENT));
+    assert_eq!(machine.call(0, KIND_LOOKUP, 5, 0), Ok(()));
+    assert_eq!(machine.call(0, 9, 5, 0), Err(refusal::BUSY));
+    assert_eq!(machine.step(1).stepped, Stepped::Refused(refusal::STRANGER));
 }
 
 #[test]
 fn a_listing_is_narrow_exactly_below_the_count() {
     let mut machine = Machine::open(1, 2, 1, u64::MAX).expect("in range");
     for account in [9, 5] {
-        machine.call(0, 1, account, 7).expect("idle");
+        machine.call(0, KIND_INSERT, account, 7).expect("idle");
         while machine.step(0).stepped == Stepped::Moved {}
     }
-    assert_eq!(machine.listing(1, 2), Err(10));
-    assert_eq!(machine.listing(2, 1), Err(10));
+    assert_eq!(machine.listing(1, 2), Err(refusal::NARROW));
+    assert_eq!(machine.listing(2, 1), Err(refusal::NARROW));
     assert_eq!(machine.listing(2, 2), Ok(vec![(5, 7), (9, 7)]));
 }
 

@@ -10,7 +10,6 @@ use model::prng::Prng;
 use model::random::Generator;
 use model::records::Directory;
 use model::settings::Settings;
-use model::totals::kind_number;
 use model::working::Working;
 use std::collections::BTreeMap;
 use std::rc::Rc;
@@ -98,7 +97,7 @@ fn run(machine: &mut Machine, ledger: &mut Ledger, line: &Line, failed: &mut BTr
             account,
             total,
         } => {
-            let _ = machine.call(worker, kind_number(kind), account, total);
+            let _ = machine.call(worker, kind.number(), account, total);
         }
         Line::Step { worker, count } => {
             for _ in 0..count {

@@ -1,6 +1,7 @@
 /*
- * The lines of `totals` over the C interface: reads them from standard input and answers each as the program does. What it lends stands
- * between pages that nobody can read or write, so that a call that left what it was lent would end the program.
+ * The lines of `totals` over the C interface: reads them from standard input and answers each as the program does. What
+ * it lends stands between pages that nobody can read or write, so that a call that left what it was lent would end the
+ * program.
  */
 #define _DEFAULT_SOURCE
 #include <inttypes.h>
@@ -11,7 +12,7 @@
 
 #include "totals.h"
 
-enum { WORDS = 8192, PLACES = 4096, LONGEST = 64, SMALL = 65535, STEPS = 9999 };
+enum { WORDS = 8192, PLACES = TOTALS_GREATEST_COUNT, LONGEST = 64, SMALL = 65535, STEPS = 9999 };
 
 static uint64_t *words, *report;
 static uint32_t *accounts;
@@ -75,7 +76,8 @@ static int signed_field(struct rest *line, int64_t *number)
 static int operation(struct rest *line, uint64_t kind, uint64_t *account, int64_t *total)
 {
     *total = 0;
-    return field(line, UINT32_MAX, account) && (kind != TOTALS_INSERT || signed_field(line, total)) && line->next == line->end;
+    return field(line, UINT32_MAX, account) && (kind != TOTALS_INSERT || signed_field(line, total)) &&
+           line->next == line->end;
 }
 
 static int print_number(uint64_t number)
@@ -85,7 +87,8 @@ static int print_number(uint64_t number)
 
 static int print_run(uint64_t number)
 {
-    static const char *const answers[] = {"added", "replaced", "removed", "absent", "found", "none", "?", "?", "crowded"};
+    static const char *const answers[] = {"added", "replaced", "removed", "absent", "found",
+                                          "none",  "?",        "?",       "crowded"};
     if (number == TOTALS_MOVED)
         return printf("moved %" PRIu64 "\n", report[0]);
     if (number < TOTALS_ADDED)

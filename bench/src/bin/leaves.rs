@@ -1,50 +1,64 @@
-// Runs one operation on a bucket record many times, by the proved library or by the same source compiled as Rust, for an instruction count.
+// Runs one operation on a bucket record many times, by the proved library or by the same source compiled as Rust, for
+// an instruction count.
 // Usage: leaves (proved|same) (move|search|put|remove|half) ACCOUNTS WORKERS TIMES
-use bench::leaf::{proved, rust, Work};
+use bench::fields::{GREATEST_CAPACITY, RECORD_ACCOUNTS, RECORD_COUNT, WIDEST_RECORD};
+use bench::leaf::{proved, rust, Work, HALF, MOVE, PUT, REMOVE, SEARCH};
 use std::hint::black_box;
 
-// A record at 0 with so many accounts, 10, 20, .., and room for another at 60.
+// Where the second record stands: past the first, whatever its size.
+const SECOND: usize = 60;
+const _: () = assert!(WIDEST_RECORD <= SECOND);
+
+const USAGE: &str =
+    "usage: leaves (proved|same) (move|search|put|remove|half) ACCOUNTS WORKERS TIMES";
+
+// A record at 0 with so many accounts, 10, 20, .., and room for the second.
 fn words(accounts: usize, b: usize) -> Vec<u64> {
-    let mut w = vec![0u64; 120];
-    w[0] = accounts as u64;
+    let mut w = vec![0u64; 2 * SECOND];
+    w[RECORD_COUNT] = accounts as u64;
     for i in 0..accounts {
-        w[6 + i] = 10 * (i as u64 + 1);
-        w[6 + b + i] = 1000 + i as u64;
+        w[RECORD_ACCOUNTS + i] = 10 * (i as u64 + 1);
+        w[RECORD_ACCOUNTS + b + i] = 1000 + i as u64;
     }
     w
+}
+
+// Of the middle account; a put is of a new one behind it, a half of depth 1 and prefix 0.
+fn work(which: u64, accounts: usize, n: usize) -> Work {
+    let middle = 10 * (accounts as u64 / 2 + 1);
+    let (account, total) = match which {
+        PUT => (middle + 5, 77),
+        HALF => (1, 0),
+        _ => (middle, 77),
+    };
+    Work {
+        which,
+        q: 0,
+        to: SECOND,
+        b: GREATEST_CAPACITY,
+        n,
+        account,
+        total,
+    }
 }
 
 fn main() {
     let args: Vec<String> = std::env::args().skip(1).collect();
     let [side, operation, accounts, workers, times] = &args[..] else {
-        eprintln!(
-            "usage: leaves (proved|same) (move|search|put|remove|half) ACCOUNTS WORKERS TIMES"
-        );
+        eprintln!("{USAGE}");
         std::process::exit(2);
     };
     let number = |s: &String| s.parse::<usize>().expect("a number");
-    let which = ["move", "search", "put", "remove", "half"]
-        .iter()
-        .position(|o| o == operation)
-        .expect("an operation") as u64;
-    // the middle account; for a half, depth 1 and prefix 0
-    let account = if which == 4 {
-        1
-    } else {
-        10 * (number(accounts) as u64 / 2 + 1)
+    let which = match operation.as_str() {
+        "move" => MOVE,
+        "search" => SEARCH,
+        "put" => PUT,
+        "remove" => REMOVE,
+        "half" => HALF,
+        _ => panic!("an operation"),
     };
-    let total = if which == 4 { 0 } else { 77 };
-    let account = if which == 2 { account + 5 } else { account };
-    let work = Work {
-        which,
-        q: 0,
-        to: 60,
-        b: 16,
-        n: number(workers),
-        account,
-        total,
-    };
-    let mut w = words(number(accounts), 16);
+    let work = work(which, number(accounts), number(workers));
+    let mut w = words(number(accounts), GREATEST_CAPACITY);
     let mut sum = 0u64;
     for _ in 0..number(times) {
         let r = if side == "proved" {

@@ -1,5 +1,5 @@
-// The same work on every side. `table count` runs each case once and names it, for callgrind, which writes one dump a case;
-// `table time` prints nanoseconds an operation. table.sh makes tables of both.
+// The same work on every side. `table count` runs each case once and names it, for callgrind, which writes one dump a
+// case; `table time` prints nanoseconds an operation. table.sh makes tables of both.
 use bench::sides::{Map, Proved, Same, Table};
 use bench::turns::{by_run, by_steps, on_map};
 use bench::twin::Twin;

@@ -1,4 +1,5 @@
 // A bucket and the updates that its state takes.
+use crate::fields::{GREATEST_CAPACITY, GREATEST_WORKERS};
 
 #[derive(Clone, Copy, PartialEq, Eq, Debug)]
 pub enum Answer {
@@ -7,7 +8,7 @@ pub enum Answer {
     Removed,
     Absent,
     Found(i64),
-    Missing,
+    None,
     Crowded,
 }
 
@@ -36,10 +37,10 @@ pub struct Bucket {
     pub applied: u8,
     pub version: u32,
     pub count: usize,
-    pub accounts: [u32; 16],
-    pub totals: [i64; 16],
-    pub settled: [u32; 8],
-    pub answers: [Answer; 8],
+    pub accounts: [u32; GREATEST_CAPACITY],
+    pub totals: [i64; GREATEST_CAPACITY],
+    pub settled: [u32; GREATEST_WORKERS],
+    pub answers: [Answer; GREATEST_WORKERS],
 }
 
 // The first d bits of an account.
@@ -56,10 +57,10 @@ impl Bucket {
             applied: 0,
             version: 0,
             count: 0,
-            accounts: [0; 16],
-            totals: [0; 16],
-            settled: [0; 8],
-            answers: [Answer::Missing; 8],
+            accounts: [0; GREATEST_CAPACITY],
+            totals: [0; GREATEST_CAPACITY],
+            settled: [0; GREATEST_WORKERS],
+            answers: [Answer::None; GREATEST_WORKERS],
         }
     }
 
@@ -81,7 +82,7 @@ impl Bucket {
             .position(|a| *a == account)
         {
             Some(i) => Answer::Found(self.totals[i]),
-            None => Answer::Missing,
+            None => Answer::None,
         }
     }
 

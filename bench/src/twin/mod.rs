@@ -1,8 +1,9 @@
-// Document 01's method written by hand in Rust: a directory, buckets with state, toggle, applied bits and settled tickets, slots, two
-// passes, step by step. A twin of the table for comparison, with no use of its sources.
+// Document 01's method written by hand in Rust: a directory, buckets with state, toggle, applied bits and settled
+// tickets, slots, two passes, step by step. A twin of the table for comparison, with no use of its sources.
 mod bucket;
 mod phase;
 
+use crate::fields::*;
 use bucket::{first_bits, Bucket, Update};
 pub use bucket::{Answer, Kind};
 use phase::{phase, Phase};
@@ -11,11 +12,12 @@ use phase::{phase, Phase};
 pub enum Stepped {
     Moved,
     Answered(Answer, u32),
+    // a refusal's number
     Refused(u8),
 }
 
-// What a worker is about, and what it has read: its bucket and that state's version, the toggle, the directory's version, the slots. A bit
-// of `marked` for each worker whose bucket is to be split.
+// What a worker is about, and what it has read: its bucket and that state's version, the toggle, the directory's
+// version, the slots. A bit of `marked` for each worker whose bucket is to be split.
 #[derive(Clone)]
 struct Worker {
     operation: Option<Update>,
@@ -26,7 +28,7 @@ struct Worker {
     toggle: u8,
     directory_version: u32,
     marked: u8,
-    slots: [Option<Update>; 8],
+    slots: [Option<Update>; GREATEST_WORKERS],
 }
 
 // The directory is kept at the greatest depth: a bucket stands at all entries that begin with its prefix.
@@ -37,7 +39,7 @@ pub struct Twin {
     directory: Vec<usize>,
     directory_version: u32,
     buckets: Vec<Bucket>,
-    slots: [Option<Update>; 8],
+    slots: [Option<Update>; GREATEST_WORKERS],
     workers: Vec<Worker>,
 }
 
@@ -52,7 +54,7 @@ impl Twin {
             toggle: 0,
             directory_version: 0,
             marked: 0,
-            slots: [None; 8],
+            slots: [None; GREATEST_WORKERS],
         };
         Twin {
             n,
@@ -61,7 +63,7 @@ impl Twin {
             directory: vec![0; 1 << greatest],
             directory_version: 0,
             buckets: vec![Bucket::new(0, 0)],
-            slots: [None; 8],
+            slots: [None; GREATEST_WORKERS],
             workers: vec![worker; n],
         }
     }
@@ -69,14 +71,14 @@ impl Twin {
     #[inline(never)]
     pub fn call(&mut self, w: usize, kind: Kind, account: u32, total: i64) -> u8 {
         let Some(worker) = self.workers.get_mut(w) else {
-            return 3;
+            return TOTALS_STRANGER as u8;
         };
         if worker.operation.is_some() {
-            return 4;
+            return TOTALS_BUSY as u8;
         }
         if kind != Kind::Lookup {
-            if worker.last_ticket == 65535 {
-                return 7;
+            if worker.last_ticket == GREATEST_TICKET {
+                return TOTALS_SPENT as u8;
             }
             worker.last_ticket += 1;
         }
@@ -87,7 +89,7 @@ impl Twin {
             ticket: worker.last_ticket,
         });
         worker.steps = 0;
-        0
+        TOTALS_OK as u8
     }
 
     #[inline(never)]
@@ -99,10 +101,10 @@ impl Twin {
     #[inline(never)]
     pub fn run(&mut self, w: usize, most: u32) -> Stepped {
         let Some(worker) = self.workers.get(w) else {
-            return Stepped::Refused(3);
+            return Stepped::Refused(TOTALS_STRANGER as u8);
         };
         if worker.operation.is_none() {
-            return Stepped::Refused(5);
+            return Stepped::Refused(TOTALS_IDLE as u8);
         }
         for _ in 0..most {
             let stepped = self.advance(w);
@@ -126,10 +128,10 @@ impl Twin {
     #[inline(always)]
     fn advance(&mut self, w: usize) -> Stepped {
         let Some(worker) = self.workers.get_mut(w) else {
-            return Stepped::Refused(3);
+            return Stepped::Refused(TOTALS_STRANGER as u8);
         };
         let Some(operation) = worker.operation else {
-            return Stepped::Refused(5);
+            return Stepped::Refused(TOTALS_IDLE as u8);
         };
         let k = worker.steps;
         worker.steps += 1;
@@ -208,7 +210,8 @@ impl Twin {
         crowded.then_some(Answer::Crowded)
     }
 
-    // Marks worker j's bucket if it is full below the greatest depth, the update is unsettled there, and no mark of this round is on it.
+    // Marks worker j's bucket if it is full below the greatest depth, the update is unsettled there, and no mark of
+    // this round is on it.
     fn state_step(&mut self, w: usize, j: usize) {
         let worker = &self.workers[w];
         let Some(update) = worker.slots[j] else {
@@ -246,7 +249,7 @@ impl Twin {
     }
 
     // Every unsettled update that belongs to the bucket is taken in worker order.
-    fn resolve(&mut self, i: usize, slots: &[Option<Update>; 8]) {
+    fn resolve(&mut self, i: usize, slots: &[Option<Update>; GREATEST_WORKERS]) {
         let bucket = &self.buckets[i];
         let (depth, prefix, settled) = (bucket.depth, bucket.prefix, bucket.settled);
         for (j, slot) in slots[..self.n].iter().enumerate() {

@@ -1,9 +1,11 @@
-//! The report run of `examples/c/dispatcher.c`: three workers post twelve invoices; a dispatcher gives each a few steps at a time. Worker 2
-//! is parked in the middle of an update until the others have finished: they carry it out. Nothing is allocated for the table.
+//! The report run of `examples/c/dispatcher.c`: three workers post twelve invoices; a dispatcher gives each a few steps
+//! at a time. Worker 2 is parked in the middle of an update until the others have finished: they carry it out. Nothing
+//! is allocated for the table.
 
 use std::error::Error;
 use std::io::{self, Write};
 
+use totals::raw::TOTALS_GREATEST_RUN;
 use totals::{Answer, Ran, Settings, Table};
 
 const WORKERS: usize = 3;
@@ -14,8 +16,8 @@ const WORDS: usize = 373;
 /// The most accounts that the table can hold.
 const PLACES: usize = CAPACITY << DEPTH;
 
-/// Accounts and cents, per worker. Posting is a lookup, then an insert of the new total. Nobody else may post to the account in between:
-/// its invoices go to one worker.
+/// Accounts and cents, per worker. Posting is a lookup, then an insert of the new total. Nobody else may post to the
+/// account in between: its invoices go to one worker.
 const INVOICES: [[(u32, i64); 4]; WORKERS] = [
     [(1010, 12500), (2000000010, 4000), (1010, -2500), (3000000010, 900)],
     [(1020, 7300), (2000000020, 1500), (1020, 2900), (4000000010, 6000)],
@@ -97,8 +99,10 @@ impl<W: Write> Dispatcher<'_, W> {
 
     /// The rest of a worker's operation: it never takes as many steps as this.
     fn finish(&mut self, w: usize, what: &str, account: u32) -> Done {
-        match self.table.run(w as u64, 256)? {
-            Ran::Answered { answer, steps } => writeln!(self.out, "worker {w} {what} {account}: {answer}, {steps} steps")?,
+        match self.table.run(w as u64, TOTALS_GREATEST_RUN)? {
+            Ran::Answered { answer, steps } => {
+                writeln!(self.out, "worker {w} {what} {account}: {answer}, {steps} steps")?
+            }
             Ran::Moved(steps) => writeln!(self.out, "worker {w} {what} {account}: no answer after {steps} steps")?,
         }
         Ok(())

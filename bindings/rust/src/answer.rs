@@ -2,6 +2,7 @@
 
 use std::fmt;
 
+use crate::raw::*;
 use crate::Refusal;
 
 /// What an operation answers.
@@ -24,16 +25,16 @@ pub enum Answer {
 }
 
 impl Answer {
-    /// The answer that a number from 16 on is, with the word told for a total.
+    /// The answer that a number from `TOTALS_ADDED` on is, with the word told for a total.
     fn of(number: u64, total: u64) -> Answer {
         match number {
-            17 => Answer::Added,
-            18 => Answer::Replaced,
-            19 => Answer::Removed,
-            20 => Answer::Absent,
-            21 => Answer::Found(total as i64),
-            22 => Answer::None,
-            // 25: the contracts leave no other
+            TOTALS_ADDED => Answer::Added,
+            TOTALS_REPLACED => Answer::Replaced,
+            TOTALS_REMOVED => Answer::Removed,
+            TOTALS_ABSENT => Answer::Absent,
+            TOTALS_FOUND => Answer::Found(total as i64),
+            TOTALS_NONE => Answer::None,
+            // TOTALS_CROWDED: the contracts leave no other
             _ => Answer::Crowded,
         }
     }
@@ -86,8 +87,8 @@ pub enum Ran {
 pub(crate) fn ran(number: u64, report: [u64; 2]) -> Result<Ran, Refusal> {
     let [steps, total] = report;
     match number {
-        0 => Ok(Ran::Moved(steps)),
-        1..=15 => Err(Refusal::of(number)),
+        TOTALS_MOVED => Ok(Ran::Moved(steps)),
+        _ if number < TOTALS_ADDED => Err(Refusal::of(number)),
         _ => Ok(Ran::Answered { answer: Answer::of(number, total), steps }),
     }
 }

@@ -1,9 +1,9 @@
-//! The totals table: a wait-free extendible hash table of accounts and totals over lent 64-bit words, proved in Rattle, behind a safe
-//! interface.
+//! The totals table: a wait-free extendible hash table of accounts and totals over lent 64-bit words, proved in Rattle,
+//! behind a safe interface.
 //!
-//! A table is opened for n workers. An operation (insert, delete, lookup) is handed to a worker, and then takes its steps, one at a time
-//! and interleaved with the others' as the caller likes. A lookup answers at its second step, an update at its step 12n+33 or earlier,
-//! whatever the other workers do.
+//! A table is opened for n workers. An operation (insert, delete, lookup) is handed to a worker, and then takes its
+//! steps, one at a time and interleaved with the others' as the caller likes. A lookup answers at its second step, an
+//! update at its step 12n+33 or earlier, whatever the other workers do.
 //!
 //! ```
 //! use totals::{Answer, Owned, Ran, Refusal, Settings};

@@ -1,5 +1,56 @@
-//! The functions of the static library as C sees them; `include/totals.h` says what each promises and what it is owed. A slice is a
-//! pointer and a length.
+//! The functions of the static library as C sees them; `include/totals.h` says what each promises and what it is owed.
+//! A slice is a pointer and a length. The constants are the header's.
+
+/// Opened, accepted, listed.
+pub const TOTALS_OK: u64 = 0;
+/// A step was made, and the operation goes on.
+pub const TOTALS_MOVED: u64 = 0;
+
+/// n, b or M is outside its range.
+pub const TOTALS_SETTINGS: u64 = 1;
+/// Fewer words lent than needed.
+pub const TOTALS_SHORT: u64 = 2;
+/// The worker's number is n or more.
+pub const TOTALS_STRANGER: u64 = 3;
+/// A call to a worker whose operation has no answer yet.
+pub const TOTALS_BUSY: u64 = 4;
+/// A step for a worker without operation.
+pub const TOTALS_IDLE: u64 = 5;
+/// No kind of operation.
+pub const TOTALS_KIND: u64 = 6;
+/// Insert or delete by a worker that has made all it can.
+pub const TOTALS_SPENT: u64 = 7;
+/// The words are no table.
+pub const TOTALS_STRANGE: u64 = 8;
+/// A list is shorter than the count.
+pub const TOTALS_NARROW: u64 = 10;
+
+/// An insert.
+pub const TOTALS_INSERT: u64 = 1;
+/// A delete.
+pub const TOTALS_DELETE: u64 = 2;
+/// A lookup.
+pub const TOTALS_LOOKUP: u64 = 3;
+
+/// The least answer. Insert: the account was not there.
+pub const TOTALS_ADDED: u64 = 17;
+/// Insert: the account was there.
+pub const TOTALS_REPLACED: u64 = 18;
+/// Delete: the account was there.
+pub const TOTALS_REMOVED: u64 = 19;
+/// Delete: the account was not there.
+pub const TOTALS_ABSENT: u64 = 20;
+/// Lookup: the total is in the report.
+pub const TOTALS_FOUND: u64 = 21;
+/// Lookup: the account is not there.
+pub const TOTALS_NONE: u64 = 22;
+/// The greatest answer. Insert or delete: b accounts agree with this one in the first M bits.
+pub const TOTALS_CROWDED: u64 = 25;
+
+/// How many updates one worker can make.
+pub const TOTALS_GREATEST_UPDATES: u64 = 65_535;
+/// How many steps one run gives at most.
+pub const TOTALS_GREATEST_RUN: u64 = 256;
 
 extern "C" {
     /// The words needed for settings, or 1.
@@ -15,7 +66,14 @@ extern "C" {
     pub fn totals_step(words: *mut u64, length: usize, worker: u64, report: *mut u64, report_length: usize) -> u64;
 
     /// Up to `most` steps of a worker: as a step.
-    pub fn totals_run(words: *mut u64, length: usize, worker: u64, most: u64, report: *mut u64, report_length: usize) -> u64;
+    pub fn totals_run(
+        words: *mut u64,
+        length: usize,
+        worker: u64,
+        most: u64,
+        report: *mut u64,
+        report_length: usize,
+    ) -> u64;
 
     /// The accounts with their totals: 0, or the number of a refusal.
     pub fn totals_list(

@@ -1,8 +1,10 @@
 //! Why a call was turned down.
 
+use crate::raw::*;
 use std::{error, fmt};
 
-/// Why a call was turned down. A refused call has changed no word and no list. Crowded, number 9, is an [`Answer`](crate::Answer).
+/// Why a call was turned down. A refused call has changed no word and no list. Crowded, number 9, is an
+/// [`Answer`](crate::Answer).
 ///
 /// ```
 /// use totals::{Refusal, Settings};
@@ -34,34 +36,35 @@ pub enum Refusal {
 }
 
 impl Refusal {
-    /// The refusal that a number other than 0 and below 16 is.
+    const ALL: [Refusal; 9] = [
+        Refusal::Settings,
+        Refusal::Short,
+        Refusal::Stranger,
+        Refusal::Busy,
+        Refusal::Idle,
+        Refusal::Kind,
+        Refusal::Spent,
+        Refusal::Strange,
+        Refusal::Narrow,
+    ];
+
+    /// The refusal that a number other than 0 and below the answers is; the contracts leave no other.
     pub(crate) fn of(number: u64) -> Refusal {
-        match number {
-            1 => Refusal::Settings,
-            2 => Refusal::Short,
-            3 => Refusal::Stranger,
-            4 => Refusal::Busy,
-            5 => Refusal::Idle,
-            6 => Refusal::Kind,
-            7 => Refusal::Spent,
-            8 => Refusal::Strange,
-            // 10: the contracts leave no other
-            _ => Refusal::Narrow,
-        }
+        Self::ALL.into_iter().find(|refusal| refusal.number() == number).unwrap_or(Refusal::Narrow)
     }
 
     /// The refusal's number.
     pub fn number(self) -> u64 {
         match self {
-            Refusal::Settings => 1,
-            Refusal::Short => 2,
-            Refusal::Stranger => 3,
-            Refusal::Busy => 4,
-            Refusal::Idle => 5,
-            Refusal::Kind => 6,
-            Refusal::Spent => 7,
-            Refusal::Strange => 8,
-            Refusal::Narrow => 10,
+            Refusal::Settings => TOTALS_SETTINGS,
+            Refusal::Short => TOTALS_SHORT,
+            Refusal::Stranger => TOTALS_STRANGER,
+            Refusal::Busy => TOTALS_BUSY,
+            Refusal::Idle => TOTALS_IDLE,
+            Refusal::Kind => TOTALS_KIND,
+            Refusal::Spent => TOTALS_SPENT,
+            Refusal::Strange => TOTALS_STRANGE,
+            Refusal::Narrow => TOTALS_NARROW,
         }
     }
 

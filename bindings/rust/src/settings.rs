@@ -35,8 +35,8 @@ impl Settings {
     /// The settings, or [`Refusal::Settings`] where one is outside its range.
     pub fn new(workers: u64, capacity: u64, depth: u64) -> Result<Settings, Refusal> {
         let settings = Settings { workers, capacity, depth };
-        match settings.words_needed() {
-            1 => Err(Refusal::Settings),
+        match settings.words_needed() as u64 {
+            raw::TOTALS_SETTINGS => Err(Refusal::Settings),
             _ => Ok(settings),
         }
     }

@@ -3,22 +3,18 @@
 use crate::answer::{ran, stepped};
 use crate::{raw, Ran, Refusal, Settings, Stepped};
 
-const INSERT: u64 = 1;
-const DELETE: u64 = 2;
-const LOOKUP: u64 = 3;
-
-/// 0 is done, any other number a refusal.
+/// `TOTALS_OK` is done, any other number a refusal.
 fn done(number: u64) -> Result<(), Refusal> {
     match number {
-        0 => Ok(()),
+        raw::TOTALS_OK => Ok(()),
         _ => Err(Refusal::of(number)),
     }
 }
 
 /// A table over borrowed words. All of it is in the words: whoever has them can go on later with [`Table::over`].
 ///
-/// Over words that hold no table every method is safe: it refuses with [`Refusal::Strange`] where the words fail the checks of
-/// `include/totals.h`, and else works with what they hold. A refused call changes nothing.
+/// Over words that hold no table every method is safe: it refuses with [`Refusal::Strange`] where the words fail the
+/// checks of `include/totals.h`, and else works with what they hold. A refused call changes nothing.
 ///
 /// ```
 /// use totals::{Answer, Ran, Settings, Table};
@@ -78,19 +74,20 @@ impl<'a> Table<'a> {
         done(unsafe { raw::totals_call(self.words.as_mut_ptr(), self.words.len(), worker, kind, account, total) })
     }
 
-    /// Hands the worker an insert: the account's total is to be `total`. Refuses with `Strange`, `Stranger`, `Busy`, `Spent`, in this order.
+    /// Hands the worker an insert: the account's total is to be `total`. Refuses with `Strange`, `Stranger`, `Busy`,
+    /// `Spent`, in this order.
     pub fn insert(&mut self, worker: u64, account: u32, total: i64) -> Result<(), Refusal> {
-        self.call(worker, INSERT, account, total)
+        self.call(worker, raw::TOTALS_INSERT, account, total)
     }
 
     /// Hands the worker a delete of the account. Refuses as [`Table::insert`].
     pub fn delete(&mut self, worker: u64, account: u32) -> Result<(), Refusal> {
-        self.call(worker, DELETE, account, 0)
+        self.call(worker, raw::TOTALS_DELETE, account, 0)
     }
 
     /// Hands the worker a lookup of the account. Refuses with `Strange`, `Stranger`, `Busy`, in this order.
     pub fn lookup(&mut self, worker: u64, account: u32) -> Result<(), Refusal> {
-        self.call(worker, LOOKUP, account, 0)
+        self.call(worker, raw::TOTALS_LOOKUP, account, 0)
     }
 
     /// One step of the worker's operation. Refuses with `Strange`, `Stranger`, `Idle`, in this order.
@@ -108,12 +105,14 @@ impl<'a> Table<'a> {
     pub fn step(&mut self, worker: u64) -> Result<Stepped, Refusal> {
         let mut report = [0; 2];
         // SAFETY: the pointers and the lengths are those of two slices that are borrowed for the call.
-        let number = unsafe { raw::totals_step(self.words.as_mut_ptr(), self.words.len(), worker, report.as_mut_ptr(), report.len()) };
+        let number = unsafe {
+            raw::totals_step(self.words.as_mut_ptr(), self.words.len(), worker, report.as_mut_ptr(), report.len())
+        };
         stepped(number, report)
     }
 
-    /// Up to `most` steps of the worker's operation, ending early at its answer; 256 at most, which no operation of an opened table takes.
-    /// Refuses as [`Table::step`].
+    /// Up to `most` steps of the worker's operation, ending early at its answer; 256 at most, which no operation of an
+    /// opened table takes. Refuses as [`Table::step`].
     pub fn run(&mut self, worker: u64, most: u64) -> Result<Ran, Refusal> {
         let mut report = [0; 2];
         let (words, length) = (self.words.as_mut_ptr(), self.words.len());
@@ -122,8 +121,8 @@ impl<'a> Table<'a> {
         ran(number, report)
     }
 
-    /// Writes the accounts in ascending order with their totals to the start of both lists, and nothing past the count, which it gives.
-    /// Refuses with `Strange`, `Narrow`, in this order.
+    /// Writes the accounts in ascending order with their totals to the start of both lists, and nothing past the count,
+    /// which it gives. Refuses with `Strange`, `Narrow`, in this order.
     ///
     /// ```
     /// use totals::{Owned, Settings};
@@ -158,7 +157,7 @@ impl<'a> Table<'a> {
     /// The accounts in ascending order with their totals. Refuses with `Strange`.
     pub fn listing(&self) -> Result<Vec<(u32, i64)>, Refusal> {
         // words from elsewhere may name up to 2^15 buckets of 16
-        let most = 16 << 15;
+        let most = (Settings::GREATEST_CAPACITY as usize) << 15;
         let mut places = Self::GREATEST_COUNT;
         loop {
             let (mut accounts, mut totals) = (vec![0; places], vec![0; places]);

@@ -200,6 +200,17 @@ fn words_and_numbers_of_refusals_and_answers() {
         assert_eq!((refusal.number(), refusal.word()), (number, word));
         assert!(refusal.to_string().starts_with(&format!("{word}: ")));
     }
-    let answers = [Answer::Added, Answer::Replaced, Answer::Removed, Answer::Absent, Answer::Found(-7), Answer::None, Answer::Crowded];
-    assert_eq!(answers.map(|a| a.to_string()), ["added", "replaced", "removed", "absent", "found -7", "none", "crowded"]);
+    let answers = [
+        Answer::Added,
+        Answer::Replaced,
+        Answer::Removed,
+        Answer::Absent,
+        Answer::Found(-7),
+        Answer::None,
+        Answer::Crowded,
+    ];
+    assert_eq!(
+        answers.map(|a| a.to_string()),
+        ["added", "replaced", "removed", "absent", "found -7", "none", "crowded"]
+    );
 }

@@ -1,5 +1,6 @@
-//! The functions that `crates/capi` exports, `include/totals.h` declares and `src/raw.rs` declares are the same ones, in the same order:
-//! names, results, and every argument's name and kind. A slice of the source is a pointer and a length.
+//! The functions that `crates/capi` exports, `include/totals.h` declares and `src/raw.rs` declares are the same ones,
+//! in the same order: names, results, and every argument's name and kind. A slice of the source is a pointer and a
+//! length.
 
 use std::{fs, path::Path};
 
@@ -28,7 +29,8 @@ fn words(text: &str) -> String {
 
 /// What stands between the parentheses that the text starts with, split at commas; and what follows them.
 fn parentheses(text: &str) -> (Vec<String>, &str) {
-    let (inside, after) = text.strip_prefix('(').and_then(|text| text.split_once(')')).expect("arguments in parentheses");
+    let (inside, after) =
+        text.strip_prefix('(').and_then(|text| text.split_once(')')).expect("arguments in parentheses");
     (inside.split(',').map(words).filter(|argument| !argument.is_empty()).collect(), after)
 }
 
@@ -94,16 +96,21 @@ fn named(declaration: &str) -> (String, String) {
 
 /// The functions that the header declares: all that stands between the two braces for C++ and is no directive.
 fn header() -> Vec<Function> {
-    let text: String = text("include/totals.h").lines().filter(|line| !line.starts_with('#')).map(|line| line.to_string() + "\n").collect();
+    let text: String = text("include/totals.h")
+        .lines()
+        .filter(|line| !line.starts_with('#'))
+        .map(|line| line.to_string() + "\n")
+        .collect();
     let (before, declarations) = text.split_once("extern \"C\" {").expect("the opening brace for C++");
     let (declarations, after) = declarations.rsplit_once('}').expect("the closing brace for C++");
     assert_eq!((before.trim(), after.trim()), ("", ""), "declarations outside the braces");
-    let declared = declarations.split(';').map(words).filter(|declaration| !declaration.is_empty()).map(|declaration| {
-        let (before, arguments) = declaration.split_at(declaration.find('(').expect("a function"));
-        let ((name, result), (arguments, after)) = (named(before), parentheses(arguments));
-        assert_eq!(after, "");
-        Function { name, arguments: arguments.iter().map(|argument| named(argument)).collect(), result }
-    });
+    let declared =
+        declarations.split(';').map(words).filter(|declaration| !declaration.is_empty()).map(|declaration| {
+            let (before, arguments) = declaration.split_at(declaration.find('(').expect("a function"));
+            let ((name, result), (arguments, after)) = (named(before), parentheses(arguments));
+            assert_eq!(after, "");
+            Function { name, arguments: arguments.iter().map(|argument| named(argument)).collect(), result }
+        });
     declared.collect()
 }
 

@@ -14,6 +14,23 @@ fn constants() -> BTreeMap<String, u64> {
     text.lines().filter_map(define).collect()
 }
 
+/// The constants of `raw`, without their prefix.
+fn raw_constants() -> BTreeMap<String, u64> {
+    let define = |line: &str| {
+        let (name, number) = line.strip_prefix("pub const TOTALS_")?.split_once(": u64 = ")?;
+        Some((name.to_string(), number.replace(['_', ';'], "").parse().ok()?))
+    };
+    include_str!("../src/raw.rs").lines().filter_map(define).collect()
+}
+
+#[test]
+fn constants_of_raw() {
+    let (mut header, raw) = (constants(), raw_constants());
+    assert_eq!(raw.len(), 23);
+    header.retain(|name, _| raw.contains_key(name));
+    assert_eq!(raw, header);
+}
+
 #[test]
 fn refusals_and_limits() -> Result<(), Refusal> {
     let header = constants();
@@ -26,11 +43,22 @@ fn refusals_and_limits() -> Result<(), Refusal> {
     for refusal in all {
         assert_eq!(header[&refusal.word().to_uppercase()], refusal.number());
     }
-    assert_eq!((header["LEAST_WORKERS"], header["GREATEST_WORKERS"]), (Settings::LEAST_WORKERS, Settings::GREATEST_WORKERS));
-    assert_eq!((header["LEAST_CAPACITY"], header["GREATEST_CAPACITY"]), (Settings::LEAST_CAPACITY, Settings::GREATEST_CAPACITY));
+    assert_eq!(
+        (header["LEAST_WORKERS"], header["GREATEST_WORKERS"]),
+        (Settings::LEAST_WORKERS, Settings::GREATEST_WORKERS)
+    );
+    assert_eq!(
+        (header["LEAST_CAPACITY"], header["GREATEST_CAPACITY"]),
+        (Settings::LEAST_CAPACITY, Settings::GREATEST_CAPACITY)
+    );
     assert_eq!((header["LEAST_DEPTH"], header["GREATEST_DEPTH"]), (Settings::LEAST_DEPTH, Settings::GREATEST_DEPTH));
-    let needed =
-        |which| Settings::new(header[&format!("{which}_WORKERS")], header[&format!("{which}_CAPACITY")], header[&format!("{which}_DEPTH")]);
+    let needed = |which| {
+        Settings::new(
+            header[&format!("{which}_WORKERS")],
+            header[&format!("{which}_CAPACITY")],
+            header[&format!("{which}_DEPTH")],
+        )
+    };
     assert_eq!(header["LEAST_WORDS"], needed("LEAST")?.words_needed() as u64);
     assert_eq!(header["GREATEST_WORDS"], needed("GREATEST")?.words_needed() as u64);
     assert_eq!(header["GREATEST_COUNT"], Table::GREATEST_COUNT as u64);
@@ -48,7 +76,8 @@ fn kinds_and_answers() {
         // the total is ten times the account, less than nothing
         let called = unsafe { raw::totals_call(w, length, 0, header[kind], account, -10 * i64::from(account)) };
         assert_eq!(called, header["OK"]);
-        let number = unsafe { raw::totals_run(w, length, 0, header["GREATEST_RUN"], report.as_mut_ptr(), report.len()) };
+        let number =
+            unsafe { raw::totals_run(w, length, 0, header["GREATEST_RUN"], report.as_mut_ptr(), report.len()) };
         (number, report[1] as i64)
     };
     assert_eq!(answer("INSERT", 5), (header["ADDED"], 0));

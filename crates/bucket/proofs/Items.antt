@@ -1,30 +1,30 @@
 -- What the definitions on a state do to its table: search, put, remove and the half of a split; and that they keep it sound.
--- Rests on the machine's laws of tables and of tests.
+-- Rests on the laws of those definitions, and on the machine's laws of tables and of tests.
 use Prim.Native.Nat.{ℕ, zero, suc, _+_, _-_, _^_, _≤_, _<_}
 use native.Mathlib.Omega.{arith}
 use mathlib.Core.Path.{_≡_, refl, ap, sym, _∙_, subst}
 use mathlib.Core.Logic.{_≢_}
 use mathlib.Core.List.{List, [], _∷_, _++_, map, append-nil, map-append}
 use mathlib.Core.Option.{none, some}
-use lib.Dec.{ltb, leb, eqb}
+use lib.Dec.{leb, eqb}
 use lib.IntN.{ℤ}
-use lib.ListN.{length, getD, set, take, drop, replicate, length-append, length-take, length-drop, length-set, length-map, length-replicate}
+use lib.ListN.{length, getD, set, take, drop, replicate, length-append, length-take, length-drop, length-set, length-map}
 use lib.Seq.{take-add, take-suc, take-at, drop-cons, take-set-le, drop-set-lt, getD-set-same, length-take-le}
-use borrow.Author.Tests.{leb-true, leb-false, ltb-false, lt-ltb, le-ltb, le-leb}
+use borrow.Author.Tests.{leb-true, leb-false, lt-ltb, le-ltb, le-leb}
 use Rattle.machine.specs.Choice.{if_then_else_}
-use Rattle.machine.specs.Sequential.{Table, find, put, remove, having, place, firstBits}
+use Rattle.machine.specs.Sequential.{Table, find, put, remove, having, firstBits}
 use Rattle.machine.proofs.Base.{if-elim, if-true, if-false, if-eq, if-ne, if-ap, eq-elim, and-true}
-use Rattle.machine.proofs.Tables.{Above, Ascending, ascending-put, ascending-remove, ascending-having}
+use Rattle.machine.proofs.Tables.{AccountsAbove, Ascending, ascending-put, ascending-remove, ascending-having}
 use Rattle.bucket.specs.declared.BucketState.{BucketState}
-use Rattle.bucket.specs.declared.Place.{Place}
-use Rattle.bucket.specs.declared.Place.the-variants.{At, Before}
-use Rattle.bucket.specs.State.{insertedIn, removedFrom, sizeOf, scan, searchOf, putAt, putOf, removeAt, removeOf}
-use Rattle.bucket.specs.State.{prefixOf, keeps, gathered, halfOf}
+use Rattle.bucket.specs.declared.Position.{Position}
+use Rattle.bucket.specs.declared.Position.the-variants.{At, Before}
+use Rattle.bucket.specs.State.{arraySize, insertedIn, removedFrom, sizeOf, scan, searchOf, putOf, removeOf, withApplied, keeps, gathered, halfOf}
 use Rattle.bucket.specs.Items.{signed, pairs, itemsOf, totalAt, Below, Sound}
+use Rattle.bucket.proofs.Laws.{length-inserted, length-removed, size-is, length-keeps, length-gathered}
 
 -- ---- the first items of an array
 
--- the first c, cut at place i; then with the item at i apart
+-- the first c, cut at position i; then with the item at i apart
 take-cut : (l : List ℕ) (c i : ℕ) → i ≤ c → take c l ≡ take i l ++ take (c - i) (drop i l)
 take-cut l c i h = let e : c ≡ i + (c - i) = omega arith in ap (λ (k : ℕ). take k l) e ∙ take-add i (c - i) l
 
@@ -46,17 +46,13 @@ grown l c i v = take i l ++ v ∷ take (c - i) (drop i l)
 length-grown : (l : List ℕ) (c i v : ℕ) → c < length l → i ≤ c → length (grown l c i v) ≡ suc c
 length-grown l c i v h k = simp (length-append, length-take, length-drop) (omega arith)
 
-inserted-is : (l : List ℕ) (c i v : ℕ) → c < 16 → i ≤ c → insertedIn l c i v ≡ grown l c i v ++ drop (suc c) l
+inserted-is : (l : List ℕ) (c i v : ℕ) → c < length l → i ≤ c → insertedIn l c i v ≡ grown l c i v ++ drop (suc c) l
 unfolding insertedIn
-inserted-is l c i v h k = if-true (grown l c i v ++ drop (suc c) l) l (and-true (lt-ltb c 16 h) (le-leb i c k))
+inserted-is l c i v h k = if-true (grown l c i v ++ drop (suc c) l) l (and-true (lt-ltb c (length l) h) (le-leb i c k))
 
-take-inserted : (l : List ℕ) (c i v : ℕ) → length l ≡ 16 → c < 16 → i ≤ c → take (suc c) (insertedIn l c i v) ≡ grown l c i v
-take-inserted l c i v b h k =
-    ap (take (suc c)) (inserted-is l c i v h k) ∙ take-at (grown l c i v) (drop (suc c) l) (suc c) (length-grown l c i v (omega arith) k)
-
-length-inserted : (l : List ℕ) (c i v : ℕ) → length l ≡ 16 → c < 16 → i ≤ c → length (insertedIn l c i v) ≡ 16
-length-inserted l c i v b h k =
-    rw (inserted-is l c i v h k, length-append) (omega (arith, length-grown l c i v (omega arith) k, length-drop (suc c) l))
+take-inserted : (l : List ℕ) (c i v : ℕ) → c < length l → i ≤ c → take (suc c) (insertedIn l c i v) ≡ grown l c i v
+take-inserted l c i v h k =
+    ap (take (suc c)) (inserted-is l c i v h k) ∙ take-at (grown l c i v) (drop (suc c) l) (suc c) (length-grown l c i v h k)
 
 -- the items before and after the one that is taken out
 abbrev shrunk : List ℕ → ℕ → ℕ → List ℕ
@@ -65,17 +61,13 @@ shrunk l c i = take i l ++ take (c - suc i) (drop (suc i) l)
 length-shrunk : (l : List ℕ) (c i : ℕ) → c ≤ length l → i < c → length (shrunk l c i) ≡ c - 1
 length-shrunk l c i h k = simp (length-append, length-take, length-drop) (omega arith)
 
-removed-is : (l : List ℕ) (c i : ℕ) → c ≤ 16 → i < c → removedFrom l c i ≡ shrunk l c i ++ drop (c - 1) l
+removed-is : (l : List ℕ) (c i : ℕ) → c ≤ length l → i < c → removedFrom l c i ≡ shrunk l c i ++ drop (c - 1) l
 unfolding removedFrom
-removed-is l c i h k = if-true (shrunk l c i ++ drop (c - 1) l) l (and-true (le-leb c 16 h) (lt-ltb i c k))
+removed-is l c i h k = if-true (shrunk l c i ++ drop (c - 1) l) l (and-true (le-leb c (length l) h) (lt-ltb i c k))
 
-take-removed : (l : List ℕ) (c i : ℕ) → length l ≡ 16 → c ≤ 16 → i < c → take (c - 1) (removedFrom l c i) ≡ shrunk l c i
-take-removed l c i b h k =
-    ap (take (c - 1)) (removed-is l c i h k) ∙ take-at (shrunk l c i) (drop (c - 1) l) (c - 1) (length-shrunk l c i (omega arith) k)
-
-length-removed : (l : List ℕ) (c i : ℕ) → length l ≡ 16 → c ≤ 16 → i < c → length (removedFrom l c i) ≡ 16
-length-removed l c i b h k =
-    rw (removed-is l c i h k, length-append) (omega (arith, length-shrunk l c i (omega arith) k, length-drop (c - 1) l))
+take-removed : (l : List ℕ) (c i : ℕ) → c ≤ length l → i < c → take (c - 1) (removedFrom l c i) ≡ shrunk l c i
+take-removed l c i h k =
+    ap (take (c - 1)) (removed-is l c i h k) ∙ take-at (shrunk l c i) (drop (c - 1) l) (c - 1) (length-shrunk l c i h k)
 
 -- ---- bounds
 
@@ -93,16 +85,16 @@ below-set k l c i v small h b all =
     rw (take-set l c i v h b) (below-append k (take i l) _ (r .0) (small, r .1 .1))
 
 below-inserted :
-    (k : ℕ) (l : List ℕ) (c i v : ℕ) → v < k → length l ≡ 16 → c < 16 → i ≤ c → Below k (take c l) → Below k (take (suc c) (insertedIn l c i v))
-below-inserted k l c i v small b h g all =
+    (k : ℕ) (l : List ℕ) (c i v : ℕ) → v < k → c < length l → i ≤ c → Below k (take c l) → Below k (take (suc c) (insertedIn l c i v))
+below-inserted k l c i v small h g all =
     let r = below-parts k (take i l) _ (rw (take-cut l c i g) at all) in
-    rw (take-inserted l c i v b h g) (below-append k (take i l) _ (r .0) (small, r .1))
+    rw (take-inserted l c i v h g) (below-append k (take i l) _ (r .0) (small, r .1))
 
 below-removed :
-    (k : ℕ) (l : List ℕ) (c i : ℕ) → length l ≡ 16 → c ≤ 16 → i < c → Below k (take c l) → Below k (take (c - 1) (removedFrom l c i))
-below-removed k l c i b h g all =
-    let r = below-parts k (take i l) _ (rw (take-cut-at l c i g (omega arith)) at all) in
-    rw (take-removed l c i b h g) (below-append k (take i l) _ (r .0) (r .1 .1))
+    (k : ℕ) (l : List ℕ) (c i : ℕ) → c ≤ length l → i < c → Below k (take c l) → Below k (take (c - 1) (removedFrom l c i))
+below-removed k l c i h g all =
+    let r = below-parts k (take i l) _ (rw (take-cut-at l c i g h) at all) in
+    rw (take-removed l c i h g) (below-append k (take i l) _ (r .0) (r .1 .1))
 
 -- ---- pairs
 
@@ -134,7 +126,8 @@ module _ (a : ℕ) where
   unfolding pairs remove
   remove-past [] v t h = refl
   remove-past (x ∷ p) [] t h = refl
-  remove-past (x ∷ p) (y ∷ v) t h = if-ne x a _ _ (λ e. omega (arith, h .0)) ∙ ap (λ (r : Table). (x, signed y) ∷ r) (remove-past p v t (h .1))
+  remove-past (x ∷ p) (y ∷ v) t h =
+      if-ne x a _ _ (λ e. omega (arith, h .0)) ∙ ap (λ (r : Table). (x, signed y) ∷ r) (remove-past p v t (h .1))
 
   find-past : (p v : List ℕ) (t : Table) → Below a p → find (pairs p v ++ t) a ≡ find t a
   unfolding pairs find
@@ -164,17 +157,12 @@ pub record Becomes (x : BucketState) (t : Table) (y : BucketState) : Type 0 wher
   pub answers : y .answers ≡ x .answers
   pub applied : y .applied ≡ x .applied
 
-size-is : (x : BucketState) → x .count ≤ 16 → sizeOf x ≡ x .count
-unfolding sizeOf
-size-is x h =
-    if-elim (λ (k : ℕ). k ≡ x .count) (ltb (x .count) 16) (x .count) 16 (λ e. refl) (λ e. omega (arith, ltb-false (x .count) 16 e))
-
-items-are : (x : BucketState) → x .count ≤ 16 → itemsOf x ≡ items (x .count) (x .accounts) (x .totals)
+items-are : (x : BucketState) → x .count ≤ arraySize → itemsOf x ≡ items (x .count) (x .accounts) (x .totals)
 unfolding itemsOf
 items-are x h = ap (λ (k : ℕ). items k (x .accounts) (x .totals)) (size-is x h)
 
 holding-becomes :
-    {x : BucketState} {t : Table} (A T : List ℕ) (c : ℕ) → Sound x → length A ≡ 16 → length T ≡ 16 → c ≤ 16
+    {x : BucketState} {t : Table} (A T : List ℕ) (c : ℕ) → Sound x → length A ≡ arraySize → length T ≡ arraySize → c ≤ arraySize
     → Below (2 ^ 32) (take c A) → Below (2 ^ 64) (take c T) → Ascending t → items c A T ≡ t → Becomes x t (holding x A T c)
 holding-becomes {x} {t} A T c s la lt few narrow fits asc e =
     record {
@@ -204,12 +192,12 @@ abbrev Next : ℕ → List ℕ → Type 0
 Next a [] = Unit {0}
 Next a (x ∷ l) = a < x
 
--- the accounts before the place are below a; at it stands a, or next comes one above a
-abbrev Stands : BucketState → ℕ → Place → Type 0
+-- the accounts before the position are below a; at it stands a, or next comes one above a
+abbrev Stands : BucketState → ℕ → Position → Type 0
 Stands x a (At i) = (i < x .count) × Below a (take i (x .accounts)) × (getD (x .accounts) i 0 ≡ a)
 Stands x a (Before i) = (i ≤ x .count) × Below a (take i (x .accounts)) × Next a (take (x .count - i) (drop i (x .accounts)))
 
--- m accounts, from place i on, are still to be scanned
+-- m accounts, from position i on, are still to be scanned
 scan-stands :
     (x : BucketState) (a m i : ℕ) → i + m ≡ x .count → x .count ≤ length (x .accounts) → Below a (take i (x .accounts))
     → Stands x a (scan (take m (drop i (x .accounts))) a i)
@@ -238,7 +226,7 @@ put-next a (x ∷ l) (y ∷ v) z e h = if-true _ _ (lt-ltb a x h)
 abbrev Absent : ℕ → Table → Type 0
 Absent a t = (find t a ≡ none) × (remove t a ≡ t)
 
-absent-above : (b a : ℕ) (t : Table) → a ≤ b → Above b t → Absent a t
+absent-above : (b a : ℕ) (t : Table) → a ≤ b → AccountsAbove b t → Absent a t
 unfolding find remove
 absent-above b a [] l h = (refl, refl)
 absent-above b a (e ∷ t) l h =
@@ -255,7 +243,7 @@ absent-next a (x ∷ l) (y ∷ v) e h g =
     let r = absent-above x a (pairs l v) (omega arith) (g .0) in
     (if-ne x a _ _ n ∙ r .0, if-ne x a _ _ n ∙ ap (λ (r : Table). (x, signed y) ∷ r) (r .1))
 
--- m items, from place k on
+-- m items, from position k on
 abbrev span : BucketState → ℕ → ℕ → Table
 span x k m = items m (drop k (x .accounts)) (drop k (x .totals))
 
@@ -269,7 +257,7 @@ module _ (x : BucketState) (s : Sound x) where
       ∙ length-pairs (take (x .count) (x .accounts)) (take (x .count) (x .totals)) (level 0 (x .count))
       ∙ length-take-le (x .count) (x .accounts) (omega arith)
 
-  -- the table in two parts, at place i
+  -- the table in two parts, at position i
   cut : (i : ℕ) → i ≤ x .count → itemsOf x ≡ span x 0 i ++ span x i (x .count - i)
   cut i h =
       items-are x (s .count)
@@ -282,9 +270,10 @@ module _ (x : BucketState) (s : Sound x) where
       ≡ span x 0 i ++ (a, signed v) ∷ span x k m
   unfolding pairs
   glue i a v k m =
-      pairs-append (take i (x .accounts)) (take i (x .totals)) (a ∷ take m (drop k (x .accounts))) (v ∷ take m (drop k (x .totals))) (level 0 i)
+      pairs-append (take i (x .accounts)) (take i (x .totals)) (a ∷ take m (drop k (x .accounts))) (v ∷ take m (drop k (x .totals)))
+      (level 0 i)
 
-  -- account a stands at place i
+  -- account a stands at position i
   module _ (a i : ℕ) (h : Stands x a (At i)) where
     rest : Table
     rest = span x (suc i) (x .count - suc i)
@@ -299,7 +288,8 @@ module _ (x : BucketState) (s : Sound x) where
     set-items : (v : ℕ) → items (x .count) (x .accounts) (set (x .totals) i v) ≡ put (itemsOf x) a (signed v)
     unfolding put rest
     set-items v =
-        rw (take-cut-at (x .accounts) (x .count) i (h .0) (omega arith), take-set (x .totals) (x .count) i v (h .0) (omega arith), h .2, cut-at) (
+        let c : ℕ = x .count in
+        rw (take-cut-at (x .accounts) c i (h .0) (omega arith), take-set (x .totals) c i v (h .0) (omega arith), h .2, cut-at) (
         glue i a v (suc i) (x .count - suc i)
         ∙ sym (put-past a (take i (x .accounts)) (take i (x .totals)) _ (signed v) (h .1) ∙ ap (λ (t : Table). span x 0 i ++ t) here)
         )
@@ -307,27 +297,30 @@ module _ (x : BucketState) (s : Sound x) where
         here : put ((a, signed (getD (x .totals) i 0)) ∷ rest) a (signed v) ≡ (a, signed v) ∷ rest
         here = if-false _ _ (le-ltb a a (omega arith)) ∙ if-eq a a _ _ refl
 
-    removed-items : items (x .count - 1) (removedFrom (x .accounts) (x .count) i) (removedFrom (x .totals) (x .count) i) ≡ remove (itemsOf x) a
+    removed-items :
+        items (x .count - 1) (removedFrom (x .accounts) (x .count) i) (removedFrom (x .totals) (x .count) i) ≡ remove (itemsOf x) a
     unfolding remove rest
     removed-items =
         let c : ℕ = x .count in
-        rw (take-removed (x .accounts) c i (s .accounts) (s .count) (h .0), take-removed (x .totals) c i (s .totals) (s .count) (h .0), cut-at) (
+        rw (take-removed (x .accounts) c i (omega arith) (h .0), take-removed (x .totals) c i (omega arith) (h .0), cut-at) (
         pairs-append (take i (x .accounts)) (take i (x .totals)) _ _ (level 0 i)
-        ∙ sym (remove-past a (take i (x .accounts)) (take i (x .totals)) _ (h .1) ∙ ap (λ (t : Table). span x 0 i ++ t) (if-eq a a _ _ refl))
+        ∙ sym (remove-past a (take i (x .accounts)) (take i (x .totals)) _ (h .1)
+        ∙ ap (λ (t : Table). span x 0 i ++ t) (if-eq a a _ _ refl))
         )
 
     found-items : find (itemsOf x) a ≡ some (signed (getD (x .totals) i 0))
     unfolding find
     found-items = rw cut-at (find-past a (take i (x .accounts)) (take i (x .totals)) _ (h .1) ∙ if-eq a a _ _ refl)
 
-  -- account a belongs before place i
+  -- account a belongs before position i
   module _ (a i : ℕ) (h : Stands x a (Before i)) where
     inserted-items :
-        (v : ℕ) → x .count < 16
-        → items (suc (x .count)) (insertedIn (x .accounts) (x .count) i a) (insertedIn (x .totals) (x .count) i v) ≡ put (itemsOf x) a (signed v)
+        (v : ℕ) → x .count < arraySize
+        → items (suc (x .count)) (insertedIn (x .accounts) (x .count) i a) (insertedIn (x .totals) (x .count) i v)
+        ≡ put (itemsOf x) a (signed v)
     inserted-items v k =
         let c : ℕ = x .count in
-        rw (take-inserted (x .accounts) c i a (s .accounts) k (h .0), take-inserted (x .totals) c i v (s .totals) k (h .0), cut i (h .0)) (
+        rw (take-inserted (x .accounts) c i a (omega arith) (h .0), take-inserted (x .totals) c i v (omega arith) (h .0), cut i (h .0)) (
         glue i a v i (c - i)
         ∙ sym (put-past a (take i (x .accounts)) (take i (x .totals)) _ (signed v) (h .1)
         ∙ ap (λ (t : Table). span x 0 i ++ t) (put-next a _ _ (signed v) (level i (x .count - i)) (h .2)))
@@ -340,7 +333,9 @@ module _ (x : BucketState) (s : Sound x) where
     )
       where
         after : Absent a (span x i (x .count - i))
-        after = absent-next a _ _ (level i (x .count - i)) (h .2) (ascending-after (span x 0 i) _ (subst Ascending (cut i (h .0)) (s .ascending)))
+        after =
+            absent-next a _ _ (level i (x .count - i)) (h .2)
+            (ascending-after (span x 0 i) _ (subst Ascending (cut i (h .0)) (s .ascending)))
 
   -- ---- search, put and remove
 
@@ -349,7 +344,7 @@ module _ (x : BucketState) (s : Sound x) where
     unfolding searchOf
     search-stands = rw (size-is x (s .count)) (scan-stands x a (x .count) 0 (omega arith) (omega arith) tt)
 
-    find-at : (p : Place) → Stands x a p → find (itemsOf x) a ≡ totalAt x p
+    find-at : (p : Position) → Stands x a p → find (itemsOf x) a ≡ totalAt x p
     unfolding totalAt
     find-at (At i) h = found-items a i h
     find-at (Before i) h = absent-items a i h .0
@@ -358,62 +353,59 @@ module _ (x : BucketState) (s : Sound x) where
     pub find-search : find (itemsOf x) a ≡ totalAt x (searchOf x a)
     find-search = find-at (searchOf x a) search-stands
 
-    remove-at-becomes : (p : Place) → Stands x a p → Becomes x (remove (itemsOf x) a) (removeAt x p)
-    unfolding removeAt
+    remove-at-becomes : (p : Position) → Stands x a p → Becomes x (remove (itemsOf x) a) (removeOf x p)
+    unfolding removeOf
     remove-at-becomes (At i) h =
         let c : ℕ = x .count in
         rw (size-is x (s .count)) (
         holding-becomes (removedFrom (x .accounts) c i) (removedFrom (x .totals) c i) (c - 1) s
-        (length-removed (x .accounts) c i (s .accounts) (s .count) (h .0)) (length-removed (x .totals) c i (s .totals) (s .count) (h .0))
+        (length-removed (x .accounts) c i ∙ s .accounts) (length-removed (x .totals) c i ∙ s .totals)
         (omega arith)
-        (below-removed (2 ^ 32) (x .accounts) c i (s .accounts) (s .count) (h .0) (s .narrow))
-        (below-removed (2 ^ 64) (x .totals) c i (s .totals) (s .count) (h .0) (s .fits))
+        (below-removed (2 ^ 32) (x .accounts) c i (omega arith) (h .0) (s .narrow))
+        (below-removed (2 ^ 64) (x .totals) c i (omega arith) (h .0) (s .fits))
         (ascending-remove (itemsOf x) a (s .ascending)) (removed-items a i h)
         )
     remove-at-becomes (Before i) h =
         record { sound = s; items = sym (absent-items a i h .1); settled = refl; answers = refl; applied = refl }
 
     -- "takes the account out, or .. changes nothing"
-    pub remove-becomes : Becomes x (remove (itemsOf x) a) (removeOf x a)
-    unfolding removeOf
+    pub remove-becomes : Becomes x (remove (itemsOf x) a) (removeOf x (searchOf x a))
     remove-becomes = remove-at-becomes (searchOf x a) search-stands
 
     module _ (v : ℕ) (narrow : a < 2 ^ 32) (fits : v < 2 ^ 64) where
       put-at-becomes :
-          (p : Place) → Stands x a p → (totalAt x p ≡ none → x .count < 16) → Becomes x (put (itemsOf x) a (signed v)) (putAt x a v p)
-      unfolding putAt totalAt
+          (p : Position) → Stands x a p → (totalAt x p ≡ none → x .count < arraySize)
+          → Becomes x (put (itemsOf x) a (signed v)) (putOf x p a v)
+      unfolding putOf totalAt
       put-at-becomes (At i) h room =
           holding-becomes (x .accounts) (set (x .totals) i v) (x .count) s (s .accounts) (length-set (x .totals) i v ∙ s .totals) (s .count)
           (s .narrow) (below-set (2 ^ 64) (x .totals) (x .count) i v fits (h .0) (omega arith) (s .fits))
           (ascending-put (itemsOf x) a (signed v) (s .ascending)) (set-items a i h v)
       put-at-becomes (Before i) h room =
           let c : ℕ = x .count in
-          let k : c < 16 = room refl in
+          let k : c < arraySize = room refl in
           let one : c + 1 ≡ suc c = omega arith in
           rw (size-is x (s .count), one) (
-          subst (Becomes x (put (itemsOf x) a (signed v))) (sym (if-true _ x (lt-ltb c 16 k))) (
+          subst (Becomes x (put (itemsOf x) a (signed v))) (sym (if-true _ x (lt-ltb c arraySize k))) (
           holding-becomes (insertedIn (x .accounts) c i a) (insertedIn (x .totals) c i v) (suc c) s
-          (length-inserted (x .accounts) c i a (s .accounts) k (h .0)) (length-inserted (x .totals) c i v (s .totals) k (h .0)) k
-          (below-inserted (2 ^ 32) (x .accounts) c i a narrow (s .accounts) k (h .0) (s .narrow))
-          (below-inserted (2 ^ 64) (x .totals) c i v fits (s .totals) k (h .0) (s .fits))
+          (length-inserted (x .accounts) c i a ∙ s .accounts) (length-inserted (x .totals) c i v ∙ s .totals) k
+          (below-inserted (2 ^ 32) (x .accounts) c i a narrow (omega arith) (h .0) (s .narrow))
+          (below-inserted (2 ^ 64) (x .totals) c i v fits (omega arith) (h .0) (s .fits))
           (ascending-put (itemsOf x) a (signed v) (s .ascending)) (inserted-items a i h v k)
           )
           )
 
       -- "sets the account's total"; where the account is not there, there must be room for it
-      pub put-becomes : (find (itemsOf x) a ≡ none → x .count < 16) → Becomes x (put (itemsOf x) a (signed v)) (putOf x a v)
-      unfolding putOf
+      pub put-becomes :
+          (find (itemsOf x) a ≡ none → x .count < arraySize)
+          → Becomes x (put (itemsOf x) a (signed v)) (putOf x (searchOf x a) a v)
       put-becomes room = put-at-becomes (searchOf x a) search-stands (λ e. room (find-search ∙ e))
 
 -- ---- the half of a split
 
--- the state with these applied bits
-abbrev pub marked : BucketState → ℕ → BucketState
-marked x w = record { accounts = x .accounts; totals = x .totals; settled = x .settled; answers = x .answers; count = x .count; applied = w }
-
-pub sound-marked : {x : BucketState} (w : ℕ) → Sound x → Sound (marked x w)
-unfolding itemsOf sizeOf
-sound-marked w s =
+pub sound-applied : {x : BucketState} (w : ℕ) → Sound x → Sound (withApplied x w)
+unfolding withApplied itemsOf sizeOf
+sound-applied w s =
     record {
       count = s .count;
       accounts = s .accounts;
@@ -424,11 +416,6 @@ sound-marked w s =
       narrow = s .narrow;
       fits = s .fits;
     }
-
--- the first bits are the machine's
-prefix-is : (d a : ℕ) → d ≤ 32 → prefixOf a d ≡ firstBits d a
-unfolding prefixOf firstBits place
-prefix-is d a h = if-true _ 0 (le-leb d 32 h)
 
 having-append : (d q : ℕ) (t r : Table) → having d q (t ++ r) ≡ having d q t ++ having d q r
 unfolding having
@@ -444,51 +431,42 @@ having-in d q t e h = having-append d q t (e ∷ []) ∙ ap (λ (y : Table). hav
 having-out : (d q : ℕ) (t : Table) (e : ℕ × ℤ) → firstBits d (e .0) ≢ q → having d q (t ++ e ∷ []) ≡ having d q t
 unfolding having
 having-out d q t e h =
-    having-append d q t (e ∷ []) ∙ ap (λ (y : Table). having d q t ++ y) (if-ne (firstBits d (e .0)) q (e ∷ []) [] h) ∙ append-nil (having d q t)
+    having-append d q t (e ∷ [])
+    ∙ ap (λ (y : Table). having d q t ++ y) (if-ne (firstBits d (e .0)) q (e ∷ []) [] h) ∙ append-nil (having d q t)
 
--- the items at these places
+-- the items at these positions
 abbrev picked : List ℕ → List ℕ → List ℕ
-picked l places = map (λ i. getD l i 0) places
+picked l positions = map (λ i. getD l i 0) positions
 
 picked-snoc : (l p : List ℕ) (k : ℕ) → picked l (p ++ k ∷ []) ≡ picked l p ++ getD l k 0 ∷ []
 picked-snoc l p k = map-append (λ i. getD l i 0) p (k ∷ [])
 
-length-gathered : (l p : List ℕ) → length p ≤ 16 → length (gathered l p) ≡ 16
-unfolding gathered
-length-gathered l p h = simp (length-append, length-map, length-replicate) (omega arith)
-
 take-gathered : (l p : List ℕ) → take (length p) (gathered l p) ≡ picked l p
 unfolding gathered
-take-gathered l p = take-at (picked l p) (replicate (16 - length p) 0) (length p) (length-map p (λ i. getD l i 0))
+take-gathered l p = take-at (picked l p) (replicate (arraySize - length p) 0) (length p) (length-map p (λ i. getD l i 0))
 
 module _ (A : List ℕ) (d q : ℕ) where
-  keeps-short : (k : ℕ) → length (keeps A d q k) ≤ k
-  unfolding keeps
-  keeps-short zero = omega arith
-  keeps-short (suc k) =
-      eq-elim (λ (l : List ℕ). length l ≤ suc k) (prefixOf (getD A k 0) d) q (keeps A d q k ++ k ∷ []) (keeps A d q k)
-      (λ e. simp length-append (omega (arith, keeps-short k))) (λ e. omega (arith, keeps-short k))
-
   keeps-below : (b : ℕ) (l : List ℕ) (k : ℕ) → k ≤ length l → Below b (take k l) → Below b (picked l (keeps A d q k))
   unfolding keeps
   keeps-below b l zero h all = tt
   keeps-below b l (suc k) h all =
       let r = below-parts b (take k l) (getD l k 0 ∷ []) (rw (take-suc l k 0 h) at all) in
       let before = keeps-below b l k (omega arith) (r .0) in
-      eq-elim (λ (p : List ℕ). Below b (picked l p)) (prefixOf (getD A k 0) d) q (keeps A d q k ++ k ∷ []) (keeps A d q k)
+      eq-elim (λ (p : List ℕ). Below b (picked l p)) (firstBits d (getD A k 0)) q (keeps A d q k ++ k ∷ []) (keeps A d q k)
       (λ e. rw (picked-snoc l (keeps A d q k) k) (below-append b (picked l (keeps A d q k)) _ before (r .1))) (λ e. before)
 
   keeps-items :
-      (T : List ℕ) (k : ℕ) → d ≤ 32 → k ≤ length A → k ≤ length T
+      (T : List ℕ) (k : ℕ) → k ≤ length A → k ≤ length T
       → pairs (picked A (keeps A d q k)) (picked T (keeps A d q k)) ≡ having d q (items k A T)
   unfolding keeps pairs having
-  keeps-items T zero deep la lt = refl
-  keeps-items T (suc k) deep la lt =
-      let before = keeps-items T k deep (omega arith) (omega arith) in
-      eq-elim (λ (p : List ℕ). pairs (picked A p) (picked T p) ≡ having d q (items (suc k) A T)) (prefixOf (getD A k 0) d) q (K ++ k ∷ []) K
+  keeps-items T zero la lt = refl
+  keeps-items T (suc k) la lt =
+      let before = keeps-items T k (omega arith) (omega arith) in
+      eq-elim (λ (p : List ℕ). pairs (picked A p) (picked T p) ≡ having d q (items (suc k) A T))
+      (firstBits d (getD A k 0)) q (K ++ k ∷ []) K
       (λ e. rw (picked-snoc A K k, picked-snoc T K k) (pairs-append (picked A K) (picked T K) _ _ (length-map K _ ∙ sym (length-map K _)))
-      ∙ ap (λ (t : Table). t ++ E ∷ []) before ∙ sym (ap (having d q) one-more ∙ having-in d q (items k A T) E (sym (prefix-is d _ deep) ∙ e)))
-      (λ n. before ∙ sym (ap (having d q) one-more ∙ having-out d q (items k A T) E (λ y. n (prefix-is d _ deep ∙ y))))
+      ∙ ap (λ (t : Table). t ++ E ∷ []) before ∙ sym (ap (having d q) one-more ∙ having-in d q (items k A T) E e))
+      (λ n. before ∙ sym (ap (having d q) one-more ∙ having-out d q (items k A T) E n))
     where
       K : List ℕ
       K = keeps A d q k
@@ -502,15 +480,15 @@ module _ (A : List ℕ) (d q : ℕ) where
           (pairs-append (take k A) (take k T) _ _ (length-take-le k A (omega arith) ∙ sym (length-take-le k T (omega arith))))
 
 -- the half of a split whose accounts have the prefix q of d bits
-pub half-becomes : (x : BucketState) → Sound x → (d q : ℕ) → d ≤ 32 → Becomes (marked x 0) (having d q (itemsOf x)) (halfOf x d q)
-unfolding halfOf
-half-becomes x s d q deep =
+pub half-becomes : (x : BucketState) → Sound x → (d q : ℕ) → Becomes (withApplied x 0) (having d q (itemsOf x)) (halfOf x d q)
+unfolding halfOf withApplied
+half-becomes x s d q =
     rw (size-is x (s .count)) (
-    holding-becomes (gathered A K) (gathered T K) (length K) (sound-marked 0 s) (length-gathered A K few) (length-gathered T K few) few
+    holding-becomes (gathered A K) (gathered T K) (length K) (sound-applied 0 s) (length-gathered A K few) (length-gathered T K few) few
     (rw (take-gathered A K) (keeps-below A d q (2 ^ 32) A (x .count) (omega arith) (s .narrow)))
     (rw (take-gathered T K) (keeps-below A d q (2 ^ 64) T (x .count) (omega arith) (s .fits)))
     (ascending-having d q (itemsOf x) (s .ascending))
-    (rw (take-gathered A K, take-gathered T K, items-are x (s .count)) (keeps-items A d q T (x .count) deep (omega arith) (omega arith)))
+    (rw (take-gathered A K, take-gathered T K, items-are x (s .count)) (keeps-items A d q T (x .count) (omega arith) (omega arith)))
     )
   where
     A : List ℕ
@@ -522,5 +500,5 @@ half-becomes x s d q deep =
     K : List ℕ
     K = keeps A d q (x .count)
 
-    few : length K ≤ 16
-    few = omega (arith, keeps-short A d q (x .count))
+    few : length K ≤ arraySize
+    few = omega (arith, length-keeps A d q (x .count))

@@ -1,45 +1,67 @@
 -- A state means the machine's bucket: an update carried out, a round and the half of a split on the state mean the machine's.
 -- Rests on what the definitions do to a state's table.
-use Prim.Native.Nat.{ℕ, zero, suc, _/_, _%_, _^_, _≤_, _<_}
+use Prim.Native.Nat.{ℕ, zero, suc, _*_, _/_, _%_, _^_, _≤_, _<_}
 use native.Mathlib.Omega.{arith}
 use native.Mathlib.Nat.{mod-lt, zero-div}
 use mathlib.Core.Path.{_≡_, refl, ap, ap₂, sym, _∙_, subst}
 use mathlib.Core.Logic.{_≢_}
 use mathlib.Core.Bool.{Bool, true, false, not, xor}
 use mathlib.Core.List.{List}
+use mathlib.Core.Option.{none}
 use lib.Dec.{ltb, leb, eqb}
 use lib.IntN.{ℤ}
 use lib.ListN.{length, getD, set, length-set}
-use borrow.Author.Tests.{leb-true, leb-false, le-ltb, lt-ltb, not-true}
+use borrow.Author.Tests.{leb-true, leb-false, le-ltb, lt-ltb, eq-eqb, ne-eqb, not-true}
 use lib.Seq.{getD-set-same, getD-set-other}
+use Rattle.interface.specs.Numbers.{kindNone, kindInsert, answerTotal, answerNumber}
+use Rattle.interface.specs.declared.Answer.{Answer}
+use Rattle.interface.specs.declared.Answer.the-variants.{Added, Replaced, Removed, Absent, Found, None, Crowded}
 use Rattle.interface.specs.declared.Settings.{Settings}
+use Rattle.fields.specs.Fields.{slotSize}
 use Rattle.machine.specs.Choice.{if_then_else_, _and_}
 use Rattle.machine.specs.Sequential.{Table, Update, insert, delete, present, result, changed, find, having}
 use Rattle.machine.specs.Records.{Name, Settled, Body, State, Slot, empty, announced, noBits}
-use Rattle.machine.specs.BucketPass.{full, holdsBack, settledAt, carryOut, pending, help, helped, nextState}
+use Rattle.machine.specs.BucketPass.{full, holdsBack, splittable, crowded, settledAt, carryOut, pending, help, helped, nextState}
 use Rattle.machine.specs.DirectoryPass.{half}
-use Rattle.machine.proofs.Base.{if-false, eq-elim, and-parts, and-left-false, and-right-false, assign-elim}
-use Rattle.machine.proofs.Resolve.{Fate, stays, gets, calls, helped-ok}
+use Rattle.machine.proofs.Base.{eq-elim, and-parts, assign-elim}
+use Rattle.machine.proofs.Resolve.{SettledChange, settled-same, settled-new, calls, helped-ok}
 use Rattle.bucket.specs.declared.BucketState.{BucketState}
-use Rattle.bucket.specs.declared.Place.{Place}
-use Rattle.bucket.specs.declared.Place.the-variants.{At, Before}
-use Rattle.bucket.specs.State.{sizeOf, fullOf, searchOf, putOf, removeOf, settleOf, insertAnswer, deleteAnswer, carryOf}
-use Rattle.bucket.specs.State.{bit, helpOf, helpedOf, roundOf, halfOf}
-use Rattle.bucket.specs.Items.{signed, itemsOf, totalAt, answerOf, settledOf, bodyOf, bitsOf, stateOf, updateOf, readSlot, slotOf}
-use Rattle.bucket.specs.Items.{Sound, SoundSlots, Means}
-use Rattle.bucket.proofs.Items.{Becomes, find-search, put-becomes, remove-becomes, sound-marked, half-becomes, length-items}
+use Rattle.bucket.specs.declared.Descriptor.{Descriptor}
+use Rattle.bucket.specs.declared.Position.{Position}
+use Rattle.bucket.specs.declared.Position.the-variants.{At, Before}
+use Rattle.bucket.specs.State.{arraySize, sizeOf, searchOf, putOf, removeOf, settleOf, fullBy, holdsBackBy, splittableBy, crowdedBy, descriptorIn, answerBy, insertAnswer, deleteAnswer}
+use Rattle.bucket.specs.State.{carryOf, bit, pendingBy, helpOf, helpedOf, withApplied, roundOf, halfOf}
+use Rattle.bucket.specs.Items.{signed, itemsOf, totalAt, answerOf, settledOf, bitsOf, updateFrom, slotFrom, slotOf}
+use Rattle.bucket.specs.Items.{SoundSlots, Means}
+use Rattle.bucket.proofs.Laws.{room-left, pending-settled, help-left}
+use Rattle.bucket.proofs.Items.{Becomes, find-search, put-becomes, remove-becomes, sound-applied, half-becomes, length-items}
+
+-- ---- answers
+
+-- every answer without a total is read back from its number
+pub answer-back : (a : Answer) → answerTotal a ≡ none → answerOf (answerNumber a) ≡ a
+unfolding answerOf answerTotal if_then_else_
+answer-back Added e = refl
+answer-back Replaced e = refl
+answer-back Removed e = refl
+answer-back Absent e = refl
+answer-back (Found v) e = cc
+answer-back None e = refl
+answer-back Crowded e = refl
 
 -- ---- an update carried out
 
--- the number of an answer, by the place that was found, stands for the machine's answer
+-- the number of an answer, by the position that was found, stands for the machine's answer
 insert-answer :
-    (x : BucketState) (p : Place) (a : ℕ) (z : ℤ) (t : Table) → find t a ≡ totalAt x p → answerOf (insertAnswer p) ≡ result (insert a z) t
-unfolding answerOf insertAnswer result totalAt present if_then_else_
+    (x : BucketState) (p : Position) (a : ℕ) (z : ℤ) (t : Table) → find t a ≡ totalAt x p
+    → answerOf (insertAnswer p) ≡ result (insert a z) t
+unfolding answerOf insertAnswer answerBy result totalAt present if_then_else_
 insert-answer x (At i) a z t h = rw h
 insert-answer x (Before i) a z t h = rw h
 
-delete-answer : (x : BucketState) (p : Place) (a : ℕ) (t : Table) → find t a ≡ totalAt x p → answerOf (deleteAnswer p) ≡ result (delete a) t
-unfolding answerOf deleteAnswer result totalAt present if_then_else_
+delete-answer :
+    (x : BucketState) (p : Position) (a : ℕ) (t : Table) → find t a ≡ totalAt x p → answerOf (deleteAnswer p) ≡ result (delete a) t
+unfolding answerOf deleteAnswer answerBy result totalAt present if_then_else_
 delete-answer x (At i) a t h = rw h
 delete-answer x (Before i) a t h = rw h
 
@@ -47,12 +69,7 @@ delete-answer x (Before i) a t h = rw h
 abbrev pub withBody : State → Body → State
 withBody y b = record { body = b; applied = y .applied }
 
--- a sound state means what it is read as
-pub means-itself : (x : BucketState) (n : ℕ) → Sound x → Means x (stateOf x) n
-unfolding stateOf bodyOf
-means-itself x n s = record { sound = s; items = refl; settled = λ j l. refl; applied = λ j l. refl }
-
-module _ (x : BucketState) (y : State) (n : ℕ) (few : n ≤ 16) (m : Means x y n) where
+module _ (x : BucketState) (y : State) (n : ℕ) (few : n ≤ arraySize) (m : Means x y n) where
   -- z is x with the table that update u makes of it; then its ticket is settled with the answer of number k
   settle-means :
       (z : BucketState) (u : Update) (j t k : ℕ) → Becomes x (changed u (itemsOf x)) z → answerOf k ≡ result u (itemsOf x)
@@ -87,38 +104,67 @@ module _ (x : BucketState) (y : State) (n : ℕ) (few : n ≤ 16) (m : Means x y
 
       other : (i : ℕ) → i < n → i ≢ j → settledOf (settleOf z j t k) i ≡ y .body .settled i
       other i l e =
-          let p : getD (set (z .settled) j t) i 0 ≡ getD (x .settled) i 0 = getD-set-other (z .settled) j i t 0 e ∙ ap (at i) (h .settled) in
-          let q : getD (set (z .answers) j k) i 0 ≡ getD (x .answers) i 0 = getD-set-other (z .answers) j i k 0 e ∙ ap (at i) (h .answers) in
+          let p : getD (set (z .settled) j t) i 0 ≡ getD (x .settled) i 0 =
+          getD-set-other (z .settled) j i t 0 e ∙ ap (at i) (h .settled) in
+          let q : getD (set (z .answers) j k) i 0 ≡ getD (x .answers) i 0 =
+          getD-set-other (z .answers) j i k 0 e ∙ ap (at i) (h .answers) in
           let g : settledOf (settleOf z j t k) i ≡ settledOf x i = λ o. record { ticket = p o; answer = answerOf (q o) } in
           g ∙ m .settled i l
 
   -- worker j's update carried out, where there is room
   pub carry-means :
-      (j kind a v t : ℕ) → a < 2 ^ 32 → v < 2 ^ 64 → x .count < 16
-      → Means (carryOf x j kind a v t) (withBody y (carryOut j (updateOf kind a v) t (y .body))) n
-  unfolding carryOf updateOf if_then_else_ changed
-  carry-means j kind a v t narrow fits room = go (eqb kind 1)
+      (j : ℕ) (u : Descriptor) → u .account < 2 ^ 32 → u .total < 2 ^ 64 → x .count < arraySize
+      → Means (carryOf x j u) (withBody y (carryOut j (updateFrom u) (u .ticket) (y .body))) n
+  unfolding carryOf updateFrom if_then_else_ changed
+  carry-means j u narrow fits room = go (eqb (u .kind) kindInsert)
     where
-      place : Place
-      place = searchOf x a
+      a : ℕ
+      a = u .account
 
-      finds : find (itemsOf x) a ≡ totalAt x place
+      v : ℕ
+      v = u .total
+
+      t : ℕ
+      t = u .ticket
+
+      p : Position
+      p = searchOf x a
+
+      finds : find (itemsOf x) a ≡ totalAt x p
       finds = find-search x (m .sound) a
 
       go :
           (b : Bool)
-          → Means (if b then settleOf (putOf x a v) j t (insertAnswer place) else settleOf (removeOf x a) j t (deleteAnswer place))
+          → Means (if b then settleOf (putOf x p a v) j t (insertAnswer p) else settleOf (removeOf x p) j t (deleteAnswer p))
           (withBody y (carryOut j (if b then insert a (signed v) else delete a) t (y .body))) n
       go true =
-          settle-means (putOf x a v) (insert a (signed v)) j t _ (put-becomes x (m .sound) a v narrow fits (λ e. room))
-          (insert-answer x place a (signed v) (itemsOf x) finds)
-      go false = settle-means (removeOf x a) (delete a) j t _ (remove-becomes x (m .sound) a) (delete-answer x place a (itemsOf x) finds)
+          settle-means (putOf x p a v) (insert a (signed v)) j t _ (put-becomes x (m .sound) a v narrow fits (λ e. room))
+          (insert-answer x p a (signed v) (itemsOf x) finds)
+      go false = settle-means (removeOf x p) (delete a) j t _ (remove-becomes x (m .sound) a) (delete-answer x p a (itemsOf x) finds)
 
 -- ---- the tests of a round
 
-pub full-means : (s : Settings) (x : BucketState) (y : State) (n : ℕ) → Means x y n → fullOf x (s .capacity) ≡ full s (y .body)
-unfolding fullOf full
-full-means s x y n m = ap (leb (s .capacity)) (sym (length-items x (m .sound)) ∙ ap length (m .items))
+module _ (s : Settings) (x : BucketState) (y : State) (n : ℕ) (m : Means x y n) where
+  pub full-means : fullBy s (x .count) ≡ full s (y .body)
+  unfolding fullBy full
+  full-means = ap (leb (s .capacity)) (sym (length-items x (m .sound)) ∙ ap length (m .items))
+
+  pub holds-back-means : (d : ℕ) → holdsBackBy s d (x .count) ≡ holdsBack s d (y .body)
+  unfolding holdsBackBy holdsBack
+  holds-back-means d = full-means
+
+  pub splittable-means : (d : ℕ) → splittableBy s d (x .count) ≡ splittable s d (y .body)
+  unfolding splittableBy splittable
+  splittable-means d = ap (λ (b : Bool). b and ltb d (s .depth)) full-means
+
+  -- no bucket is deeper than M
+  pub crowded-means : (d : ℕ) → d ≤ s .depth → crowdedBy s d (x .count) ≡ crowded s d (y .body)
+  unfolding crowdedBy crowded
+  crowded-means d h = λ i. full-means i and deepest (leb (s .depth) d) refl i
+    where
+      deepest : (b : Bool) → leb (s .depth) d ≡ b → leb (s .depth) d ≡ eqb d (s .depth)
+      deepest true e = e ∙ sym (eq-eqb d (s .depth) (omega (arith, leb-true (s .depth) d e)))
+      deepest false e = e ∙ sym (ne-eqb d (s .depth) (λ q. omega (arith, leb-false (s .depth) d e)))
 
 bits-differ : (p q : ℕ) → p < 2 → q < 2 → not (eqb p q) ≡ xor (eqb p 1) (eqb q 1)
 unfolding xor
@@ -134,7 +180,7 @@ bit-below : (w j : ℕ) → bit w j < 2
 unfolding bit
 bit-below w j = mod-lt (w / 2 ^ j) (omega arith)
 
-ltb-not : (p q : ℕ) → ltb p q ≡ not (leb q p)
+pub ltb-not : (p q : ℕ) → ltb p q ≡ not (leb q p)
 ltb-not p q = go (leb q p) refl
   where
     go : (b : Bool) → leb q p ≡ b → ltb p q ≡ not b
@@ -143,17 +189,17 @@ ltb-not p q = go (leb q p) refl
 
 -- ---- a round
 
--- whether worker j is helped, its ticket being t
-abbrev helps : BucketState → ℕ → ℕ → ℕ → ℕ → Bool
-helps x capacity toggle j t = not (eqb (bit toggle j) (bit (x .applied) j)) and ltb (getD (x .settled) j 0) t and not (fullOf x capacity)
+-- whether worker j's update with ticket t is pending in the state
+abbrev due : BucketState → ℕ → ℕ → ℕ → Bool
+due x toggle j t = pendingBy toggle (x .applied) j (getD (x .settled) j 0) t
 
-module _ (s : Settings) (narrow : s .capacity ≤ 16) (n : ℕ) (few : n ≤ 16) (y : State) (toggle : ℕ) (bits : ℕ → Bool)
+module _ (s : Settings) (d : ℕ) (narrow : s .capacity ≤ arraySize) (n : ℕ) (few : n ≤ arraySize) (y : State) (toggle : ℕ) (bits : ℕ → Bool)
     (agree : (j : ℕ) → j < n → bitsOf toggle j ≡ bits j) where
-  helps-is :
+  due-is :
       (x : BucketState) (c : Body) (j t : ℕ) → j < n → c .settled j ≡ y .body .settled j → Means x (withBody y c) n
-      → helps x (s .capacity) toggle j t ≡ pending y bits j t and not (holdsBack s c)
-  unfolding pending holdsBack settledAt bitsOf settledOf
-  helps-is x c j t l same m = λ i. toggled i and above i and ap not (full-means s x (withBody y c) n m) i
+      → due x toggle j t ≡ pending y bits j t
+  unfolding pendingBy pending settledAt bitsOf settledOf
+  due-is x c j t l same m = λ i. toggled i and above i
     where
       toggled : not (eqb (bit toggle j) (bit (x .applied) j)) ≡ xor (bits j) (y .applied j)
       toggled = bits-differ _ _ (bit-below toggle j) (bit-below (x .applied) j) ∙ ap₂ xor (agree j l) (m .applied j l)
@@ -163,82 +209,74 @@ module _ (s : Settings) (narrow : s .capacity ≤ 16) (n : ℕ) (few : n ≤ 16)
 
   -- worker j helped in the copy x, which means c: there its settled ticket is still the one of the state that was read, y
   pub help-means :
-      (x : BucketState) (c : Body) (j kind a v t : ℕ) → j < n → a < 2 ^ 32 → v < 2 ^ 64 → (kind ≡ 0 → t ≡ 0)
-      → c .settled j ≡ y .body .settled j → Means x (withBody y c) n
-      → Means (helpOf x (s .capacity) toggle j kind a v t) (withBody y (help s y bits j (readSlot kind a v t) c)) n
-  unfolding helpOf help readSlot if_then_else_ fullOf
-  help-means x c j kind a v t l small fits quiet same m =
-      eq-elim (λ (o : Slot). Means (helpOf x (s .capacity) toggle j kind a v t) (withBody y (help s y bits j o c)) n) kind 0
-      empty (announced (updateOf kind a v) t) idle (λ k. rw tests (due (pending y bits j t and not (holdsBack s c)) tests))
+      (x : BucketState) (c : Body) (j : ℕ) (u : Descriptor) → j < n → u .account < 2 ^ 32 → u .total < 2 ^ 64
+      → (u .kind ≡ kindNone → u .ticket ≡ 0) → c .settled j ≡ y .body .settled j → Means x (withBody y c) n
+      → Means (helpOf x s d toggle j u) (withBody y (help s d y bits j (slotFrom u) c)) n
+  unfolding helpOf help slotFrom if_then_else_
+  help-means x c j u l small fits quiet same m =
+      eq-elim (λ (o : Slot). Means (helpOf x s d toggle j u) (withBody y (help s d y bits j o c)) n) (u .kind) kindNone
+      empty (announced (updateFrom u) (u .ticket)) idle (λ k. rw tests (go (pending y bits j (u .ticket) and not (holdsBack s d c)) tests))
     where
-      tests : helps x (s .capacity) toggle j t ≡ pending y bits j t and not (holdsBack s c)
-      tests = helps-is x c j t l same m
+      tests : due x toggle j (u .ticket) and not (holdsBackBy s d (x .count)) ≡ pending y bits j (u .ticket) and not (holdsBack s d c)
+      tests = λ i. due-is x c j (u .ticket) l same m i and not (holds-back-means s x (withBody y c) n m d i)
 
-      idle : kind ≡ 0 → Means (helpOf x (s .capacity) toggle j kind a v t) (withBody y c) n
+      idle : u .kind ≡ kindNone → Means (helpOf x s d toggle j u) (withBody y c) n
       idle k =
-          let differs : Bool = not (eqb (bit toggle j) (bit (x .applied) j)) in
-          let below : ltb (getD (x .settled) j 0) t ≡ false = le-ltb (getD (x .settled) j 0) t (omega (arith, quiet k)) in
-          let neither : differs and ltb (getD (x .settled) j 0) t ≡ false = ap (λ (b : Bool). differs and b) below ∙ and-right-false differs in
-          let off : helps x (s .capacity) toggle j t ≡ false = and-left-false (not (fullOf x (s .capacity))) neither in
-          subst (λ (r : BucketState). Means r (withBody y c) n) (sym (if-false (carryOf x j kind a v t) x off)) m
+          let off = pending-settled toggle (x .applied) j (getD (x .settled) j 0) (u .ticket) (omega (arith, quiet k)) in
+          subst (λ (r : BucketState). Means r (withBody y c) n) (sym (help-left x s d toggle j u off)) m
 
-      due :
-          (b : Bool) → helps x (s .capacity) toggle j t ≡ b
-          → Means (if b then carryOf x j kind a v t else x) (withBody y (if b then carryOut j (updateOf kind a v) t c else c)) n
-      due true e =
-          let open-still : leb (s .capacity) (x .count) ≡ false = not-true _ (and-parts _ _ e .1) in
-          carry-means x (withBody y c) n few m j kind a v t small fits (omega (arith, leb-false (s .capacity) (x .count) open-still))
-      due false e = m
+      go :
+          (b : Bool) → due x toggle j (u .ticket) and not (holdsBackBy s d (x .count)) ≡ b
+          → Means (if b then carryOf x j u else x) (withBody y (if b then carryOut j (updateFrom u) (u .ticket) c else c)) n
+      go true e =
+          let room = room-left s d (x .count) (not-true _ (and-parts _ _ e .1)) in
+          carry-means x (withBody y c) n few m j u small fits (omega arith)
+      go false e = m
 
   -- while the workers below k are helped, worker k's ticket stays
-  later : (slots : ℕ → Slot) (k : ℕ) → helped s y bits slots k .settled k ≡ y .body .settled k
-  later slots k = go (helped-ok s y bits slots k .fate k)
+  later : (slots : ℕ → Slot) (k : ℕ) → helped s d y bits slots k .settled k ≡ y .body .settled k
+  later slots k = go (helped-ok s d y bits slots k .settled-change k)
     where
       go :
-          Fate (y .body) (helped s y bits slots k) (slots k) ((k < k) × (calls y bits k (slots k) ≡ true)) k
-          → helped s y bits slots k .settled k ≡ y .body .settled k
-      go (stays e) = e
-      go (gets h l e) = absurd (omega (arith, h .0))
+          SettledChange (y .body) (helped s d y bits slots k) (slots k) ((k < k) × (calls y bits k (slots k) ≡ true)) k
+          → helped s d y bits slots k .settled k ≡ y .body .settled k
+      go (settled-same e) = e
+      go (settled-new h l e) = absurd (omega (arith, h .0))
 
   -- the workers below k helped, w being the words of the slots that were read
   pub helped-means :
       (x : BucketState) (w : List ℕ) (slots : ℕ → Slot) → SoundSlots w n → ((j : ℕ) → j < n → slotOf w j ≡ slots j) → Means x y n
-      → (k : ℕ) → k ≤ n → Means (helpedOf x w (s .capacity) toggle k) (withBody y (helped s y bits slots k)) n
-  unfolding helpedOf helped slotOf
+      → (k : ℕ) → k ≤ n → Means (helpedOf x w s d toggle k) (withBody y (helped s d y bits slots k)) n
+  unfolding helpedOf helped slotOf descriptorIn
   helped-means x w slots sound read m zero h = m
   helped-means x w slots sound read m (suc k) h =
-      let z : BucketState = helpedOf x w (s .capacity) toggle k in
-      let c : Body = helped s y bits slots k in
-      subst (λ (o : Slot). Means (helpedOf x w (s .capacity) toggle (suc k)) (withBody y (help s y bits k o c)) n) (read k h) (
-      help-means z c k _ _ _ _ h (sound .narrow k h) (sound .fits k h) (sound .quiet k h)
+      let z : BucketState = helpedOf x w s d toggle k in
+      let c : Body = helped s d y bits slots k in
+      subst (λ (o : Slot). Means (helpedOf x w s d toggle (suc k)) (withBody y (help s d y bits k o c)) n) (read k h) (
+      help-means z c k (descriptorIn w (slotSize * k)) h (sound .narrow k h) (sound .fits k h) (sound .quiet k h)
       (later slots k) (helped-means x w slots sound read m k (omega arith))
       )
 
--- a whole round
-module _ (s : Settings) (narrow : s .capacity ≤ 16) (few : s .workers ≤ 16) (x : BucketState) (toggle : ℕ) (w : List ℕ) where
-  pub round-means :
-      (y : State) (bits : ℕ → Bool) (slots : ℕ → Slot) → Means x y (s .workers)
-      → ((j : ℕ) → j < s .workers → bitsOf toggle j ≡ bits j) → SoundSlots w (s .workers) → ((j : ℕ) → j < s .workers → slotOf w j ≡ slots j)
-      → Means (roundOf x w (s .capacity) toggle (s .workers)) (nextState s y bits slots) (s .workers)
-  unfolding roundOf nextState itemsOf sizeOf settledOf
-  round-means y bits slots m agree sound read =
-      let h = helped-means s narrow (s .workers) few y toggle bits agree x w slots sound read m (s .workers) (omega arith) in
-      record { sound = sound-marked toggle (h .sound); items = h .items; settled = h .settled; applied = agree }
-
-  pub round-itself :
-      Sound x → SoundSlots w (s .workers)
-      → Means (roundOf x w (s .capacity) toggle (s .workers)) (nextState s (stateOf x) (bitsOf toggle) (slotOf w)) (s .workers)
-  round-itself h sound = round-means (stateOf x) (bitsOf toggle) (slotOf w) (means-itself x (s .workers) h) (λ j l. refl) sound (λ j l. refl)
+-- a whole round, in a bucket of depth d
+pub round-means :
+    (s : Settings) (d : ℕ) → s .capacity ≤ arraySize → s .workers ≤ arraySize → (x : BucketState) (toggle : ℕ) (w : List ℕ)
+    → (y : State) (bits : ℕ → Bool) (slots : ℕ → Slot) → Means x y (s .workers)
+    → ((j : ℕ) → j < s .workers → bitsOf toggle j ≡ bits j) → SoundSlots w (s .workers) → ((j : ℕ) → j < s .workers → slotOf w j ≡ slots j)
+    → Means (roundOf x w s d toggle) (nextState s d y bits slots) (s .workers)
+unfolding roundOf withApplied nextState itemsOf sizeOf settledOf
+round-means s d narrow few x toggle w y bits slots m agree sound read =
+    let h = helped-means s d narrow (s .workers) few y toggle bits agree x w slots sound read m (s .workers) (omega arith) in
+    record { sound = sound-applied toggle (h .sound); items = h .items; settled = h .settled; applied = agree }
 
 -- ---- the half of a split
 
 -- it is what a bucket that has just become current means
 pub half-means :
-    (x : BucketState) (y : State) (n : ℕ) (z : Name) → z .depth ≤ 32 → Means x y n
+    (x : BucketState) (y : State) (n : ℕ) (z : Name) → Means x y n
     → Means (halfOf x (z .depth) (z .prefix)) (record { body = half z (y .body); applied = noBits }) n
 unfolding half halfOf settledOf bitsOf bit
-half-means x y n z deep m =
-    let h = half-becomes x (m .sound) (z .depth) (z .prefix) deep in
+half-means x y n z m =
+    let h = half-becomes x (m .sound) (z .depth) (z .prefix) in
     record {
       sound = h .sound;
       items = h .items ∙ ap (having (z .depth) (z .prefix)) (m .items);

@@ -1,4 +1,4 @@
--- What a bucket's state means: the machine's table, settled tickets and applied bits; and what the four words of a slot mean.
+-- What a bucket's state means: the machine's table, settled tickets and applied bits; and what a slot's words mean.
 -- Rests on the definitions on states and on the machine's records.
 use Prim.Native.Nat.{ℕ, _+_, _*_, _^_, _≤_, _<_}
 use mathlib.Core.Path.{_≡_}
@@ -10,16 +10,19 @@ use lib.ListN.{length, getD, take}
 use lib.IntN.{ℤ}
 use mir.Syntax.{w64}
 use mir.Val.{toZ}
+use Rattle.interface.specs.Numbers.{kindNone, kindInsert, answerNumber}
 use Rattle.interface.specs.declared.Answer.{Answer}
-use Rattle.interface.specs.declared.Answer.the-variants.{Added, Replaced, Removed, Absent, Missing, Crowded}
+use Rattle.interface.specs.declared.Answer.the-variants.{Added, Replaced, Removed, Absent, None, Crowded}
+use Rattle.fields.specs.Fields.{slotKind, slotAccount, slotTotal, slotTicket, slotSize}
 use Rattle.machine.specs.Choice.{if_then_else_}
 use Rattle.machine.specs.Sequential.{Table, Update, insert, delete}
-use Rattle.machine.specs.Records.{Settled, Body, State, Slot, empty, announced}
+use Rattle.machine.specs.Records.{Settled, State, Slot, empty, announced}
 use Rattle.machine.proofs.Tables.{Ascending}
 use Rattle.bucket.specs.declared.BucketState.{BucketState}
-use Rattle.bucket.specs.declared.Place.{Place}
-use Rattle.bucket.specs.declared.Place.the-variants.{At, Before}
-use Rattle.bucket.specs.State.{sizeOf, bit}
+use Rattle.bucket.specs.declared.Descriptor.{Descriptor}
+use Rattle.bucket.specs.declared.Position.{Position}
+use Rattle.bucket.specs.declared.Position.the-variants.{At, Before}
+use Rattle.bucket.specs.State.{arraySize, sizeOf, bit, descriptorIn}
 
 -- ---- a state
 
@@ -36,43 +39,38 @@ pairs (a ∷ l) (v ∷ vs) = (a, signed v) ∷ pairs l vs
 unfoldable pub itemsOf : BucketState → Table
 itemsOf x = pairs (take (sizeOf x) (x .accounts)) (take (sizeOf x) (x .totals))
 
--- the total at a place where an account stands
-unfoldable pub totalAt : BucketState → Place → Option ℤ
+-- the total at a position where an account stands
+unfoldable pub totalAt : BucketState → Position → Option ℤ
 totalAt x (At i) = some (signed (getD (x .totals) i 0))
 totalAt x (Before i) = none
 
--- the answer to an update that a number stands for (interface's answerNumber); none has been given for any other number
+-- the answer to an update that a number stands for; none has been given for any other number
 unfoldable pub answerOf : ℕ → Answer
 answerOf k =
-    if eqb k 1 then Added else if eqb k 2 then Replaced else if eqb k 3 then Removed
-    else if eqb k 4 then Absent else if eqb k 9 then Crowded else Missing
+    if eqb k (answerNumber Added) then Added else if eqb k (answerNumber Replaced) then Replaced
+    else if eqb k (answerNumber Removed) then Removed else if eqb k (answerNumber Absent) then Absent
+    else if eqb k (answerNumber Crowded) then Crowded else None
 
 unfoldable pub settledOf : BucketState → ℕ → Settled
 settledOf x j = record { ticket = getD (x .settled) j 0; answer = answerOf (getD (x .answers) j 0) }
-
-unfoldable pub bodyOf : BucketState → Body
-bodyOf x = record { items = itemsOf x; settled = settledOf x }
 
 -- the bits of a word, one to a worker
 unfoldable pub bitsOf : ℕ → ℕ → Bool
 bitsOf w j = eqb (bit w j) 1
 
-unfoldable pub stateOf : BucketState → State
-stateOf x = record { body = bodyOf x; applied = bitsOf (x .applied) }
-
 -- ---- a slot
 
--- kind 1 is an insert, any other a delete
-unfoldable pub updateOf : ℕ → ℕ → ℕ → Update
-updateOf kind a v = if eqb kind 1 then insert a (signed v) else delete a
+-- any kind but an insert's is a delete
+unfoldable pub updateFrom : Descriptor → Update
+updateFrom u = if eqb (u .kind) kindInsert then insert (u .account) (signed (u .total)) else delete (u .account)
 
--- kind 0 is an empty slot
-unfoldable pub readSlot : ℕ → ℕ → ℕ → ℕ → Slot
-readSlot kind a v ticket = if eqb kind 0 then empty else announced (updateOf kind a v) ticket
+-- a slot without a kind is empty
+unfoldable pub slotFrom : Descriptor → Slot
+slotFrom u = if eqb (u .kind) kindNone then empty else announced (updateFrom u) (u .ticket)
 
--- worker j's, of the slots that were read: kind, account, total, ticket
+-- worker j's, of the slots that were read
 unfoldable pub slotOf : List ℕ → ℕ → Slot
-slotOf l j = readSlot (getD l (4 * j) 0) (getD l (4 * j + 1) 0) (getD l (4 * j + 2) 0) (getD l (4 * j + 3) 0)
+slotOf l j = slotFrom (descriptorIn l (slotSize * j))
 
 -- ---- what is required of the words
 
@@ -81,22 +79,22 @@ abbrev pub Below : ℕ → List ℕ → Type 0
 Below k [] = Unit {0}
 Below k (x ∷ l) = (x < k) × Below k l
 
--- at most 16 accounts of 32 bits, ascending, with totals of 64 bits
+-- no more accounts than an array has items, of 32 bits, ascending, with totals of 64 bits
 pub record Sound (x : BucketState) : Type 0 where
-  pub count : x .count ≤ 16
-  pub accounts : length (x .accounts) ≡ 16
-  pub totals : length (x .totals) ≡ 16
-  pub settled : length (x .settled) ≡ 16
-  pub answers : length (x .answers) ≡ 16
+  pub count : x .count ≤ arraySize
+  pub accounts : length (x .accounts) ≡ arraySize
+  pub totals : length (x .totals) ≡ arraySize
+  pub settled : length (x .settled) ≡ arraySize
+  pub answers : length (x .answers) ≡ arraySize
   pub ascending : Ascending (itemsOf x)
   pub narrow : Below (2 ^ 32) (take (x .count) (x .accounts))
   pub fits : Below (2 ^ 64) (take (x .count) (x .totals))
 
 -- the slots of the workers below n: accounts of 32 bits, totals of 64 bits, and the ticket of an empty slot is 0
 pub record SoundSlots (l : List ℕ) (n : ℕ) : Type 0 where
-  pub narrow : (j : ℕ) → j < n → getD l (4 * j + 1) 0 < 2 ^ 32
-  pub fits : (j : ℕ) → j < n → getD l (4 * j + 2) 0 < 2 ^ 64
-  pub quiet : (j : ℕ) → j < n → getD l (4 * j) 0 ≡ 0 → getD l (4 * j + 3) 0 ≡ 0
+  pub narrow : (j : ℕ) → j < n → getD l (slotSize * j + slotAccount) 0 < 2 ^ 32
+  pub fits : (j : ℕ) → j < n → getD l (slotSize * j + slotTotal) 0 < 2 ^ 64
+  pub quiet : (j : ℕ) → j < n → getD l (slotSize * j + slotKind) 0 ≡ kindNone → getD l (slotSize * j + slotTicket) 0 ≡ 0
 
 -- ---- a state and what it means
 

@@ -1,36 +1,60 @@
-// A bucket's state by value, and what the two passes do with it: search, put and remove, one worker's update carried out, a whole
-// round, and a half of a split. Every field is a word, so that a state is loaded and stored by copying. Each contract is an equality
-// with a definition of specs/, for any field values: a count above 16 is read as 16.
+// A bucket's state by value, and what the two passes do with it: search, put and remove, one worker's update carried
+// out, a whole round, and a half of a split; and the parts that work on any slice. Every field is a word, so that a
+// state is loaded and stored by copying. Each contract is an equality with a definition of specs/, for any values.
 ghost use mathlib.Core.Path.{_≡_};
-ghost use mathlib.Core.Bool.{not};
+ghost use Prim.Native.Nat.{_+_, _≤_};
 ghost use lib.ListN.{length, getD};
-ghost use lib.Dec.{ltb, leb, eqb};
-ghost use Rattle.machine.specs.Choice.{_and_};
-ghost use Rattle.bucket.specs.State.{sizeOf, searchOf, putOf, putAt, removeOf, removeAt, settleOf, carryOf, helpOf, roundOf, halfOf, fullOf, insertedIn, removedFrom, insertAnswer, deleteAnswer, prefixOf, bit};
+ghost use Rattle.fields.specs.Fields.{slotSize};
+ghost use Rattle.machine.specs.Sequential.{place, firstBits};
+ghost use Rattle.bucket.specs.State.{arraySize, insertedIn, removedFrom, scan, sizeOf, searchOf, putOf, removeOf, settleOf};
+ghost use Rattle.bucket.specs.State.{fullBy, holdsBackBy, splittableBy, crowdedBy, descriptorIn, answerBy, carryOf, pendingBy, roundOf, halfOf};
+use fields::SLOT_ACCOUNT;
+use fields::SLOT_KIND;
+use fields::SLOT_SIZE;
+use fields::SLOT_TICKET;
+use fields::SLOT_TOTAL;
+use interface::ANSWER_ABSENT;
+use interface::ANSWER_ADDED;
+use interface::ANSWER_REMOVED;
+use interface::ANSWER_REPLACED;
+use interface::KIND_INSERT;
+use interface::Settings;
 
-// Accounts ascending with their totals, the first `count` of each; per worker the last settled ticket with its answer's number; one
-// applied bit per worker.
+// The items of each array of a state.
+pub const ARRAY_SIZE: usize = Settings::GREATEST_CAPACITY as usize;
+
+// Accounts ascending with their totals, the first `count` of each; per worker the last settled ticket with its answer's
+// number; one applied bit per worker. A count above the arrays' size is read as their size.
 pub struct BucketState {
-    pub accounts: [u64; 16],
-    pub totals: [u64; 16],
-    pub settled: [u64; 16],
-    pub answers: [u64; 16],
+    pub accounts: [u64; ARRAY_SIZE],
+    pub totals: [u64; ARRAY_SIZE],
+    pub settled: [u64; ARRAY_SIZE],
+    pub answers: [u64; ARRAY_SIZE],
     pub count: u64,
     pub applied: u64,
 }
 
-// Where an account stands, or before which place it belongs.
-pub enum Place {
+// Where an account stands among ascending accounts, or before which it belongs.
+pub enum Position {
     At(usize),
     Before(usize),
 }
 
-// v put at place i of an array's first c items, the later ones moved up; 16 items at most.
-fn raise(a: &mut [u64; 16], c: usize, i: usize, v: u64)
-    requires { ⌜ length (now a) ≡ 16 ⌝ }
+// A worker's update as announced in its slot: the field's operation descriptor.
+pub struct Descriptor {
+    pub kind: u64,
+    pub account: u64,
+    pub total: u64,
+    pub ticket: u64,
+}
+
+// ---- slices
+
+// v put at position i of a slice's first c items, the later ones moved up, where there is room.
+pub fn raise(a: &mut [u64], c: usize, i: usize, v: u64)
     ensures { λ _. ⌜ now (a .exit) ≡ insertedIn (now (a .entry)) c i v ⌝ }
 {
-    if 16 <= c {
+    if a.len() <= c {
         return;
     }
     if c < i {
@@ -45,12 +69,11 @@ fn raise(a: &mut [u64; 16], c: usize, i: usize, v: u64)
     a[i] = v;
 }
 
-// Place i taken out of an array's first c items, the later ones moved down.
-fn lower(a: &mut [u64; 16], c: usize, i: usize)
-    requires { ⌜ length (now a) ≡ 16 ⌝ }
+// Position i taken out of a slice's first c items, the later ones moved down.
+pub fn lower(a: &mut [u64], c: usize, i: usize)
     ensures { λ _. ⌜ now (a .exit) ≡ removedFrom (now (a .entry)) c i ⌝ }
 {
-    if 16 < c {
+    if a.len() < c {
         return;
     }
     if c <= i {
@@ -64,57 +87,114 @@ fn lower(a: &mut [u64; 16], c: usize, i: usize)
     }
 }
 
-// What stands at place j, and 0 past the end.
-fn at(a: &[u64; 16], j: usize) -> u64
-    requires { ⌜ length (now a) ≡ 16 ⌝ }
+// The first position whose account is not below this one.
+pub fn scan(accounts: &[u64], account: u64) -> Position
+    ensures { λ r. ⌜ r ≡ scan (now (accounts .entry)) account 0 ⌝ }
+{
+    let mut i: usize = 0;
+    while i < accounts.len() {
+        let x = accounts[i];
+        if account <= x {
+            if account == x {
+                return Position::At(i);
+            }
+            return Position::Before(i);
+        }
+        i += 1;
+    }
+    Position::Before(i)
+}
+
+// What stands at position j of an array, and 0 past the end.
+fn at(a: &[u64; ARRAY_SIZE], j: usize) -> u64
+    requires { ⌜ length (now a) ≡ arraySize ⌝ }
     ensures { λ r. ⌜ r ≡ getD (now (a .entry)) j 0 ⌝ }
 {
-    if j < 16 { a[j] } else { 0 }
+    if j < ARRAY_SIZE { a[j] } else { 0 }
 }
 
-// The first d bits of an account.
-pub fn prefix(account: u64, d: u64) -> u64
-    ensures { λ r. ⌜ r ≡ prefixOf account d ⌝ }
+// ---- the bits of an account
+
+// The number whose bits place an account in the directory.
+pub fn place(account: u64) -> u64
+    ensures { λ r. ⌜ r ≡ place account ⌝ }
 {
-    if d <= 32 {
-        (account % 4294967296) >> (32 - d)
-    } else {
-        0
+    account
+}
+
+// The first d bits of an account, of 32.
+pub fn first_bits(d: u64, account: u64) -> u64
+    ensures { λ r. ⌜ r ≡ firstBits d account ⌝ }
+{
+    let rest: u64 = if d < 32 { 32 - d } else { 0 };
+    (place(account) % 4294967296) >> rest
+}
+
+// ---- full buckets: by the settings, the bucket's depth and how many accounts it has
+
+// Whether there is no room left.
+pub fn full(s: Settings, count: u64) -> bool
+    ensures { λ r. ⌜ r ≡ fullBy s count ⌝ }
+{
+    s.capacity <= count
+}
+
+// Whether the bucket takes no update.
+pub fn holds_back(s: Settings, depth: u64, count: u64) -> bool
+    ensures { λ r. ⌜ r ≡ holdsBackBy s depth count ⌝ }
+{
+    full(s, count)
+}
+
+// Whether the bucket is to be split.
+pub fn splittable(s: Settings, depth: u64, count: u64) -> bool
+    ensures { λ r. ⌜ r ≡ splittableBy s depth count ⌝ }
+{
+    if full(s, count) {
+        return depth < s.depth;
+    }
+    false
+}
+
+// Whether an update that is not settled there is crowded.
+pub fn crowded(s: Settings, depth: u64, count: u64) -> bool
+    ensures { λ r. ⌜ r ≡ crowdedBy s depth count ⌝ }
+{
+    if full(s, count) {
+        return s.depth <= depth;
+    }
+    false
+}
+
+// ---- one update
+
+// The update in the slot whose words stand from `at` on.
+pub fn descriptor_at(words: &[u64], at: usize) -> Descriptor
+    requires { ⌜ at + slotSize ≤ length (now words) ⌝ }
+    ensures { λ r. ⌜ r ≡ descriptorIn (now (words .entry)) at ⌝ }
+{
+    Descriptor {
+        kind: words[at + SLOT_KIND],
+        account: words[at + SLOT_ACCOUNT],
+        total: words[at + SLOT_TOTAL],
+        ticket: words[at + SLOT_TICKET],
     }
 }
 
-// The number of an insert's answer.
-fn insert_answer(place: Place) -> u64
-    ensures { λ r. ⌜ r ≡ insertAnswer place ⌝ }
+// One number where the account stands there, the other where it is missing.
+fn answer_number(p: Position, there: u64, missing: u64) -> u64
+    ensures { λ r. ⌜ r ≡ answerBy p there missing ⌝ }
 {
-    match place {
-        Place::At(_) => 2,
-        Place::Before(_) => 1,
+    match p {
+        Position::At(_) => there,
+        Position::Before(_) => missing,
     }
 }
 
-// The number of a delete's answer.
-fn delete_answer(place: Place) -> u64
-    ensures { λ r. ⌜ r ≡ deleteAnswer place ⌝ }
-{
-    match place {
-        Place::At(_) => 3,
-        Place::Before(_) => 4,
-    }
-}
-
-// Whether worker j's update is to be carried out: its toggle bit differs from its applied bit, its ticket is above the last settled
-// one, and the copy is not full.
-fn due(
-    toggle: u64,
-    applied: u64,
-    j: usize,
-    settled: u64,
-    ticket: u64,
-    capacity: u64,
-    count: u64,
-) -> bool
-    ensures { λ r. ⌜ r ≡ (not (eqb (bit toggle j) (bit applied j)) and ltb settled ticket and not (leb capacity count)) ⌝ }
+// Whether worker j's update is to be carried out: its toggle bit differs from its applied bit, and its ticket is above
+// the last settled one.
+fn pending(toggle: u64, applied: u64, j: usize, settled: u64, ticket: u64) -> bool
+    ensures { λ r. ⌜ r ≡ pendingBy toggle applied j settled ticket ⌝ }
 {
     if 64 <= j {
         return false;
@@ -122,69 +202,48 @@ fn due(
     if (toggle >> j) % 2 == (applied >> j) % 2 {
         return false;
     }
-    if ticket <= settled {
-        return false;
-    }
-    count < capacity
+    settled < ticket
 }
 
 impl BucketState {
-    // How many accounts: at most 16.
+    // How many accounts: at most as many as an array has items.
     pub fn size(self) -> usize
         ensures { λ r. ⌜ r ≡ sizeOf self ⌝ }
     {
-        if self.count < 16 {
+        if self.count < ARRAY_SIZE as u64 {
             self.count as usize
         } else {
-            16
+            ARRAY_SIZE
         }
     }
 
-    // Whether the bucket has no room left.
-    pub fn full(self, capacity: u64) -> bool
-        ensures { λ r. ⌜ r ≡ fullOf self capacity ⌝ }
-    {
-        capacity <= self.count
-    }
-
-    // The first place whose account is not below this one.
-    pub fn search(self, account: u64) -> Place
+    // The first position whose account is not below this one.
+    pub fn search(self, account: u64) -> Position
         ensures { λ r. ⌜ r ≡ searchOf self account ⌝ }
     {
         let accounts = self.accounts;
         let n = self.size();
-        let mut i: usize = 0;
-        while i < n {
-            let x = accounts[i];
-            if account <= x {
-                if account == x {
-                    return Place::At(i);
-                }
-                return Place::Before(i);
-            }
-            i += 1;
-        }
-        Place::Before(n)
+        scan(&accounts[0..n], account)
     }
 
-    // The total set at a place that a search gave.
-    fn put_at(self, account: u64, total: u64, place: Place) -> BucketState
-        ensures { λ r. ⌜ r ≡ putAt self account total place ⌝ }
+    // The account's total set at the position that a search gave; a new account only where there is room for it.
+    pub fn put(self, p: Position, account: u64, total: u64) -> BucketState
+        ensures { λ r. ⌜ r ≡ putOf self p account total ⌝ }
     {
         let mut accounts = self.accounts;
         let mut totals = self.totals;
         let settled = self.settled;
         let answers = self.answers;
         let mut count = self.count;
-        match place {
-            Place::At(here) => {
-                if here < 16 {
+        match p {
+            Position::At(here) => {
+                if here < ARRAY_SIZE {
                     totals[here] = total;
                 }
             }
-            Place::Before(next) => {
+            Position::Before(next) => {
                 let n = self.size();
-                if n < 16 {
+                if n < ARRAY_SIZE {
                     raise(&mut accounts, n, next, account);
                     raise(&mut totals, n, next, total);
                     count = n as u64 + 1;
@@ -201,20 +260,12 @@ impl BucketState {
         }
     }
 
-    // The account's total set; a new account only where there is room for it.
-    pub fn put(self, account: u64, total: u64) -> BucketState
-        ensures { λ r. ⌜ r ≡ putOf self account total ⌝ }
+    // The account at the position that a search gave taken out, where it is there.
+    pub fn remove(self, p: Position) -> BucketState
+        ensures { λ r. ⌜ r ≡ removeOf self p ⌝ }
     {
-        let place = self.search(account);
-        self.put_at(account, total, place)
-    }
-
-    // What stands at a place that a search gave, taken out.
-    fn remove_at(self, place: Place) -> BucketState
-        ensures { λ r. ⌜ r ≡ removeAt self place ⌝ }
-    {
-        match place {
-            Place::At(i) => {
+        match p {
+            Position::At(i) => {
                 let mut accounts = self.accounts;
                 let mut totals = self.totals;
                 let settled = self.settled;
@@ -231,16 +282,8 @@ impl BucketState {
                     applied: self.applied,
                 }
             }
-            Place::Before(_) => self,
+            Position::Before(_) => self,
         }
-    }
-
-    // The account taken out, where it is there.
-    pub fn remove(self, account: u64) -> BucketState
-        ensures { λ r. ⌜ r ≡ removeOf self account ⌝ }
-    {
-        let place = self.search(account);
-        self.remove_at(place)
     }
 
     // Worker j's ticket settled with an answer's number.
@@ -251,7 +294,7 @@ impl BucketState {
         let totals = self.totals;
         let mut settled = self.settled;
         let mut answers = self.answers;
-        if j < 16 {
+        if j < ARRAY_SIZE {
             settled[j] = ticket;
             answers[j] = answer;
         }
@@ -265,68 +308,51 @@ impl BucketState {
         }
     }
 
-    // Worker j's update carried out: kind 1 is an insert, any other a delete.
-    pub fn carry(self, j: usize, kind: u64, account: u64, total: u64, ticket: u64) -> BucketState
-        ensures { λ r. ⌜ r ≡ carryOf self j kind account total ticket ⌝ }
+    // Worker j's update carried out; any kind but an insert's is a delete.
+    pub fn carry(self, j: usize, u: Descriptor) -> BucketState
+        ensures { λ r. ⌜ r ≡ carryOf self j u ⌝ }
     {
-        let place = self.search(account);
-        if kind == 1 {
-            self.put_at(account, total, place)
-                .settle(j, ticket, insert_answer(place))
+        let p = self.search(u.account);
+        if u.kind == KIND_INSERT {
+            self.put(p, u.account, u.total).settle(
+                j,
+                u.ticket,
+                answer_number(p, ANSWER_REPLACED, ANSWER_ADDED),
+            )
         } else {
-            self.remove_at(place)
-                .settle(j, ticket, delete_answer(place))
+            self.remove(p).settle(j, u.ticket, answer_number(p, ANSWER_REMOVED, ANSWER_ABSENT))
         }
     }
 
-    // Worker j's update, with what was read in its slot, carried out if it is pending and the copy is not full.
-    pub fn help(
-        self,
-        capacity: u64,
-        toggle: u64,
-        j: usize,
-        kind: u64,
-        account: u64,
-        total: u64,
-        ticket: u64,
-    ) -> BucketState
-        ensures { λ r. ⌜ r ≡ helpOf self capacity toggle j kind account total ticket ⌝ }
-    {
-        let settled = self.settled;
-        let last = at(&settled, j);
-        if due(toggle, self.applied, j, last, ticket, capacity, self.count) {
-            self.carry(j, kind, account, total, ticket)
-        } else {
-            self
-        }
-    }
-
-    // A whole round: the slots that were read, four words each, of the workers below n; then the applied bits become the toggle.
+    // A whole round in a bucket of this depth, with the slots that were read; then the applied bits become the toggle.
     // A slot that is not there has ticket 0, so that its worker needs no help.
-    pub fn round(self, slots: &[u64], n: usize, capacity: u64, toggle: u64) -> BucketState
-        ensures { λ r. ⌜ r ≡ roundOf self (now (slots .entry)) capacity toggle n ⌝ }
+    pub fn round(self, slots: &[u64], s: Settings, depth: u64, toggle: u64) -> BucketState
+        ensures { λ r. ⌜ r ≡ roundOf self (now (slots .entry)) s depth toggle ⌝ }
     {
-        let mut m = slots.len() / 4;
+        let n = s.workers as usize;
+        let mut m = slots.len() / SLOT_SIZE;
         if n < m {
             m = n;
         }
         let settled = self.settled;
-        let mut s = self;
+        let mut x = self;
         let mut j: usize = 0;
         while j < m {
-            let first = 4 * j;
-            let ticket = slots[first + 3];
+            let first = SLOT_SIZE * j;
+            let ticket = slots[first + SLOT_TICKET];
             let last = at(&settled, j);
-            if due(toggle, s.applied, j, last, ticket, capacity, s.count) {
-                s = s.carry(j, slots[first], slots[first + 1], slots[first + 2], ticket);
+            if pending(toggle, x.applied, j, last, ticket) {
+                if !holds_back(s, depth, x.count) {
+                    x = x.carry(j, descriptor_at(slots, first));
+                }
             }
             j += 1;
         }
-        s.applied = toggle;
-        s
+        x.applied = toggle;
+        x
     }
 
-    // The half of a split whose accounts have the prefix q of d bits.
+    // The half of a split whose accounts have the first d bits q.
     pub fn half(self, d: u64, q: u64) -> BucketState
         ensures { λ r. ⌜ r ≡ halfOf self d q ⌝ }
     {
@@ -335,13 +361,13 @@ impl BucketState {
         let settled = self.settled;
         let answers = self.answers;
         let n = self.size();
-        let mut accounts = [0u64; 16];
-        let mut totals = [0u64; 16];
+        let mut accounts = [0u64; ARRAY_SIZE];
+        let mut totals = [0u64; ARRAY_SIZE];
         let mut kept: usize = 0;
         let mut i = 0;
         while i < n {
             let a = old_accounts[i];
-            if prefix(a, d) == q {
+            if first_bits(d, a) == q {
                 accounts[kept] = a;
                 totals[kept] = old_totals[i];
                 kept += 1;

@@ -1,5 +1,5 @@
--- What the flat functions rest on: words told at a report's start, and each call's number and report from what the call of `table` answered.
--- Rests on the definitions of specs/Flat.
+-- What the flat functions rest on: words told at a report's start, and each call's number and report from what the call of `table`
+-- answered. Rests on the definitions of specs/Flat.
 use Prim.Native.Nat.{ℕ, _≤_, _<_}
 use native.Mathlib.Omega.{arith}
 use mathlib.Core.Path.{_≡_, sym}
@@ -36,7 +36,7 @@ answer-small Answer.Replaced = omega arith
 answer-small Answer.Removed = omega arith
 answer-small Answer.Absent = omega arith
 answer-small (Answer.Found total) = omega arith
-answer-small Answer.Missing = omega arith
+answer-small Answer.None = omega arith
 answer-small Answer.Crowded = omega arith
 
 -- ---- calls: the call of `table` left l and answered a, which is b
@@ -46,12 +46,15 @@ module _ {A : Type 0} (number : A → ℕ) (x : List ℕ × A) (l : List ℕ) (a
   unfolding flat
   flat-is = rw (← e, h, n)
 
-  pub reported-is : (report : List ℕ → A → List ℕ) (before after : List ℕ) → after ≡ report before b → record { words = l; report = after; number = k } ≡ reported number report before x
+  pub reported-is :
+      (report : List ℕ → A → List ℕ) (before after : List ℕ) → after ≡ report before b
+      → record { words = l; report = after; number = k } ≡ reported number report before x
   unfolding reported
   reported-is report before after r = rw (← e, h, n, r)
 
 pub written-is :
-    (x : Shown) (accounts : List ℕ) (totals : List ℤ) (a b : Listed) (k : ℕ) (before after : List ℕ) → record { accounts = accounts; totals = totals; listed = a } ≡ x
+    (x : Shown) (accounts : List ℕ) (totals : List ℤ) (a b : Listed) (k : ℕ) (before after : List ℕ)
+    → record { accounts = accounts; totals = totals; listed = a } ≡ x
     → a ≡ b → k ≡ listedNumber b → after ≡ listedReport before b
     → record { accounts = accounts; totals = totals; report = after; number = k } ≡ written before x
 unfolding written

@@ -1,5 +1,5 @@
--- What each flat function returns and writes, from what the call of `table` that it stands for answers: a number, and a report.
--- Rests on document 01's numbers.
+-- What each flat function returns and writes, from what the call of `table` that it stands for answers: a number, and
+-- a report. Rests on document 01's numbers.
 use Prim.Native.Nat.{ℕ, _+_}
 use mathlib.Core.List.{List, [], _∷_}
 use lib.Dec.{leb}
@@ -18,7 +18,8 @@ use Rattle.interface.specs.declared.Ran.{Ran}
 use Rattle.interface.specs.declared.Listed.{Listed}
 use Rattle.machine.specs.Choice.{if_then_else_}
 use Rattle.lists.specs.Parts.{overlay}
-use Rattle.rows.specs.Rows.{Shown}
+use Rattle.rows.specs.Rows.{Shown, listingWords}
+use Rattle.table.specs.Turns.{stepWords, runWords}
 
 -- ---- numbers
 
@@ -35,9 +36,12 @@ unfoldable pub calledNumber : Called → ℕ
 calledNumber Called.Accepted = 0
 calledNumber (Called.Refused r) = numberOf r
 
--- an operation's end: past every refusal's number
+-- past every refusal's number
+abbrev pub answerBase : ℕ
+answerBase = 16
+
 unfoldable pub endedNumber : Completion → ℕ
-endedNumber c = 16 + answerNumber (c .answer)
+endedNumber c = answerBase + answerNumber (c .answer)
 
 unfoldable pub steppedNumber : Stepped → ℕ
 steppedNumber Stepped.Moved = 0
@@ -66,7 +70,7 @@ totalWord Answer.Replaced = 0
 totalWord Answer.Removed = 0
 totalWord Answer.Absent = 0
 totalWord (Answer.Found total) = ofZ w64 total
-totalWord Answer.Missing = 0
+totalWord Answer.None = 0
 totalWord Answer.Crowded = 0
 
 -- an operation's end: its steps, and the total found
@@ -103,6 +107,13 @@ pub record Left : Type 0 where
 unfoldable pub reported : {A : Type 0} → (A → ℕ) → (List ℕ → A → List ℕ) → List ℕ → List ℕ × A → Left
 reported number report before x = record { words = x .0; report = report before (x .1); number = number (x .1) }
 
+-- what a step leaves and returns, over these words and this report, and what up to so many steps do
+abbrev pub stepLeft : List ℕ → List ℕ → ℕ → Left
+stepLeft words report worker = reported steppedNumber steppedReport report (stepWords words worker)
+
+abbrev pub runLeft : List ℕ → List ℕ → ℕ → ℕ → Left
+runLeft words report worker most = reported ranNumber ranReport report (runWords words worker most)
+
 -- both lists of a listing, the report, and a number
 pub record Written : Type 0 where
   pub accounts : List ℕ
@@ -118,3 +129,7 @@ written before x =
       report = listedReport before (x .listed);
       number = listedNumber (x .listed);
     }
+
+-- what a listing leaves and returns, over these words, lists and report
+abbrev pub listWritten : List ℕ → List ℕ → List ℤ → List ℕ → Written
+listWritten words accounts totals report = written report (listingWords words accounts totals)

@@ -1,11 +1,11 @@
-// The calls of `table` as flat C functions: a slice is a pointer and a length, an answer is a number, and what does not fit into the number
-// goes into a report. Each takes any words and any arguments; its contract equals a definition of specs/Flat. include/totals.h declares them.
+// The calls of `table` as flat C functions: a slice is a pointer and a length, an answer is a number, and what does
+// not fit into the number goes into a report. Each takes any words and any arguments; its contract equals a
+// definition of specs/Flat. include/totals.h declares them.
 ghost use mathlib.Core.Path.{_≡_};
 ghost use mathlib.Core.List.{[], _∷_};
 ghost use Rattle.interface.specs.Limits.{built};
-ghost use Rattle.table.specs.Turns.{neededFor, openWords, callWords, stepWords, runWords};
-ghost use Rattle.rows.specs.Rows.{listingWords};
-ghost use Rattle.capi.specs.Flat.{neededNumber, openedNumber, calledNumber, endedNumber, steppedNumber, ranNumber, told, totalWord, endedReport, steppedReport, ranReport, flat, reported, written};
+ghost use Rattle.table.specs.Turns.{neededFor, openWords, callWords};
+ghost use Rattle.capi.specs.Flat.{neededNumber, openedNumber, calledNumber, endedNumber, told, totalWord, endedReport, flat, stepLeft, runLeft, listWritten};
 use interface::Answer;
 use interface::Called;
 use interface::Completion;
@@ -14,6 +14,9 @@ use interface::Needed;
 use interface::Opened;
 use interface::Ran;
 use interface::Stepped;
+
+// Answers are this and their number, past every refusal's.
+const ANSWER_BASE: u64 = 16;
 
 // A word at the start of a report that has room for it.
 fn tell_one(report: &mut [u64], first: u64)
@@ -46,7 +49,7 @@ fn total_word(answer: Answer) -> u64
         Answer::Removed => 0,
         Answer::Absent => 0,
         Answer::Found(total) => memory::word_of(total),
-        Answer::Missing => 0,
+        Answer::None => 0,
         Answer::Crowded => 0,
     }
 }
@@ -57,7 +60,7 @@ fn ended(report: &mut [u64], c: Completion) -> u64
 {
     let answer = c.answer;
     tell(report, c.steps, total_word(answer));
-    16 + answer.number()
+    ANSWER_BASE + answer.number()
 }
 
 // How many words a table of these settings needs, or 1 for wrong settings.
@@ -74,7 +77,8 @@ pub extern "C" fn totals_words_needed(workers: u64, capacity: u64, depth: u64) -
 // A fresh table: 0, or 1, 2.
 #[no_mangle]
 pub extern "C" fn totals_open(words: &mut [u64], workers: u64, capacity: u64, depth: u64) -> u64
-    ensures { λ r. ⌜ (now (words .exit), r) ≡ flat openedNumber (openWords (now (words .entry)) workers capacity depth) ⌝ }
+    ensures { λ r. ⌜ (now (words .exit), r)
+        ≡ flat openedNumber (openWords (now (words .entry)) workers capacity depth) ⌝ }
 {
     match table::open(words, workers, capacity, depth) {
         Opened::Opened => 0,
@@ -91,7 +95,8 @@ pub extern "C" fn totals_call(
     account: u32,
     total: i64,
 ) -> u64
-    ensures { λ r. ⌜ (now (words .exit), r) ≡ flat calledNumber (callWords (now (words .entry)) worker kind account total) ⌝ }
+    ensures { λ r. ⌜ (now (words .exit), r)
+        ≡ flat calledNumber (callWords (now (words .entry)) worker kind account total) ⌝ }
 {
     match table::call(words, worker, kind, account, total) {
         Called::Accepted => 0,
@@ -102,7 +107,8 @@ pub extern "C" fn totals_call(
 // One step of a worker: 0 where its operation goes on, 16 and the answer's number where it ended, or 8, 3, 5.
 #[no_mangle]
 pub extern "C" fn totals_step(words: &mut [u64], worker: u64, report: &mut [u64]) -> u64
-    ensures { λ r. ⌜ record { words = now (words .exit); report = now (report .exit); number = r } ≡ reported steppedNumber steppedReport (now (report .entry)) (stepWords (now (words .entry)) worker) ⌝ }
+    ensures { λ r. ⌜ record { words = now (words .exit); report = now (report .exit); number = r }
+        ≡ stepLeft (now (words .entry)) (now (report .entry)) worker ⌝ }
 {
     match table::step(words, worker) {
         Stepped::Moved => 0,
@@ -111,10 +117,12 @@ pub extern "C" fn totals_step(words: &mut [u64], worker: u64, report: &mut [u64]
     }
 }
 
-// Up to so many steps of a worker, ending early at an answer: as a step, and the steps given are reported where the operation goes on.
+// Up to so many steps of a worker, ending early at an answer: as a step, and the steps given are reported where the
+// operation goes on.
 #[no_mangle]
 pub extern "C" fn totals_run(words: &mut [u64], worker: u64, most: u64, report: &mut [u64]) -> u64
-    ensures { λ r. ⌜ record { words = now (words .exit); report = now (report .exit); number = r } ≡ reported ranNumber ranReport (now (report .entry)) (runWords (now (words .entry)) worker most) ⌝ }
+    ensures { λ r. ⌜ record { words = now (words .exit); report = now (report .exit); number = r }
+        ≡ runLeft (now (words .entry)) (now (report .entry)) worker most ⌝ }
 {
     match table::run(words, worker, most) {
         Ran::Moved(k) => {
@@ -134,7 +142,12 @@ pub extern "C" fn totals_list(
     totals: &mut [i64],
     report: &mut [u64],
 ) -> u64
-    ensures { λ r. ⌜ record { accounts = now (accounts .exit); totals = now (totals .exit); report = now (report .exit); number = r } ≡ written (now (report .entry)) (listingWords (now (words .entry)) (now (accounts .entry)) (now (totals .entry))) ⌝ }
+    ensures { λ r. ⌜ record {
+      accounts = now (accounts .exit);
+      totals = now (totals .exit);
+      report = now (report .exit);
+      number = r;
+    } ≡ listWritten (now (words .entry)) (now (accounts .entry)) (now (totals .entry)) (now (report .entry)) ⌝ }
 {
     match table::listing(words, accounts, totals) {
         Listed::Count(k) => {

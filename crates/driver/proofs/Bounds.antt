@@ -14,7 +14,7 @@ use Rattle.lines.specs.declared.command.Command.{Command}
 use Rattle.replies.specs.Printed.{fits, printedRow, printedEnd}
 use Rattle.lines.specs.Reading.{commandIn}
 use Rattle.lists.proofs.PartLaws.{length-overlay}
-use Rattle.driver.specs.Answers.{Output, put, putRows, putListed, State, listedAs, listed, repliedAs, answered}
+use Rattle.driver.specs.Answers.{Output, emitted, putRows, putListed, DriverState, listedAs, listed, repliedAs, answered}
 use Rattle.driver.specs.Feeding.{Feeding, roomFor, longest, took, fed}
 
 -- ---- the used bytes
@@ -22,8 +22,8 @@ use Rattle.driver.specs.Feeding.{Feeding, roomFor, longest, took, fed}
 pub record Within (o : Output) : Type 0 where
   pub used : o .used ≤ length (o .bytes)
 
-put-within : (o : Output) (xs : List ℕ) → Within o → Within (put o xs)
-unfolding put fits
+put-within : (o : Output) (xs : List ℕ) → Within o → Within (emitted o xs)
+unfolding emitted fits
 put-within o xs w =
     if-elim Within _ _ _
     (λ e.
@@ -34,17 +34,17 @@ put-within o xs w =
 rows-within : (o : Output) (t : List (ℕ × ℤ)) → Within o → Within (putRows o t)
 unfolding putRows
 rows-within o [] w = w
-rows-within o (e ∷ t) w = rows-within (put o (printedRow (e .0) (e .1))) t (put-within o _ w)
+rows-within o (e ∷ t) w = rows-within (emitted o (printedRow (e .0) (e .1))) t (put-within o _ w)
 
 listing-within : (o : Output) (accounts : List ℕ) (totals : List ℤ) (x : Listed) → Within o → Within (putListed o accounts totals x)
 unfolding putListed
 listing-within o accounts totals (Listed.Count n) w = put-within _ (printedEnd n) (rows-within o _ w)
 listing-within o accounts totals (Listed.Refused r) w = put-within o _ w
 
-answered-within : (s : State) (c : Command) → Within (s .output) → Within (answered s c .output)
+answered-within : (s : DriverState) (c : Command) → Within (s .output) → Within (answered s c .output)
 unfolding answered listed listedAs repliedAs
 answered-within s c w =
-    if-elim (λ (t : State). Within (t .output)) _ _ _ (λ e. listing-within (s .output) _ _ _ w) (λ e. put-within (s .output) _ w)
+    if-elim (λ (t : DriverState). Within (t .output)) _ _ _ (λ e. listing-within (s .output) _ _ _ w) (λ e. put-within (s .output) _ w)
 
 took-within : (f : Feeding) (b : ℕ) → Within (f .state .output) → Within (took f b .state .output)
 unfolding took

@@ -12,12 +12,12 @@ use Rattle.machine.specs.Choice.{if_then_else_}
 use Rattle.lines.specs.declared.command.Command.{Command}
 use Rattle.lines.specs.declared.reader.Reader.{Reader}
 use Rattle.lines.specs.Reading.{fresh, pushed, commandIn}
-use Rattle.driver.specs.Answers.{State, answered}
+use Rattle.driver.specs.Answers.{DriverState, answered}
 use Rattle.driver.specs.Feeding.{Feeding, roomFor, longest, took, fed}
 
 -- the next byte, by what it is
 module _ (f : Feeding) (b : ℕ) where
-  pub took-line : (s : State) (c : Command) (r : Reader) → b ≡ 10 → c ≡ commandIn (f .reader) → s ≡ answered (f .state) c → r ≡ fresh
+  pub took-line : (s : DriverState) (c : Command) (r : Reader) → b ≡ 10 → c ≡ commandIn (f .reader) → s ≡ answered (f .state) c → r ≡ fresh
       → _≡_ {A = Feeding} (record { state = s; reader = r; taken = f .taken + 1 }) (took f b)
   unfolding took if_then_else_
   took-line s c r e g h k = rw (eq-eqb b 10 e, h, g, k)
@@ -42,7 +42,8 @@ module _ (f : Feeding) (input : List ℕ) (i : ℕ) where
   unfolding fed if_then_else_
   fed-full t h e g = rw (drop-cons input i 0 h, ← e, g)
 
-  pub fed-next : (t : Bool) (g : Feeding) → i < length input → t ≡ roomFor longest (length (f .state .output .bytes)) (f .state .output .used)
+  pub fed-next : (t : Bool) (g : Feeding) → i < length input
+      → t ≡ roomFor longest (length (f .state .output .bytes)) (f .state .output .used)
       → t ≡ true
       → g ≡ took f (getD input i 0) → fed g (drop (i + 1) input) ≡ fed f (drop i input)
   unfolding fed if_then_else_

@@ -36,7 +36,8 @@ pub record Passed (n m : ℕ) (f g : Feeding) (cs : List Command) (r : Reader) (
 
 -- ---- one byte
 
-module _ (n m : ℕ) (few : n ≤ 4_096) (f : Feeding) (ready : Ready n m f) (room : f .state .output .used + longest ≤ length (f .state .output .bytes)) where
+module _ (n m : ℕ) (few : n ≤ 4_096) (f : Feeding) (ready : Ready n m f)
+    (room : f .state .output .used + longest ≤ length (f .state .output .bytes)) where
   text : List ℕ
   text = textOn (f .state .words) n m (commandIn (f .reader))
 
@@ -73,7 +74,13 @@ module _ (n m : ℕ) (few : n ≤ 4_096) (f : Feeding) (ready : Ready n m f) (ro
       let rest = textsOn (wordsOn (f .state .words) c) n m cs in
       let q = rw (line-output, w) at (p .room .room) in
       let all : Room (f .state .output) (text ++ rest) = record {
-        room = omega (arith, length-append text rest, length-overlay (f .state .output .bytes) (f .state .output .used) text (text-room .room), q);
+        room = omega (
+          arith,
+          length-append text rest,
+          length-overlay (f .state .output .bytes) (f .state .output .used) text
+              (text-room .room),
+          q,
+        );
       } in
       record {
         room = all;

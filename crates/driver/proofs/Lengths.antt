@@ -10,12 +10,12 @@ use Rattle.interface.specs.declared.Answer.{Answer}
 use Rattle.replies.specs.declared.Reply.{Reply}
 use Rattle.replies.specs.Decimals.{decimal, signedDecimal}
 use Rattle.replies.specs.Printed.{printedLine, totalThen, printedRow, printedEnd, printedAnswer, printed, printedUnread, printedReply}
-use Rattle.replies.proofs.DecimalLaws.{places-within, length-decimal}
+use Rattle.replies.proofs.DecimalLaws.{digit-count-within, length-decimal}
 
 -- ---- numbers
 
 decimal-within : (k n : ℕ) → n < 10 ^ suc k → length (decimal n) ≤ suc k
-decimal-within k n h = rw (length-decimal n) (places-within k n h)
+decimal-within k n h = rw (length-decimal n) (digit-count-within k n h)
 
 word-within : (n : ℕ) → n < 2 ^ 64 → length (decimal n) ≤ 20
 word-within n h = decimal-within 19 n (omega arith)
@@ -47,7 +47,7 @@ smallAnswer Answer.Replaced = Unit {0}
 smallAnswer Answer.Removed = Unit {0}
 smallAnswer Answer.Absent = Unit {0}
 smallAnswer (Answer.Found t) = mag t < 2 ^ 63
-smallAnswer Answer.Missing = Unit {0}
+smallAnswer Answer.None = Unit {0}
 smallAnswer Answer.Crowded = Unit {0}
 
 -- every number is one of 64 bits
@@ -69,7 +69,7 @@ answer-within Answer.Removed k h s = omega (arith, last-within k h)
 answer-within Answer.Absent k h s = omega (arith, last-within k h)
 answer-within (Answer.Found t) k h s =
     omega (arith, last-within k h, signed-within t s, length-append (signedDecimal t) (32 ∷ (decimal k ++ 10 ∷ [])))
-answer-within Answer.Missing k h s = omega (arith, last-within k h)
+answer-within Answer.None k h s = omega (arith, last-within k h)
 answer-within Answer.Crowded k h s = omega (arith, last-within k h)
 
 pub reply-within : (r : Reply) → smallReply r → length (printedReply r) ≤ 64

@@ -1,4 +1,4 @@
--- What a printer leaves is a text put behind the used bytes; rows one by one.
+-- What a printer leaves is a text emitted behind the used bytes; rows one by one.
 -- Rests on the definitions of specs/Answers and on the lines' printers.
 use Prim.Native.Nat.{ℕ, suc, _+_, _-_, _≤_, _<_}
 use mathlib.Core.Path.{_≡_, refl, ap}
@@ -22,11 +22,11 @@ use Rattle.replies.specs.declared.Reply.{Reply}
 use Rattle.lists.specs.Parts.{overlay}
 use Rattle.replies.specs.Printed.{fits, Wrote, printedRow, printedEnd, printedReply}
 use Rattle.driver.specs.Responses.{responded}
-use Rattle.driver.specs.Answers.{Output, put, putRows, rowsAt, putListed, State, listedAs, listed, repliedAs, isList, answered}
+use Rattle.driver.specs.Answers.{Output, emitted, putRows, rowsAt, putListed, DriverState, listedAs, listed, repliedAs, isList, answered}
 
 module _ {l : List ℕ} {at : ℕ} {xs : List ℕ} {r : ℕ} {after : List ℕ} (w : Wrote l at xs r after) where
-  pub wrote-put : _≡_ {A = Output} (record { bytes = after; used = at + r }) (put (record { bytes = l; used = at }) xs)
-  unfolding put if_then_else_
+  pub wrote-put : _≡_ {A = Output} (record { bytes = after; used = at + r }) (emitted (record { bytes = l; used = at }) xs)
+  unfolding emitted if_then_else_
   wrote-put = rw (w .count, w .buffer) (by (fits l at xs))
     where
       by : (t : Bool)
@@ -54,7 +54,7 @@ module _ (accounts : List ℕ) (totals : List ℤ) where
   unfolding putRows rowsAt
   rows-end o i n h = let z : n - i ≡ 0 = omega arith in rw z
 
-  pub rows-next : (o p : Output) (i n : ℕ) → i < n → p ≡ put o (printedRow (getD accounts i 0) (getD totals i (pos 0)))
+  pub rows-next : (o p : Output) (i n : ℕ) → i < n → p ≡ emitted o (printedRow (getD accounts i 0) (getD totals i (pos 0)))
       → putRows p (rowsAt accounts totals (i + 1) (n - (i + 1))) ≡ putRows o (rowsAt accounts totals i (n - i))
   unfolding putRows rowsAt
   rows-next o p i n h e = let z : n - i ≡ suc (n - (i + 1)) = omega arith in rw (z, e, add-one)
@@ -62,7 +62,8 @@ module _ (accounts : List ℕ) (totals : List ℤ) where
 -- ---- the listing
 
 module _ (l accounts : List ℕ) (totals : List ℤ) where
-  counted : (s p q : Bool) (r : List (ℕ × ℤ)) (n : ℕ) (x : Shown) → ltb (length accounts) (length r) ≡ p → ltb (length totals) (length r) ≡ q
+  counted : (s p q : Bool) (r : List (ℕ × ℤ)) (n : ℕ) (x : Shown) → ltb (length accounts) (length r) ≡ p
+      → ltb (length totals) (length r) ≡ q
       → x ≡ if s then record { accounts = accounts; totals = totals; listed = Listed.Refused Refusal.Strange }
       else if p || q then record { accounts = accounts; totals = totals; listed = Listed.Refused Refusal.Narrow }
       else record {
@@ -86,26 +87,27 @@ module _ (l accounts : List ℕ) (totals : List ℤ) where
   unfolding listingWords shown
   count-within n e = counted (strange l) _ _ (rows l (shapeOf l)) n _ refl refl refl e
 
-module _ (s : State) (x : Shown) (e : x ≡ listingWords (s .words) (s .accounts) (s .totals)) (q : Output) where
+module _ (s : DriverState) (x : Shown) (e : x ≡ listingWords (s .words) (s .accounts) (s .totals)) (q : Output) where
   pub listed-count : (n : ℕ) (p : Output) → x .listed ≡ Listed.Count n → p ≡ putRows (s .output) (rowsAt (x .accounts) (x .totals) 0 n)
-      → q ≡ put p (printedEnd n)
-      → _≡_ {A = State} (record { words = s .words; accounts = x .accounts; totals = x .totals; output = q }) (listed s)
+      → q ≡ emitted p (printedEnd n)
+      → _≡_ {A = DriverState} (record { words = s .words; accounts = x .accounts; totals = x .totals; output = q }) (listed s)
   unfolding listed listedAs putListed
   listed-count n p f g h = rw (← e, f, h, g)
 
-  pub listed-refused : (r : Refusal) (k : ℕ) → x .listed ≡ Listed.Refused r → k ≡ numberOf r → q ≡ put (s .output) (printedReply (Reply.Refused k))
-      → _≡_ {A = State} (record { words = s .words; accounts = x .accounts; totals = x .totals; output = q }) (listed s)
+  pub listed-refused : (r : Refusal) (k : ℕ) → x .listed ≡ Listed.Refused r → k ≡ numberOf r
+      → q ≡ emitted (s .output) (printedReply (Reply.Refused k))
+      → _≡_ {A = DriverState} (record { words = s .words; accounts = x .accounts; totals = x .totals; output = q }) (listed s)
   unfolding listed listedAs putListed
   listed-refused r k f g h = rw (← e, f, h, g)
 
 -- ---- commands
 
-pub answered-list : (s : State) (c : Command) (t : Bool) (x : State) → t ≡ isList c → t ≡ true → x ≡ listed s → x ≡ answered s c
+pub answered-list : (s : DriverState) (c : Command) (t : Bool) (x : DriverState) → t ≡ isList c → t ≡ true → x ≡ listed s → x ≡ answered s c
 unfolding answered if_then_else_
 answered-list s c t x e f g = rw (← e, f) g
 
-pub answered-reply : (s : State) (c : Command) (t : Bool) (l : List ℕ) (r : Reply) (o : Output) → t ≡ isList c → t ≡ false
-    → _≡_ {A = List ℕ × Reply} (l, r) (responded (s .words) c) → o ≡ put (s .output) (printedReply r)
-    → _≡_ {A = State} (record { words = l; accounts = s .accounts; totals = s .totals; output = o }) (answered s c)
+pub answered-reply : (s : DriverState) (c : Command) (t : Bool) (l : List ℕ) (r : Reply) (o : Output) → t ≡ isList c → t ≡ false
+    → _≡_ {A = List ℕ × Reply} (l, r) (responded (s .words) c) → o ≡ emitted (s .output) (printedReply r)
+    → _≡_ {A = DriverState} (record { words = l; accounts = s .accounts; totals = s .totals; output = o }) (answered s c)
 unfolding answered repliedAs if_then_else_
 answered-reply s c t l r o e f g h = rw (← e, f, ← g, h)

@@ -21,19 +21,26 @@ ended-append r (b ∷ xs) ys = by (eqb b 10) (ended-append fresh xs ys) (ended-a
     by : (t : Bool) → ended fresh (xs ++ ys) ≡ ended fresh xs ++ ended (readerAfter fresh xs) ys
         → ended (pushed r b) (xs ++ ys) ≡ ended (pushed r b) xs ++ ended (readerAfter (pushed r b) xs) ys
         → if t then commandIn r ∷ ended fresh (xs ++ ys) else ended (pushed r b) (xs ++ ys)
-        ≡ (if t then commandIn r ∷ ended fresh xs else ended (pushed r b) xs) ++ ended (if t then readerAfter fresh xs else readerAfter (pushed r b) xs) ys
+        ≡ (if t then commandIn r ∷ ended fresh xs else ended (pushed r b) xs)
+        ++ ended (if t then readerAfter fresh xs else readerAfter (pushed r b) xs) ys
     by true f g = ap (λ (l : List Command). commandIn r ∷ l) f
     by false f g = g
 
-texts-append : (l : List ℕ) (n m : ℕ) (cs ds : List Command) → textsOn l n m (cs ++ ds) ≡ textsOn l n m cs ++ textsOn (wordsAfter l cs) n m ds
+texts-append : (l : List ℕ) (n m : ℕ) (cs ds : List Command)
+    → textsOn l n m (cs ++ ds) ≡ textsOn l n m cs ++ textsOn (wordsAfter l cs) n m ds
 unfolding textsOn wordsAfter
 texts-append l n m [] ds = refl
 texts-append l n m (c ∷ cs) ds =
-    rw (texts-append (wordsOn l c) n m cs ds, append-assoc (textOn l n m c) (textsOn (wordsOn l c) n m cs) (textsOn (wordsAfter (wordsOn l c) cs) n m ds))
+    rw (
+      texts-append (wordsOn l c) n m cs ds,
+      append-assoc (textOn l n m c) (textsOn (wordsOn l c) n m cs)
+          (textsOn (wordsAfter (wordsOn l c) cs) n m ds),
+    )
 
 -- what is printed for two parts of the input, one after the other
 pub in-parts : (l : List ℕ) (n m : ℕ) (r : Reader) (xs ys : List ℕ)
-    → textsOn l n m (ended r (xs ++ ys)) ≡ textsOn l n m (ended r xs) ++ textsOn (wordsAfter l (ended r xs)) n m (ended (readerAfter r xs) ys)
+    → textsOn l n m (ended r (xs ++ ys)) ≡ textsOn l n m (ended r xs)
+    ++ textsOn (wordsAfter l (ended r xs)) n m (ended (readerAfter r xs) ys)
 in-parts l n m r xs ys = rw (ended-append r xs ys) (texts-append l n m (ended r xs) (ended (readerAfter r xs) ys))
 
 -- the line feed that the program puts behind input whose last line has none
@@ -55,7 +62,8 @@ read-ended r (b ∷ xs) = by (eqb b 10) (read-ended fresh xs) (read-ended (pushe
     by : (t : Bool) → commandsRead fresh xs ≡ ended fresh xs ++ last (readerAfter fresh xs)
         → commandsRead (pushed r b) xs ≡ ended (pushed r b) xs ++ last (readerAfter (pushed r b) xs)
         → if t then commandIn r ∷ commandsRead fresh xs else commandsRead (pushed r b) xs
-        ≡ (if t then commandIn r ∷ ended fresh xs else ended (pushed r b) xs) ++ last (if t then readerAfter fresh xs else readerAfter (pushed r b) xs)
+        ≡ (if t then commandIn r ∷ ended fresh xs else ended (pushed r b) xs)
+        ++ last (if t then readerAfter fresh xs else readerAfter (pushed r b) xs)
     by true f g = ap (λ (l : List Command). commandIn r ∷ l) f
     by false f g = g
 

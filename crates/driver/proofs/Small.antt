@@ -11,20 +11,25 @@ use lib.Signed.{mag}
 use mir.Syntax.{w64}
 use mir.Val.{toZ}
 use borrow.Author.Tests.{ltb-true, ltb-false}
-use Rattle.interface.specs.Numbers.{numberOf}
+use Rattle.interface.specs.Numbers.{numberOf, answerNumber}
 use Rattle.interface.specs.declared.Settings.{Settings}
 use Rattle.interface.specs.declared.Answer.{Answer}
+use Rattle.interface.specs.declared.Answer.the-variants.{Added, Replaced, Removed, Absent, Crowded}
 use Rattle.interface.specs.declared.Refusal.{Refusal}
 use Rattle.interface.specs.declared.Opened.{Opened}
 use Rattle.interface.specs.declared.Called.{Called}
 use Rattle.interface.specs.declared.Stepped.{Stepped}
 use Rattle.interface.specs.declared.Ran.{Ran}
+use Rattle.fields.specs.Fields.{stepsRange, totalsFrom}
 use Rattle.machine.specs.Plan.{Phase, announce, readDirectory, flipToggle, readState, readToggle, swapState, checkState, copyDirectory, swapDirectory, readSlot, resizeFor}
 use Rattle.machine.proofs.Base.{if-elim}
+use Rattle.bucket.specs.declared.Position.{Position}
+use Rattle.bucket.specs.declared.Position.the-variants.{At, Before}
 use Rattle.bucket.specs.Items.{answerOf}
 use Rattle.memory.specs.Loads.{least}
+use Rattle.memory.proofs.States.{least-bound}
 use Rattle.layout.specs.Shape.{word}
-use Rattle.table.specs.Turns.{endedAt, checkAt, updateAt, foundAt, lookedAt, lookupAt, operationAt, lastOf, orElse, runIn, runWords}
+use Rattle.table.specs.Turns.{endedAt, checkAt, updateAt, foundAt, lookedAt, lookupAt, operationAt, lastOf, orElse, runIn, longestRun, runWords}
 use Rattle.lines.specs.declared.command.Command.{Command}
 use Rattle.replies.specs.declared.Reply.{Reply}
 use Rattle.driver.specs.Responses.{ofOpened, ofCalled, ofRan, replying, responded}
@@ -60,29 +65,30 @@ smallStepped (Stepped.Refused r) = Unit {0}
 small-stored : (x : ℕ) → smallAnswer (answerOf x)
 unfolding answerOf smallAnswer
 small-stored x =
-    if-elim smallAnswer (eqb x 1) _ _ (λ e. tt)
+    if-elim smallAnswer (eqb x (answerNumber Added)) _ _ (λ e. tt)
     (λ e.
-    if-elim smallAnswer (eqb x 2) _ _ (λ e. tt)
+    if-elim smallAnswer (eqb x (answerNumber Replaced)) _ _ (λ e. tt)
     (λ e.
-    if-elim smallAnswer (eqb x 3) _ _ (λ e. tt)
-    (λ e. if-elim smallAnswer (eqb x 4) _ _ (λ e. tt) (λ e. if-elim smallAnswer (eqb x 9) _ _ (λ e. tt) (λ e. tt)))))
+    if-elim smallAnswer (eqb x (answerNumber Removed)) _ _ (λ e. tt)
+    (λ e.
+    if-elim smallAnswer (eqb x (answerNumber Absent)) _ _ (λ e. tt)
+    (λ e. if-elim smallAnswer (eqb x (answerNumber Crowded)) _ _ (λ e. tt) (λ e. tt)))))
 
-small-found : (l : List ℕ) (s : Settings) (q a i c : ℕ) → smallAnswer (foundAt l s q a i c)
+small-found : (l : List ℕ) (s : Settings) (q : ℕ) (p : Position) → smallAnswer (foundAt l s q p)
 unfolding foundAt smallAnswer
-small-found l s q a i zero = tt
-small-found l s q a i (suc c) =
-    if-elim smallAnswer _ _ _ (λ e. small-total (word l (q + 6 + s .capacity + i))) (λ e. small-found l s q a (suc i) c)
+small-found l s q (At i) = small-total (word l (totalsFrom q (s .capacity) + i))
+small-found l s q (Before i) = tt
 
-small-ended : (l : List ℕ) (p k : ℕ) (a : Answer) → k < 65_536 → smallAnswer a → smallStepped (endedAt l p k a .1)
+small-ended : (l : List ℕ) (p k : ℕ) (a : Answer) → k < stepsRange → smallAnswer a → smallStepped (endedAt l p k a .1)
 unfolding endedAt smallStepped
 small-ended l p k a h s = (omega arith, s)
 
-small-checked : (l : List ℕ) (p k : ℕ) (o : Option ℕ) → k < 65_536 → smallStepped (checkAt l p k o .1)
+small-checked : (l : List ℕ) (p k : ℕ) (o : Option ℕ) → k < stepsRange → smallStepped (checkAt l p k o .1)
 unfolding checkAt smallStepped
 small-checked l p k none h = tt
 small-checked l p k (some x) h = small-ended l p k (answerOf x) h (small-stored x)
 
-small-update : (l : List ℕ) (s : Settings) (p w k : ℕ) (g : Phase) → k < 65_536 → smallStepped (updateAt l s p w k g .1)
+small-update : (l : List ℕ) (s : Settings) (p w k : ℕ) (g : Phase) → k < stepsRange → smallStepped (updateAt l s p w k g .1)
 unfolding updateAt smallStepped
 small-update l s p w k announce h = tt
 small-update l s p w k readDirectory h = tt
@@ -96,12 +102,12 @@ small-update l s p w k copyDirectory h = tt
 small-update l s p w k (resizeFor j) h = tt
 small-update l s p w k swapDirectory h = tt
 
-small-lookup : (l : List ℕ) (s : Settings) (p k : ℕ) → k < 65_536 → smallStepped (lookupAt l s p k .1)
+small-lookup : (l : List ℕ) (s : Settings) (p k : ℕ) → k < stepsRange → smallStepped (lookupAt l s p k .1)
 unfolding lookupAt lookedAt smallStepped
 small-lookup l s p zero h = tt
-small-lookup l s p (suc k) h = small-ended l p (suc k) _ h (small-found l s _ _ 0 _)
+small-lookup l s p (suc k) h = small-ended l p (suc k) _ h (small-found l s _ _)
 
-small-operation : (l : List ℕ) (s : Settings) (p w k : ℕ) → k < 65_536 → smallStepped (operationAt l s p w k .1)
+small-operation : (l : List ℕ) (s : Settings) (p w k : ℕ) → k < stepsRange → smallStepped (operationAt l s p w k .1)
 unfolding operationAt
 small-operation l s p w k h =
     if-elim (λ (x : List ℕ × Stepped). smallStepped (x .1)) _ _ _ (λ e. small-lookup _ s p k h) (λ e. small-update _ s p w k _ h)
@@ -122,9 +128,8 @@ small-run l s w k (suc f) h =
     if-elim (λ (x : List ℕ × Ran). smallReply (ofRan (x .1))) _ _ _ (λ e. omega arith)
     (λ e. small-last _ k _ _ (omega arith) (small-operation l s _ w _ (mod-lt _ (omega arith))) (small-run _ s w (suc k) f (omega arith)))
 
-least-within : (most : ℕ) → least most 256 ≤ 256
-unfolding least
-least-within most = if-elim (λ (x : ℕ). x ≤ 256) _ _ _ (λ e. let h = ltb-true most 256 e in omega arith) (λ e. omega arith)
+least-within : (most : ℕ) → least most longestRun ≤ longestRun
+least-within most = least-bound most longestRun
 
 small-ran : (l : List ℕ) (w most : ℕ) → smallReply (ofRan (runWords l w most .1))
 unfolding runWords ofRan smallReply

@@ -16,6 +16,7 @@ use Rattle.interface.specs.Numbers.{numberOf}
 use Rattle.interface.specs.declared.Settings.{Settings}
 use Rattle.interface.specs.declared.Listed.{Listed}
 use Rattle.interface.specs.declared.Refusal.{Refusal}
+use Rattle.fields.specs.Fields.{accountsFrom, totalsFrom}
 use Rattle.machine.specs.Choice.{if_then_else_}
 use Rattle.machine.specs.Sequential.{Table}
 use Rattle.machine.proofs.Base.{if-elim, if-true}
@@ -28,7 +29,7 @@ use Rattle.replies.specs.Printed.{fits, printedRow, printedRows, printedEnd, pr
 use Rattle.lists.proofs.PartLaws.{overlay-nil, length-overlay}
 use Rattle.replies.proofs.Overlays.{next}
 use Rattle.driver.specs.Responses.{responded}
-use Rattle.driver.specs.Answers.{Output, put, putRows, rowsAt, putListed, State, listedAs, listed, repliedAs, isList, answered}
+use Rattle.driver.specs.Answers.{Output, emitted, putRows, rowsAt, putListed, DriverState, listedAs, listed, repliedAs, isList, answered}
 use Rattle.driver.specs.Feeding.{longest}
 use Rattle.driver.specs.Texts.{rowsText, listingText, textOn, wordsOn}
 use Rattle.driver.proofs.Lengths.{row-within, end-within, reply-within}
@@ -44,8 +45,8 @@ behind o xs = record { bytes = overlay (o .bytes) (o .used) xs; used = o .used +
 pub record Room (o : Output) (xs : List ℕ) : Type 0 where
   pub room : o .used + length xs ≤ length (o .bytes)
 
-put-behind : (o : Output) (xs : List ℕ) → Room o xs → put o xs ≡ behind o xs
-unfolding put fits behind
+put-behind : (o : Output) (xs : List ℕ) → Room o xs → emitted o xs ≡ behind o xs
+unfolding emitted fits behind
 put-behind o xs h = if-true _ _ (le-leb (o .used + length xs) (length (o .bytes)) (h .room))
 
 pub behind-nil : (o : Output) → behind o [] ≡ o
@@ -90,7 +91,13 @@ short-append (e ∷ s) t h k =
     let m = h .size in
     let n = k .size in
     record {
-      size = rw (printed-append s t, length-append row (printedRows s ++ printedRows t), length-append (printedRows s) (printedRows t), length-append s t)
+      size =
+          rw (
+            printed-append s t,
+            length-append row (printedRows s ++ printedRows t),
+            length-append (printedRows s) (printedRows t),
+            length-append s t,
+          )
           (omega (arith, length-append row (printedRows s)));
     }
   where
@@ -105,8 +112,8 @@ short-in l s e q i (suc c) =
     let rest = short-in l s e q (suc i) c in
     if-elim Short _ _ _
     (λ h.
-    let a = word l (q + 6 + i) % 2 ^ 32 in
-    let x = word l (q + 6 + s .capacity + i) in
+    let a = word l (accountsFrom q + i) % 2 ^ 32 in
+    let x = word l (totalsFrom q (s .capacity) + i) in
     let m = row-within a (toZ w64 x) (mod-lt _ (omega arith)) (small-total x) in
     let n = rest .size in
     record { size = omega (arith, length-append (printedRow a (toZ w64 x)) (printedRows (rowsIn l s e q (suc i) c))) })
@@ -134,14 +141,15 @@ rows-back : (t : Table) (accounts : List ℕ) (totals : List ℤ)
     → rowsAt (map (λ x. x .0) t ++ accounts) (map (λ x. x .1) t ++ totals) 0 (length t) ≡ t
 unfolding rowsAt
 rows-back [] accounts totals = refl
-rows-back (e ∷ t) accounts totals = rw (rows-past (e .0) (e .1) (map (λ x. x .0) t ++ accounts) (map (λ x. x .1) t ++ totals) 0 (length t), rows-back t accounts totals)
+rows-back (e ∷ t) accounts totals =
+    rw (rows-past (e .0) (e .1) (map (λ x. x .0) t ++ accounts) (map (λ x. x .1) t ++ totals) 0 (length t), rows-back t accounts totals)
 
 left-false : (x y : Bool) → x || y ≡ false → x ≡ false
 left-false true y e = e
 left-false false y e = refl
 
 module _ (o : Output) (room : o .used + longest ≤ length (o .bytes)) where
-  reply-behind : (r : Reply) → length (printedReply r) ≤ 64 → put o (printedReply r) ≡ behind o (printedReply r)
+  reply-behind : (r : Reply) → length (printedReply r) ≤ 64 → emitted o (printedReply r) ≡ behind o (printedReply r)
   unfolding longest
   reply-behind r h = put-behind o (printedReply r) (record { room = omega arith })
 
@@ -154,7 +162,8 @@ module _ (o : Output) (room : o .used + longest ≤ length (o .bytes)) where
     counted-behind h =
         let n = short .size in
         let m = end-within (length t) (omega arith) in
-        let all : Room o (printedRows t ++ printedEnd (length t)) = record { room = omega (arith, length-append (printedRows t) (printedEnd (length t))) } in
+        let all : Room o (printedRows t ++ printedEnd (length t)) =
+        record { room = omega (arith, length-append (printedRows t) (printedEnd (length t))) } in
         rw (rows-back t _ _, rows-behind o t (room-first o (printedRows t) (printedEnd (length t)) all))
         (put-behind (behind o (printedRows t)) (printedEnd (length t)) (room-next o (printedRows t) (printedEnd (length t)) all)
         ∙ behind-behind o (printedRows t) (printedEnd (length t)) all)
@@ -165,7 +174,8 @@ module _ (o : Output) (room : o .used + longest ≤ length (o .bytes)) where
     shown-behind x e = rw e (by (ltb (length accounts) (length t) || ltb (length totals) (length t)) refl)
       where
         by : (b : Bool) → ltb (length accounts) (length t) || ltb (length totals) (length t) ≡ b
-            → let y : Shown = if b then record { accounts = accounts; totals = totals; listed = Listed.Refused Refusal.Narrow } else record {
+            → let y : Shown =
+            if b then record { accounts = accounts; totals = totals; listed = Listed.Refused Refusal.Narrow } else record {
               accounts = overlay accounts 0 (map (λ x. x .0) t);
               totals = overlay totals 0 (map (λ x. x .1) t);
               listed = Listed.Count (length t);
@@ -197,25 +207,33 @@ module _ (n m : ℕ) (few : n ≤ 4_096) where
 
 -- ---- one command
 
-module _ (s : State) (few : length (s .accounts) ≤ 4_096) (room : s .output .used + longest ≤ length (s .output .bytes)) where
+module _ (s : DriverState) (few : length (s .accounts) ≤ 4_096) (room : s .output .used + longest ≤ length (s .output .bytes)) where
   listed-behind : listed s .output ≡ behind (s .output) (listingText (s .words) (length (s .accounts)) (length (s .totals)))
   unfolding listed listedAs listingWords listingText putListed if_then_else_
   listed-behind = by (strange (s .words)) refl
     where
-      by : (b : Bool) → strange (s .words) ≡ b → listed s .output ≡ behind (s .output) (listingText (s .words) (length (s .accounts)) (length (s .totals)))
-      by true e = rw e (reply-behind (s .output) room (Reply.Refused (numberOf Refusal.Strange)) (reply-within _ (small-refused Refusal.Strange)))
-      by false e = rw e (shown-behind (s .output) room (s .accounts) (s .totals) few (rows (s .words) (shapeOf (s .words))) (short-rows (s .words)) _ refl)
+      by :
+          (b : Bool) → strange (s .words) ≡ b
+          → listed s .output ≡ behind (s .output) (listingText (s .words) (length (s .accounts)) (length (s .totals)))
+      by true e =
+          rw e (reply-behind (s .output) room (Reply.Refused (numberOf Refusal.Strange)) (reply-within _ (small-refused Refusal.Strange)))
+      by false e =
+          rw e (shown-behind (s .output) room (s .accounts) (s .totals) few (rows (s .words) (shapeOf (s .words)))
+          (short-rows (s .words)) _ refl)
 
   -- a command's whole text stands behind the used bytes
-  pub answered-behind : (c : Command) → answered s c .output ≡ behind (s .output) (textOn (s .words) (length (s .accounts)) (length (s .totals)) c)
+  pub answered-behind :
+      (c : Command) → answered s c .output ≡ behind (s .output) (textOn (s .words) (length (s .accounts)) (length (s .totals)) c)
   unfolding answered repliedAs textOn if_then_else_
   answered-behind c = by (isList c) refl
     where
-      by : (b : Bool) → isList c ≡ b → answered s c .output ≡ behind (s .output) (textOn (s .words) (length (s .accounts)) (length (s .totals)) c)
+      by :
+          (b : Bool) → isList c ≡ b
+          → answered s c .output ≡ behind (s .output) (textOn (s .words) (length (s .accounts)) (length (s .totals)) c)
       by true e = rw e listed-behind
       by false e = rw e (reply-behind (s .output) room (responded (s .words) c .1) (reply-within _ (small-response (s .words) c)))
 
-pub answered-words : (s : State) (c : Command) → answered s c .words ≡ wordsOn (s .words) c
+pub answered-words : (s : DriverState) (c : Command) → answered s c .words ≡ wordsOn (s .words) c
 unfolding answered listed listedAs repliedAs wordsOn if_then_else_
 answered-words s c = by (isList c) refl
   where
@@ -234,7 +252,7 @@ mapped f [] = refl
 mapped f (x ∷ l) = ap suc (mapped f l)
 
 -- both lists as long as the state's
-pub record Kept (s t : State) : Type 0 where
+pub record Kept (s t : DriverState) : Type 0 where
   pub accounts : length (t .accounts) ≡ length (s .accounts)
   pub totals : length (t .totals) ≡ length (s .totals)
 
@@ -252,11 +270,13 @@ shown-kept accounts totals t =
       overlaid totals _ (rw (mapped (λ x. x .1) t) (ltb-false _ _ (right-false (ltb (length accounts) (length t)) _ e))),
     ))
 
-pub answered-kept : (s : State) (c : Command) → Kept s (answered s c)
+pub answered-kept : (s : DriverState) (c : Command) → Kept s (answered s c)
 unfolding answered listed listedAs listingWords repliedAs if_then_else_
 answered-kept s c = by (isList c) (strange (s .words)) refl refl
   where
     by : (b d : Bool) → isList c ≡ b → strange (s .words) ≡ d → Kept s (answered s c)
     by false d e f = rw e (record { accounts = refl; totals = refl })
     by true true e f = rw (e, f) (record { accounts = refl; totals = refl })
-    by true false e f = let k = shown-kept (s .accounts) (s .totals) (rows (s .words) (shapeOf (s .words))) in rw (e, f) (record { accounts = k .0; totals = k .1 })
+    by true false e f =
+        let k = shown-kept (s .accounts) (s .totals) (rows (s .words) (shapeOf (s .words))) in rw (e, f)
+        (record { accounts = k .0; totals = k .1 })

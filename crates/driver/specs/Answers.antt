@@ -1,5 +1,5 @@
--- What is printed for a command, behind the bytes of a buffer that are used. 01, The driver: "`T` prints account and total, ascending,
--- then `end` and the count." Rests on specs/Responses, the table's listing and the lines' texts.
+-- What is printed for a command, behind the bytes of a buffer that are used. 01, The driver: "`T` prints account and
+-- total, ascending, then `end` and the count." Rests on specs/Responses, the table's listing and the lines' texts.
 use Prim.Native.Nat.{ℕ, zero, suc, _+_}
 use mathlib.Core.Bool.{Bool, true, false}
 use mathlib.Core.List.{List, [], _∷_}
@@ -23,13 +23,14 @@ pub record Output : Type 0 where
   pub used : ℕ
 
 -- a text behind the used bytes, where it has room
-unfoldable pub put : Output → List ℕ → Output
-put o xs =
-    if fits (o .bytes) (o .used) xs then record { bytes = overlay (o .bytes) (o .used) xs; used = o .used + length xs } else o
+unfoldable pub emitted : Output → List ℕ → Output
+emitted o xs =
+    if fits (o .bytes) (o .used) xs then record { bytes = overlay (o .bytes) (o .used) xs; used = o .used + length xs }
+    else o
 
 unfoldable pub putRows : Output → List (ℕ × ℤ) → Output
 putRows o [] = o
-putRows o (e ∷ t) = putRows (put o (printedRow (e .0) (e .1))) t
+putRows o (e ∷ t) = putRows (emitted o (printedRow (e .0) (e .1))) t
 
 -- n rows of two lists, from place i on
 unfoldable pub rowsAt : List ℕ → List ℤ → ℕ → ℕ → List (ℕ × ℤ)
@@ -38,20 +39,20 @@ rowsAt accounts totals i (suc n) = (getD accounts i 0, getD totals i (pos 0)) �
 
 -- the listing's rows and its end, or its refusal
 unfoldable pub putListed : Output → List ℕ → List ℤ → Listed → Output
-putListed o accounts totals (Listed.Count n) = put (putRows o (rowsAt accounts totals 0 n)) (printedEnd n)
-putListed o accounts totals (Listed.Refused r) = put o (printedReply (Reply.Refused (numberOf r)))
+putListed o accounts totals (Listed.Count n) = emitted (putRows o (rowsAt accounts totals 0 n)) (printedEnd n)
+putListed o accounts totals (Listed.Refused r) = emitted o (printedReply (Reply.Refused (numberOf r)))
 
 -- ---- answers
 
 -- what the program lends, and its output
-pub record State : Type 0 where
+pub record DriverState : Type 0 where
   pub words : List ℕ
   pub accounts : List ℕ
   pub totals : List ℤ
   pub output : Output
 
 -- after the listing answered so
-unfoldable pub listedAs : State → Shown → State
+unfoldable pub listedAs : DriverState → Shown → DriverState
 listedAs s x = record {
   words = s .words;
   accounts = x .accounts;
@@ -59,12 +60,17 @@ listedAs s x = record {
   output = putListed (s .output) (x .accounts) (x .totals) (x .listed);
 }
 
-unfoldable pub listed : State → State
+unfoldable pub listed : DriverState → DriverState
 listed s = listedAs s (listingWords (s .words) (s .accounts) (s .totals))
 
 -- after a command left these words and this reply
-unfoldable pub repliedAs : State → List ℕ × Reply → State
-repliedAs s x = record { words = x .0; accounts = s .accounts; totals = s .totals; output = put (s .output) (printedReply (x .1)) }
+unfoldable pub repliedAs : DriverState → List ℕ × Reply → DriverState
+repliedAs s x = record {
+  words = x .0;
+  accounts = s .accounts;
+  totals = s .totals;
+  output = emitted (s .output) (printedReply (x .1));
+}
 
 unfoldable pub isList : Command → Bool
 isList (Command.Open n b M) = false
@@ -75,5 +81,5 @@ isList (Command.Steps w k) = false
 isList Command.List = true
 isList Command.Unread = false
 
-unfoldable pub answered : State → Command → State
+unfoldable pub answered : DriverState → Command → DriverState
 answered s c = if isList c then listed s else repliedAs s (responded (s .words) c)

@@ -1,9 +1,10 @@
--- What a command does to the words and what it is met with. 01, The driver: "Each line is met with `ok`, `refused` and its number,
--- `moved` and the steps given, or `answered`, .." Rests on the table's calls and on the lines' commands and replies.
+-- What a command does to the words and what it is met with. 01, The driver: "Each line is met with `ok`, `refused` and
+-- its number, `moved` and the steps given, or `answered`, .." Rests on the table's calls and on the lines' commands and
+-- replies.
 use Prim.Native.Nat.{ℕ}
 use mathlib.Core.List.{List}
 use lib.IntN.{pos}
-use Rattle.interface.specs.Numbers.{numberOf}
+use Rattle.interface.specs.Numbers.{numberOf, kindInsert, kindDelete, kindLookup}
 use Rattle.interface.specs.declared.Opened.{Opened}
 use Rattle.interface.specs.declared.Called.{Called}
 use Rattle.interface.specs.declared.Ran.{Ran}
@@ -32,13 +33,13 @@ ofRan (Ran.Refused r) = Reply.Refused (numberOf r)
 unfoldable pub replying : {A : Type 0} → (A → Reply) → List ℕ × A → List ℕ × Reply
 replying reply x = (x .0, reply (x .1))
 
--- the words after a command, and its reply; kinds are 1 insert, 2 delete, 3 lookup, and the last two have no total; a listing
--- changes no words and has no reply of this type: it is met by its rows
+-- the words after a command, and its reply; a delete and a lookup have no total; a listing changes no words and has no
+-- reply of this type: it is met by its rows
 unfoldable pub responded : List ℕ → Command → List ℕ × Reply
 responded l (Command.Open n b M) = replying ofOpened (openWords l n b M)
-responded l (Command.Insert w a t) = replying ofCalled (callWords l w 1 a t)
-responded l (Command.Delete w a) = replying ofCalled (callWords l w 2 a (pos 0))
-responded l (Command.Lookup w a) = replying ofCalled (callWords l w 3 a (pos 0))
+responded l (Command.Insert w a t) = replying ofCalled (callWords l w kindInsert a t)
+responded l (Command.Delete w a) = replying ofCalled (callWords l w kindDelete a (pos 0))
+responded l (Command.Lookup w a) = replying ofCalled (callWords l w kindLookup a (pos 0))
 responded l (Command.Steps w k) = replying ofRan (runWords l w k)
 responded l Command.List = (l, Reply.Unread)
 responded l Command.Unread = (l, Reply.Unread)

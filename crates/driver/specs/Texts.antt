@@ -1,10 +1,11 @@
--- What commands are met with on words, as text, with no buffer in sight: what the buffer of `feed` holds is said by these
--- (proofs/Texts). Rests on specs/Responses, the table's listing and the lines' texts and reader.
+-- What commands are met with on words, as text, with no buffer in sight: what the buffer of `feed` holds is said by
+-- these (proofs/Texts). Rests on specs/Responses, the table's listing and the lines' texts and reader.
 use Prim.Native.Nat.{ℕ}
 use mathlib.Core.Bool.{_||_}
 use mathlib.Core.List.{List, [], _∷_, _++_}
 use lib.Dec.{ltb, eqb}
 use lib.ListN.{length}
+use Rattle.replies.specs.Ascii.{lineFeed}
 use Rattle.interface.specs.Numbers.{numberOf}
 use Rattle.interface.specs.declared.Refusal.{Refusal}
 use Rattle.machine.specs.Choice.{if_then_else_}
@@ -24,7 +25,8 @@ use Rattle.driver.specs.Answers.{isList}
 -- the rows, "then `end` and the count"; 10 where one of the lists, of n and m places, is shorter than the count
 unfoldable pub rowsText : ℕ → ℕ → Table → List ℕ
 rowsText n m t =
-    if ltb n (length t) || ltb m (length t) then printedReply (Reply.Refused (numberOf Refusal.Narrow)) else printedRows t ++ printedEnd (length t)
+    if ltb n (length t) || ltb m (length t) then printedReply (Reply.Refused (numberOf Refusal.Narrow))
+    else printedRows t ++ printedEnd (length t)
 
 unfoldable pub listingText : List ℕ → ℕ → ℕ → List ℕ
 listingText l n m =
@@ -52,8 +54,8 @@ wordsAfter l (c ∷ cs) = wordsAfter (wordsOn l c) cs
 -- the commands of the lines that these bytes end, and the reader after them
 unfoldable pub ended : Reader → List ℕ → List Command
 ended r [] = []
-ended r (b ∷ bs) = if eqb b 10 then commandIn r ∷ ended fresh bs else ended (pushed r b) bs
+ended r (b ∷ bs) = if eqb b lineFeed then commandIn r ∷ ended fresh bs else ended (pushed r b) bs
 
 unfoldable pub readerAfter : Reader → List ℕ → Reader
 readerAfter r [] = r
-readerAfter r (b ∷ bs) = if eqb b 10 then readerAfter fresh bs else readerAfter (pushed r b) bs
+readerAfter r (b ∷ bs) = if eqb b lineFeed then readerAfter fresh bs else readerAfter (pushed r b) bs

@@ -7,15 +7,16 @@ use lines::Reader;
 // The longest text that one line is met with: 4,096 rows of 32 bytes each, and `end` with a count of up to 20 digits.
 const LONGEST: usize = 131097;
 
-// What feeding came to: the reader of the line that is not ended yet, the bytes of `out` that are used, and the bytes taken.
+// What feeding came to: the reader of the line that is not ended yet, the bytes of `out` that are used, and the bytes
+// taken.
 pub struct Fed {
     pub reader: Reader,
     pub used: usize,
     pub taken: usize,
 }
 
-// Takes bytes of input, and prints into `out`, from its start on, what each line that they end is met with; stops where the next
-// line's text might have no room.
+// Takes bytes of input, and prints into `out`, from its start on, what each line that they end is met with; stops where
+// the next line's text might have no room.
 pub fn feed(
     words: &mut [u64],
     accounts: &mut [u32],
@@ -24,7 +25,25 @@ pub fn feed(
     reader: Reader,
     input: &[u8],
 ) -> Fed
-    ensures { λ r. ⌜ _≡_ {A = Feeding} (record { state = record { words = now (words .exit); accounts = now (accounts .exit); totals = now (totals .exit); output = record { bytes = now (out .exit); used = r .used } }; reader = r .reader; taken = r .taken }) (fed (record { state = record { words = now (words .entry); accounts = now (accounts .entry); totals = now (totals .entry); output = record { bytes = now (out .entry); used = 0 } }; reader = reader; taken = 0 }) (now (input .entry))) ⌝ }
+    ensures { λ r. ⌜ _≡_ {A = Feeding} (record {
+      state = record {
+        words = now (words .exit);
+        accounts = now (accounts .exit);
+        totals = now (totals .exit);
+        output = record { bytes = now (out .exit); used = r .used };
+      };
+      reader = r .reader;
+      taken = r .taken;
+    }) (fed (record {
+      state = record {
+        words = now (words .entry);
+        accounts = now (accounts .entry);
+        totals = now (totals .entry);
+        output = record { bytes = now (out .entry); used = 0 };
+      };
+      reader = reader;
+      taken = 0;
+    }) (now (input .entry))) ⌝ }
 {
     let mut reader = reader;
     let mut used: usize = 0;

@@ -2,19 +2,16 @@
 ghost use mathlib.Core.Path.{_≡_};
 ghost use Rattle.driver.specs.Responses.{responded, ofOpened, ofCalled, ofRan};
 use interface::Called;
+use interface::KIND_DELETE;
+use interface::KIND_INSERT;
+use interface::KIND_LOOKUP;
 use interface::Opened;
 use interface::Ran;
 use lines::Command;
 use replies::Reply;
 
-// The kinds of a call to a worker.
-const INSERT: u64 = 1;
-
-const DELETE: u64 = 2;
-
-const LOOKUP: u64 = 3;
-
-// What a command is met with, for any words. A listing is no `Reply`: `answer` does not bring it here, and it would be unread.
+// What a command is met with, for any words. A listing is no `Reply`: `answer` does not bring it here, and it would be
+// unread.
 pub fn respond(words: &mut [u64], c: Command) -> Reply
     ensures { λ r. ⌜ (now (words .exit), r) ≡ responded (now (words .entry)) c ⌝ }
 {
@@ -23,12 +20,12 @@ pub fn respond(words: &mut [u64], c: Command) -> Reply
         Command::Insert(w, account, total) => of_called(table::call(
             words,
             w,
-            INSERT,
+            KIND_INSERT,
             account,
             total,
         )),
-        Command::Delete(w, account) => of_called(table::call(words, w, DELETE, account, 0)),
-        Command::Lookup(w, account) => of_called(table::call(words, w, LOOKUP, account, 0)),
+        Command::Delete(w, account) => of_called(table::call(words, w, KIND_DELETE, account, 0)),
+        Command::Lookup(w, account) => of_called(table::call(words, w, KIND_LOOKUP, account, 0)),
         Command::Steps(w, k) => of_ran(table::run(words, w, k)),
         Command::List => Reply::Unread,
         Command::Unread => Reply::Unread,

@@ -5,90 +5,70 @@ use native.Mathlib.Nat.{add-zero, add-suc}
 use native.Mathlib.Omega.{arith}
 use mathlib.Core.Path.{_≡_, refl, sym, _∙_, ap}
 use mathlib.Core.Logic.{_≢_}
-use mathlib.Core.Bool.{not}
 use mathlib.Core.List.{List}
 use lib.Dec.{ltb, eqb}
-use lib.ListN.{getD}
-use borrow.Author.Tests.{lt-ltb, le-leb, lt-leb, ne-eqb}
-use Rattle.machine.proofs.Base.{if-elim, if-true, if-false, and-true, and-right-false}
-use Rattle.bucket.specs.State.{sizeOf, fullOf, searchOf, putAt, putOf, removeAt, removeOf, settleOf, carryOf, bit, helpOf, helpedOf, roundOf}
+use Rattle.interface.specs.Numbers.{kindInsert}
+use Rattle.interface.specs.declared.Settings.{Settings}
+use Rattle.fields.specs.Fields.{slotSize}
+use Rattle.machine.proofs.Base.{if-elim}
+use Rattle.bucket.specs.State.{arraySize, sizeOf, searchOf, putOf, removeOf, settleOf, descriptorIn, carryOf, bit, helpOf, helpedOf, withApplied, roundOf}
 use Rattle.bucket.specs.declared.BucketState.{BucketState}
-use Rattle.bucket.specs.declared.Place.{Place}
-use Rattle.bucket.specs.declared.Place.the-variants.{At, Before}
-use Rattle.bucket.proofs.Laws.{due-same, due-settled}
-use Rattle.engine.specs.Engine.{withApplied}
+use Rattle.bucket.specs.declared.Descriptor.{Descriptor}
+use Rattle.bucket.specs.declared.Position.{Position}
+use Rattle.bucket.specs.declared.Position.the-variants.{At, Before}
+use Rattle.bucket.proofs.Laws.{pending-same, help-left}
 
 -- ---- an update leaves the applied bits
 
-put-applied : (x : BucketState) (a v : ℕ) (p : Place) → putAt x a v p .applied ≡ x .applied
-unfolding putAt
-put-applied x a v (At i) = refl
-put-applied x a v (Before i) = if-elim (λ (y : BucketState). y .applied ≡ x .applied) (ltb (sizeOf x) 16) _ x (λ e. refl) (λ e. refl)
+put-applied : (x : BucketState) (p : Position) (a v : ℕ) → putOf x p a v .applied ≡ x .applied
+unfolding putOf
+put-applied x (At i) a v = refl
+put-applied x (Before i) a v = if-elim (λ (y : BucketState). y .applied ≡ x .applied) (ltb (sizeOf x) arraySize) _ x (λ e. refl) (λ e. refl)
 
-remove-applied : (x : BucketState) (p : Place) → removeAt x p .applied ≡ x .applied
-unfolding removeAt
+remove-applied : (x : BucketState) (p : Position) → removeOf x p .applied ≡ x .applied
+unfolding removeOf
 remove-applied x (At i) = refl
 remove-applied x (Before i) = refl
 
-carry-applied : (x : BucketState) (j kind a v ticket : ℕ) → carryOf x j kind a v ticket .applied ≡ x .applied
-unfolding carryOf settleOf putOf removeOf
-carry-applied x j kind a v ticket =
-    if-elim (λ (y : BucketState). y .applied ≡ x .applied) (eqb kind 1) _ _ (λ e. put-applied x a v (searchOf x a)) (λ e. remove-applied x (searchOf x a))
+carry-applied : (x : BucketState) (j : ℕ) (u : Descriptor) → carryOf x j u .applied ≡ x .applied
+unfolding carryOf settleOf
+carry-applied x j u =
+    if-elim (λ (y : BucketState). y .applied ≡ x .applied) (eqb (u .kind) kindInsert) _ _
+    (λ e. put-applied x (searchOf x (u .account)) (u .account) (u .total)) (λ e. remove-applied x (searchOf x (u .account)))
 
--- ---- help
-
-module _ (x : BucketState) (capacity toggle j kind a v ticket : ℕ) where
-  help-applied : helpOf x capacity toggle j kind a v ticket .applied ≡ x .applied
-  unfolding helpOf
-  help-applied = if-elim (λ (y : BucketState). y .applied ≡ x .applied) _ _ x (λ e. carry-applied x j kind a v ticket) (λ e. refl)
-
-  help-same : bit toggle j ≡ bit (x .applied) j → helpOf x capacity toggle j kind a v ticket ≡ x
-  unfolding helpOf
-  help-same e = if-false _ x (sym (due-same (bit toggle j) (bit (x .applied) j) _ _ e))
-
-  pub help-settled : ticket ≤ getD (x .settled) j 0 → helpOf x capacity toggle j kind a v ticket ≡ x
-  unfolding helpOf
-  help-settled h = if-false _ x (sym (due-settled _ (getD (x .settled) j 0) ticket _ h))
-
-  pub help-full : capacity ≤ x .count → helpOf x capacity toggle j kind a v ticket ≡ x
-  unfolding helpOf fullOf
-  help-full h = if-false _ x (rw (le-leb capacity (x .count) h) (and-right-false _))
-
-  pub help-carried :
-      bit toggle j ≢ bit (x .applied) j → getD (x .settled) j 0 < ticket → x .count < capacity
-      → helpOf x capacity toggle j kind a v ticket ≡ carryOf x j kind a v ticket
-  unfolding helpOf fullOf
-  help-carried d h k =
-      if-true _ x (
-      and-true (and-true (ap not (ne-eqb (bit toggle j) (bit (x .applied) j) d)) (lt-ltb (getD (x .settled) j 0) ticket h))
-      (ap not (lt-leb capacity (x .count) k))
-      )
+help-applied : (x : BucketState) (s : Settings) (d toggle j : ℕ) (u : Descriptor) → helpOf x s d toggle j u .applied ≡ x .applied
+unfolding helpOf
+help-applied x s d toggle j u = if-elim (λ (y : BucketState). y .applied ≡ x .applied) _ _ x (λ e. carry-applied x j u) (λ e. refl)
 
 -- ---- a round
 
-module _ (x : BucketState) (slots : List ℕ) (capacity toggle w : ℕ) (others : (j : ℕ) → j ≢ w → bit toggle j ≡ bit (x .applied) j) where
+module _ (x : BucketState) (slots : List ℕ) (s : Settings) (d toggle w : ℕ)
+    (others : (j : ℕ) → j ≢ w → bit toggle j ≡ bit (x .applied) j) where
   -- worker j helped in y with what was read in its slot
   abbrev pub helping : BucketState → ℕ → BucketState
-  helping y j = helpOf y capacity toggle j (getD slots (4 * j) 0) (getD slots (4 * j + 1) 0) (getD slots (4 * j + 2) 0) (getD slots (4 * j + 3) 0)
+  helping y j = helpOf y s d toggle j (descriptorIn slots (slotSize * j))
 
-  helped-before : (k : ℕ) → k ≤ w → helpedOf x slots capacity toggle k ≡ x
+  -- no other worker is helped
+  help-other : (y : BucketState) (j : ℕ) → y .applied ≡ x .applied → j ≢ w → helping y j ≡ y
+  help-other y j e n =
+      help-left y s d toggle j _ (pending-same toggle (y .applied) j _ _ (others j n ∙ ap (λ (k : ℕ). bit k j) (sym e)))
+
+  helped-before : (k : ℕ) → k ≤ w → helpedOf x slots s d toggle k ≡ x
   unfolding helpedOf
   helped-before zero h = refl
   helped-before (suc k) h =
-      ap (λ (y : BucketState). helping y k) (helped-before k (omega arith)) ∙ help-same x capacity toggle k _ _ _ _ (others k (λ e. omega arith))
+      ap (λ (y : BucketState). helping y k) (helped-before k (omega arith)) ∙ help-other x k refl (λ e. omega arith)
 
-  helped-after : (d : ℕ) → helpedOf x slots capacity toggle (suc w + d) ≡ helping x w
+  helped-after : (k : ℕ) → helpedOf x slots s d toggle (suc w + k) ≡ helping x w
   unfolding helpedOf
   helped-after zero = rw add-zero (ap (λ (y : BucketState). helping y w) (helped-before w (omega arith)))
-  helped-after (suc d) =
-      rw (add-suc (suc w) d) (
-      ap (λ (y : BucketState). helping y (suc w + d)) (helped-after d)
-      ∙ help-same (helping x w) capacity toggle (suc w + d) _ _ _ _
-      (others (suc w + d) (λ e. omega arith) ∙ ap (λ (k : ℕ). bit k (suc w + d)) (sym (help-applied x capacity toggle w _ _ _ _)))
-      )
+  helped-after (suc k) =
+      rw (add-suc (suc w) k)
+      (ap (λ (y : BucketState). helping y (suc w + k)) (helped-after k)
+      ∙ help-other (helping x w) (suc w + k) (help-applied x s d toggle w _) (λ e. omega arith))
 
-  pub round-one : (n : ℕ) → w < n → withApplied (helping x w) toggle ≡ roundOf x slots capacity toggle n
-  unfolding roundOf withApplied
-  round-one n h =
-      let e : suc w + (n - suc w) ≡ n = omega arith in
-      ap (λ (y : BucketState). withApplied y toggle) (sym (helped-after (n - suc w)) ∙ ap (helpedOf x slots capacity toggle) e)
+  pub round-one : w < s .workers → withApplied (helping x w) toggle ≡ roundOf x slots s d toggle
+  unfolding roundOf
+  round-one h =
+      let e : suc w + (s .workers - suc w) ≡ s .workers = omega arith in
+      ap (λ (y : BucketState). withApplied y toggle) (sym (helped-after (s .workers - suc w)) ∙ ap (helpedOf x slots s d toggle) e)

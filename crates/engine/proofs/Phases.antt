@@ -90,7 +90,8 @@ module _ (n : ℕ) where
 
     pub bucket-slot : 2 ≤ i → i < n + 2 → at (bucketRound n) i ≡ readSlot (i - 2)
     bucket-slot h k =
-        bucket-behind h ∙ at-front (each readSlot n) _ n (i - 2) (length-each readSlot n) (omega arith) ∙ at-each readSlot n (i - 2) (omega arith)
+        bucket-behind h ∙ at-front (each readSlot n) _ n (i - 2) (length-each readSlot n) (omega arith)
+        ∙ at-each readSlot n (i - 2) (omega arith)
 
     pub bucket-swap : n + 2 ≤ i → i < n + 3 → at (bucketRound n) i ≡ swapState
     bucket-swap h k =
@@ -101,9 +102,11 @@ module _ (n : ℕ) where
   unfolding bucketPass
   bucket-flip r h = let e : r ≡ 0 = omega arith in rw e
 
-  pub bucket-round : (r i : ℕ) → 1 ≤ r → i ≡ (if leb (n + 3) (r - 1) then r - 1 - (n + 3) else r - 1) → at (bucketPass n) r ≡ at (bucketRound n) i
+  pub bucket-round :
+      (r i : ℕ) → 1 ≤ r → i ≡ (if leb (n + 3) (r - 1) then r - 1 - (n + 3) else r - 1) → at (bucketPass n) r ≡ at (bucketRound n) i
   unfolding bucketPass
-  bucket-round r i h e = at-later flipToggle (bucketRound n ++ bucketRound n) r h ∙ at-twice (bucketRound n) (n + 3) (r - 1) i length-bucket e
+  bucket-round r i h e =
+      at-later flipToggle (bucketRound n ++ bucketRound n) r h ∙ at-twice (bucketRound n) (n + 3) (r - 1) i length-bucket e
 
   length-buckets : length (bucketPass n) ≡ 2 * n + 7
   unfolding bucketPass
@@ -146,7 +149,8 @@ module _ (n : ℕ) where
         let e : i ≡ 2 * n + 1 = omega arith in
         rw e (getD-at (copyDirectory ∷ each readSlot n ++ each resizeFor n) swapDirectory [] checkState (2 * n + 1) states-first)
 
-  pub directory-round : (r i : ℕ) → i ≡ (if leb (2 * n + 2) r then r - (2 * n + 2) else r) → at (directoryPass n) r ≡ at (directoryRound n) i
+  pub directory-round :
+      (r i : ℕ) → i ≡ (if leb (2 * n + 2) r then r - (2 * n + 2) else r) → at (directoryPass n) r ≡ at (directoryRound n) i
   unfolding directoryPass
   directory-round r i e = at-twice (directoryRound n) (2 * n + 2) r i length-directory e
 
@@ -185,7 +189,8 @@ module _ (n : ℕ) where
 
     pub pass-bucket : 1 ≤ r → r < 2 * n + 8 → at (pass n) r ≡ at (bucketPass n) (r - 1)
     pass-bucket h k =
-        in-bucket (omega arith) ∙ at-front (readDirectory ∷ bucketPass n) check (2 * n + 8) r buckets-first k ∙ at-later readDirectory (bucketPass n) r h
+        in-bucket (omega arith) ∙ at-front (readDirectory ∷ bucketPass n) check (2 * n + 8) r buckets-first k
+        ∙ at-later readDirectory (bucketPass n) r h
 
     first-check : 2 * n + 8 ≤ r → r < 2 * n + 10 → at (pass n) r ≡ at check (r - (2 * n + 8))
     first-check h k = in-bucket k ∙ at-behind (readDirectory ∷ bucketPass n) check (2 * n + 8) r buckets-first h

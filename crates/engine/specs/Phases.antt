@@ -1,6 +1,6 @@
 -- The code's kinds of steps by the machine's names. Rests on the machine's plan.
 use Rattle.engine.specs.declared.phase.Phase as Code
-use Rattle.machine.specs.Plan.{Phase, announce, readDirectory, flipToggle, readState, readToggle, swapState, checkState, copyDirectory, swapDirectory, readSlot, resizeFor, phase}
+use Rattle.machine.specs.Plan.{Phase, announce, readDirectory, flipToggle, readState, readToggle, swapState, checkState, copyDirectory, swapDirectory, readSlot, resizeFor}
 
 -- the machine's name for a kind of step
 unfoldable pub planned : Code.Phase → Phase

@@ -1,28 +1,32 @@
--- The directory swap on the words: splits in place, and the updates that are taken. Rests on the steps' definitions, and on spare records.
+-- The directory swap on the words: splits in place, and the updates that are taken. Rests on the steps' definitions
+-- and on spare records.
 use Prim.Native.Nat.{ℕ, zero, suc, _+_, _-_, _*_, _%_, _^_}
 use mathlib.Core.Bool.{Bool, not, _||_}
 use mathlib.Core.List.{List}
-use lib.Dec.{ltb, leb, eqb}
+use lib.Dec.{ltb, eqb}
 use lib.ListN.{length, set, replicate}
+use Rattle.interface.specs.Numbers.{kindNone}
 use Rattle.interface.specs.declared.Settings.{Settings}
 use Rattle.machine.specs.Choice.{if_then_else_, _and_}
-use Rattle.machine.specs.Words.{wordsNeeded}
-use Rattle.bucket.specs.State.{bit, prefixOf, carryOf, halfOf}
+use Rattle.fields.specs.Fields.{headerDepth, headerNumber, headerSpare, slotKind, slotAccount, slotTicket, workerDirectory, workerMarks, recordToggle, recordDepth, recordPrefix, recordNumber}
+use Rattle.fields.specs.Regions.{readAt, directoryStart, recordStart, wordsNeeded}
+use Rattle.machine.specs.Sequential.{firstBits}
+use Rattle.bucket.specs.State.{bit, descriptorIn, carryOf, halfOf}
 use Rattle.bucket.specs.declared.BucketState.{BucketState}
 use Rattle.lists.specs.Parts.{overlay}
-use Rattle.memory.specs.Loads.{loadedState, storedState}
-use Rattle.layout.specs.Shape.{word, directoryStart}
-use Rattle.layout.specs.Records.{recordStart, firstEntry, spareOf}
-use Rattle.layout.specs.Places.{readAt, recordOf}
+use Rattle.layout.specs.Shape.{word}
+use Rattle.layout.specs.Records.{firstEntry, spareOf}
+use Rattle.layout.specs.Addresses.{recordOf}
 use Rattle.layout.specs.Numbers.{freshDirectory}
-use Rattle.engine.specs.Engine.{settledWord, markedAt, recordFor}
+use Rattle.engine.specs.Engine.{bucketAt, withBucketAt, holdsBackAt, splittableAt, settledTicket, markedAt, recordFor}
 
 -- ---- a split
 
 -- a new bucket of depth d and prefix q in the record at r, with state x: number 0, all bits 0
 unfoldable pub madeAt : List ℕ → Settings → ℕ → ℕ → ℕ → BucketState → List ℕ
 madeAt l s r d q x =
-    storedState (set (set (set (set l (r + 2) 0) (r + 3) d) (r + 4) q) (r + 5) 0) r (s .capacity) (s .workers) x
+    let l₂ : List ℕ = set (set l (r + recordToggle) 0) (r + recordDepth) d in
+    withBucketAt (set (set l₂ (r + recordPrefix) q) (r + recordNumber) 0) s r x
 
 -- the directory's entries of a bucket of depth d and prefix q name the record at r
 unfoldable pub directedAt : List ℕ → Settings → ℕ → ℕ → ℕ → List ℕ
@@ -32,46 +36,45 @@ directedAt l s d q r = overlay l (directoryStart (s .workers) + firstEntry s d q
 unfoldable pub halfAt : List ℕ → Settings → ℕ → ℕ → BucketState → List ℕ
 halfAt l s d q x =
     let r : ℕ = spareOf l s in
-    directedAt (set (madeAt l s (recordStart s r) d q (halfOf x d q)) 4 (suc r)) s d q (recordStart s r)
+    directedAt (set (madeAt l s (recordStart s r) d q (halfOf x d q)) headerSpare (suc r)) s d q (recordStart s r)
 
 -- "The directory doubles when d+1 exceeds its depth."
 unfoldable pub deepenedAt : List ℕ → ℕ → List ℕ
-deepenedAt l d = if ltb (word l 2) d then set l 2 d else l
+deepenedAt l d = if ltb (word l headerDepth) d then set l headerDepth d else l
 
 -- the bucket in the record at q becomes two; depth and prefix are read as ones below M
 unfoldable pub splitAt : List ℕ → Settings → ℕ → List ℕ
 splitAt l s q =
-    let d : ℕ = word l (q + 3) % s .depth + 1 in
-    let p : ℕ = 2 * (word l (q + 4) % 2 ^ (d - 1)) in
-    let x : BucketState = loadedState l q (s .capacity) (s .workers) in
-    halfAt (halfAt (deepenedAt l d) s d p x) s d (p + 1) x
+    let d : ℕ = word l (q + recordDepth) % s .depth + 1 in
+    let prefix : ℕ = 2 * (word l (q + recordPrefix) % 2 ^ (d - 1)) in
+    let x : BucketState = bucketAt l s q in
+    halfAt (halfAt (deepenedAt l d) s d prefix x) s d (prefix + 1) x
 
 -- "split while full and below depth M": at most so often
 unfoldable pub splitWhileAt : List ℕ → Settings → ℕ → ℕ → List ℕ
 splitWhileAt l s a zero = l
 splitWhileAt l s a (suc f) =
     let q : ℕ = recordOf l s a in
-    if leb (s .capacity) (word l q) and ltb (word l (q + 3)) (s .depth) then splitWhileAt (splitAt l s q) s a f else l
+    if splittableAt l s q then splitWhileAt (splitAt l s q) s a f else l
 
 -- ---- the updates that are taken
 
 -- worker i's update, by the slot that the worker at p has read, carried out in the record at q
 unfoldable pub carriedAt : List ℕ → Settings → ℕ → ℕ → ℕ → List ℕ
-carriedAt l s p i q =
-    storedState l q (s .capacity) (s .workers)
-    (carryOf (loadedState l q (s .capacity) (s .workers)) i (word l (readAt p i)) (word l (readAt p i + 1)) (word l (readAt p i + 2)) (word l (readAt p i + 3)))
+carriedAt l s p i q = withBucketAt l s q (carryOf (bucketAt l s q) i (descriptorIn l (readAt p i)))
 
 unfoldable pub takenAt : List ℕ → Settings → ℕ → ℕ → List ℕ
 takenAt l s p i =
-    let l′ : List ℕ = splitWhileAt l s (word l (readAt p i + 1)) (s .depth) in
-    let q : ℕ = recordOf l′ s (word l′ (readAt p i + 1)) in
-    if leb (s .capacity) (word l′ q) then l′ else carriedAt l′ s p i q
+    let l′ : List ℕ = splitWhileAt l s (word l (readAt p i + slotAccount)) (s .depth) in
+    let q : ℕ = recordOf l′ s (word l′ (readAt p i + slotAccount)) in
+    if holdsBackAt l′ s q then l′ else carriedAt l′ s p i q
 
 -- "every unsettled announced update that belongs to that bucket's prefix"
 unfoldable pub dueAt : List ℕ → Settings → ℕ → ℕ → ℕ → Bool
 dueAt l s p q i =
-    not (eqb (word l (readAt p i)) 0) and eqb (prefixOf (word l (readAt p i + 1)) (word l (q + 3))) (word l (q + 4))
-    and ltb (settledWord l s q i) (word l (readAt p i + 3))
+    not (eqb (word l (readAt p i + slotKind)) kindNone)
+    and eqb (firstBits (word l (q + recordDepth)) (word l (readAt p i + slotAccount))) (word l (q + recordPrefix))
+    and ltb (settledTicket l s q i) (word l (readAt p i + slotTicket))
 
 -- the workers below n whose update is due at record q, as bits
 unfoldable pub duesAt : List ℕ → Settings → ℕ → ℕ → ℕ → ℕ
@@ -80,7 +83,9 @@ duesAt l s p q (suc i) = if dueAt l s p q i then duesAt l s p q i + 2 ^ i else d
 
 unfoldable pub takenAll : List ℕ → Settings → ℕ → ℕ → ℕ → List ℕ
 takenAll l s p dues zero = l
-takenAll l s p dues (suc i) = let l′ : List ℕ = takenAll l s p dues i in if eqb (bit dues i) 1 then takenAt l′ s p i else l′
+takenAll l s p dues (suc i) =
+    let l′ : List ℕ = takenAll l s p dues i in
+    if eqb (bit dues i) 1 then takenAt l′ s p i else l′
 
 -- the marked buckets, resolved in the order of their marks
 unfoldable pub resolvedAt : List ℕ → Settings → ℕ → ℕ → List ℕ
@@ -91,11 +96,12 @@ resolvedAt l s p (suc j) =
 
 -- nothing is marked, or the words are too short for the records of their settings, which no opened table's are
 unfoldable pub nothingToSplit : List ℕ → Settings → ℕ → Bool
-nothingToSplit l s p = eqb (word l (p + 9)) 0 || ltb (length l) (wordsNeeded s)
+nothingToSplit l s p = eqb (word l (p + workerMarks)) 0 || ltb (length l) (wordsNeeded s)
 
 -- "only if the directory is still the one that was read"
 unfoldable pub redirectedAt : List ℕ → Settings → ℕ → List ℕ
 redirectedAt l s p =
-    if eqb (word l (p + 8)) (word l 3)
-    then set (if nothingToSplit l s p then l else resolvedAt l s p (s .workers)) 3 (freshDirectory l (s .workers))
+    let l′ : List ℕ = if nothingToSplit l s p then l else resolvedAt l s p (s .workers) in
+    if eqb (word l (p + workerDirectory)) (word l headerNumber)
+    then set l′ headerNumber (freshDirectory l (s .workers))
     else l

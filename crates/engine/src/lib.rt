@@ -1,4 +1,5 @@
-// The steps of an update on the lent words: which step comes, each kind of step, and the directory swap with its splits.
+// The steps of an update on the lent words: which step comes, each kind of step, and the directory swap with its
+// splits.
 mod own;
 pub mod phase;
 pub mod splits;

@@ -3,15 +3,34 @@ ghost use mathlib.Core.Path.{_≡_};
 ghost use Prim.Native.Nat.{_+_, _≤_, _<_};
 ghost use lib.ListN.{length};
 ghost use Rattle.layout.specs.Shape.{Fits, Whole};
-ghost use Rattle.layout.specs.Places.{workerAt};
+ghost use Rattle.fields.specs.Fields.{widestRecord};
+ghost use Rattle.fields.specs.Regions.{workerAt};
 ghost use Rattle.engine.specs.Splits.{madeAt, directedAt, halfAt, deepenedAt, splitAt, splitWhileAt, carriedAt, takenAt, dueAt, duesAt, takenAll, resolvedAt, nothingToSplit, redirectedAt};
-use crate::steps::settled_word;
+use crate::steps::settled_ticket;
 use bucket::BucketState;
+use bucket::first_bits;
+use bucket::holds_back;
+use bucket::splittable;
+use fields::HEADER_DEPTH;
+use fields::HEADER_NUMBER;
+use fields::HEADER_SPARE;
+use fields::RECORD_COUNT;
+use fields::RECORD_DEPTH;
+use fields::RECORD_NUMBER;
+use fields::RECORD_PREFIX;
+use fields::RECORD_TOGGLE;
+use fields::SLOT_ACCOUNT;
+use fields::SLOT_KIND;
+use fields::SLOT_TICKET;
+use fields::WORKER_DIRECTORY;
+use fields::WORKER_MARKS;
+use interface::KIND_NONE;
 use interface::Settings;
+use layout::addresses::record_of;
+use layout::addresses::slot_read;
+use layout::addresses::slot_word;
+use layout::addresses::worker_word;
 use layout::numbers::fresh_directory;
-use layout::places::record_of;
-use layout::places::slot_word;
-use layout::places::worker_word;
 use layout::records::first_entry;
 use layout::records::needed;
 use layout::records::record_start;
@@ -20,13 +39,13 @@ use layout::shape::directory_start;
 
 // A new bucket of depth d and prefix q in the record at r.
 fn make(words: &mut [u64], g: Settings, r: usize, d: u64, q: u64, s: BucketState)
-    requires { ⌜ Fits (now words) g × (r + 54 ≤ length (now words)) ⌝ }
+    requires { ⌜ Fits (now words) g × (r + widestRecord ≤ length (now words)) ⌝ }
     ensures { λ _. ⌜ now (words .exit) ≡ madeAt (now (words .entry)) g r d q s ⌝ }
 {
-    memory::put(words, r + 2, 0);
-    memory::put(words, r + 3, d);
-    memory::put(words, r + 4, q);
-    memory::put(words, r + 5, 0);
+    memory::put(words, r + RECORD_TOGGLE, 0);
+    memory::put(words, r + RECORD_DEPTH, d);
+    memory::put(words, r + RECORD_PREFIX, q);
+    memory::put(words, r + RECORD_NUMBER, 0);
     memory::store_state(words, r, g.capacity as usize, g.workers as usize, s);
 }
 
@@ -48,31 +67,31 @@ fn half(words: &mut [u64], g: Settings, d: u64, q: u64, s: BucketState)
     let r = spare(words, g);
     let at = record_start(g, r);
     make(words, g, at, d, q, s.half(d, q));
-    memory::put(words, 4, r as u64 + 1);
+    memory::put(words, HEADER_SPARE, r as u64 + 1);
     direct(words, g, d, q, at);
 }
 
 // The directory's depth is d at least.
 fn deepen(words: &mut [u64], d: u64)
-    requires { ⌜ 54 ≤ length (now words) ⌝ }
+    requires { ⌜ widestRecord ≤ length (now words) ⌝ }
     ensures { λ _. ⌜ now (words .exit) ≡ deepenedAt (now (words .entry)) d ⌝ }
 {
-    if memory::get(words, 2) < d {
-        memory::put(words, 2, d);
+    if memory::get(words, HEADER_DEPTH) < d {
+        memory::put(words, HEADER_DEPTH, d);
     }
 }
 
 // The bucket in the record at q becomes two.
 fn split(words: &mut [u64], g: Settings, q: usize)
-    requires { ⌜ Whole (now words) g × ((1 ≤ g .depth) × (q + 54 ≤ length (now words))) ⌝ }
+    requires { ⌜ Whole (now words) g × ((1 ≤ g .depth) × (q + widestRecord ≤ length (now words))) ⌝ }
     ensures { λ _. ⌜ now (words .exit) ≡ splitAt (now (words .entry)) g q ⌝ }
 {
-    let d = memory::get(words, q + 3) % g.depth + 1;
-    let p = 2 * (memory::get(words, q + 4) % (1 << (d - 1)));
+    let d = memory::get(words, q + RECORD_DEPTH) % g.depth + 1;
+    let prefix = 2 * (memory::get(words, q + RECORD_PREFIX) % (1 << (d - 1)));
     let s = memory::load_state(words, q, g.capacity as usize, g.workers as usize);
     deepen(words, d);
-    half(words, g, d, p, s);
-    half(words, g, d, p + 1, s);
+    half(words, g, d, prefix, s);
+    half(words, g, d, prefix + 1, s);
 }
 
 // The account's bucket split while it is full and below the greatest depth.
@@ -83,10 +102,8 @@ fn split_while(words: &mut [u64], g: Settings, account: u64)
     let mut f = g.depth;
     while 0 < f {
         let q = record_of(words, g, account);
-        if memory::get(words, q) < g.capacity {
-            return;
-        }
-        if g.depth <= memory::get(words, q + 3) {
+        let depth = memory::get(words, q + RECORD_DEPTH);
+        if !splittable(g, depth, memory::get(words, q + RECORD_COUNT)) {
             return;
         }
         split(words, g, q);
@@ -96,20 +113,15 @@ fn split_while(words: &mut [u64], g: Settings, account: u64)
 
 // Worker i's update, as worker w has read it, carried out in the record at q.
 fn carry(words: &mut [u64], g: Settings, w: usize, i: usize, q: usize)
-    requires { ⌜ Fits (now words) g × ((w < g .workers) × ((i < g .workers) × (q + 54 ≤ length (now words)))) ⌝ }
+    requires { ⌜ Fits (now words) g
+        × ((w < g .workers) × ((i < g .workers) × (q + widestRecord ≤ length (now words)))) ⌝ }
     ensures { λ _. ⌜ now (words .exit) ≡ carriedAt (now (words .entry)) g (workerAt (g .workers) w) i q ⌝ }
 {
     let n = g.workers as usize;
     let b = g.capacity as usize;
     let s = memory::load_state(words, q, b, n);
-    let t = s.carry(
-        i,
-        slot_word(words, g, w, i, 0),
-        slot_word(words, g, w, i, 1),
-        slot_word(words, g, w, i, 2),
-        slot_word(words, g, w, i, 3),
-    );
-    memory::store_state(words, q, b, n, t);
+    let u = slot_read(words, g, w, i);
+    memory::store_state(words, q, b, n, s.carry(i, u));
 }
 
 // Worker i's update taken: splits first, then carried out if there is room.
@@ -117,9 +129,10 @@ fn take(words: &mut [u64], g: Settings, w: usize, i: usize)
     requires { ⌜ Whole (now words) g × ((w < g .workers) × (i < g .workers)) ⌝ }
     ensures { λ _. ⌜ now (words .exit) ≡ takenAt (now (words .entry)) g (workerAt (g .workers) w) i ⌝ }
 {
-    split_while(words, g, slot_word(words, g, w, i, 1));
-    let q = record_of(words, g, slot_word(words, g, w, i, 1));
-    if g.capacity <= memory::get(words, q) {
+    split_while(words, g, slot_word(words, g, w, i, SLOT_ACCOUNT));
+    let q = record_of(words, g, slot_word(words, g, w, i, SLOT_ACCOUNT));
+    let depth = memory::get(words, q + RECORD_DEPTH);
+    if holds_back(g, depth, memory::get(words, q + RECORD_COUNT)) {
         return;
     }
     carry(words, g, w, i, q);
@@ -127,23 +140,25 @@ fn take(words: &mut [u64], g: Settings, w: usize, i: usize)
 
 // Whether worker i's update, as worker w has read it, belongs to the bucket in the record at q and is unsettled there.
 fn due(words: &[u64], g: Settings, w: usize, q: usize, i: usize) -> bool
-    requires { ⌜ Fits (now words) g × ((w < g .workers) × ((i < g .workers) × (q + 54 ≤ length (now words)))) ⌝ }
+    requires { ⌜ Fits (now words) g
+        × ((w < g .workers) × ((i < g .workers) × (q + widestRecord ≤ length (now words)))) ⌝ }
     ensures { λ r. ⌜ r ≡ dueAt (now (words .entry)) g (workerAt (g .workers) w) q i ⌝ }
 {
-    if slot_word(words, g, w, i, 0) == 0 {
+    if slot_word(words, g, w, i, SLOT_KIND) == KIND_NONE {
         return false;
     }
-    if bucket::prefix(slot_word(words, g, w, i, 1), memory::get(words, q + 3))
-        != memory::get(words, q + 4)
+    let depth = memory::get(words, q + RECORD_DEPTH);
+    if first_bits(depth, slot_word(words, g, w, i, SLOT_ACCOUNT))
+        != memory::get(words, q + RECORD_PREFIX)
     {
         return false;
     }
-    settled_word(words, g, q, i) < slot_word(words, g, w, i, 3)
+    settled_ticket(words, g, q, i) < slot_word(words, g, w, i, SLOT_TICKET)
 }
 
 // The workers whose update is due there, as bits.
 fn dues(words: &[u64], g: Settings, w: usize, q: usize) -> u64
-    requires { ⌜ Fits (now words) g × ((w < g .workers) × (q + 54 ≤ length (now words))) ⌝ }
+    requires { ⌜ Fits (now words) g × ((w < g .workers) × (q + widestRecord ≤ length (now words))) ⌝ }
     ensures { λ r. ⌜ r ≡ duesAt (now (words .entry)) g (workerAt (g .workers) w) q (g .workers) ⌝ }
 {
     let mut bits: u64 = 0;
@@ -178,8 +193,8 @@ fn resolve(words: &mut [u64], g: Settings, w: usize)
 {
     let mut j: usize = 0;
     while j < g.workers as usize {
-        if (worker_word(words, g, w, 9) >> j) % 2 == 1 {
-            let q = record_of(words, g, slot_word(words, g, w, j, 1));
+        if (worker_word(words, g, w, WORKER_MARKS) >> j) % 2 == 1 {
+            let q = record_of(words, g, slot_word(words, g, w, j, SLOT_ACCOUNT));
             let bits = dues(words, g, w, q);
             take_all(words, g, w, bits);
         }
@@ -192,7 +207,7 @@ fn nothing(words: &[u64], g: Settings, w: usize) -> bool
     requires { ⌜ Fits (now words) g × (w < g .workers) ⌝ }
     ensures { λ r. ⌜ r ≡ nothingToSplit (now (words .entry)) g (workerAt (g .workers) w) ⌝ }
 {
-    if worker_word(words, g, w, 9) == 0 {
+    if worker_word(words, g, w, WORKER_MARKS) == 0 {
         return true;
     }
     words.len() < needed(g)
@@ -202,12 +217,12 @@ pub fn swap_directory(words: &mut [u64], g: Settings, w: usize)
     requires { ⌜ Fits (now words) g × (w < g .workers) ⌝ }
     ensures { λ _. ⌜ now (words .exit) ≡ redirectedAt (now (words .entry)) g (workerAt (g .workers) w) ⌝ }
 {
-    if worker_word(words, g, w, 8) != memory::get(words, 3) {
+    if worker_word(words, g, w, WORKER_DIRECTORY) != memory::get(words, HEADER_NUMBER) {
         return;
     }
     let x = fresh_directory(words, g);
     if !nothing(words, g, w) {
         resolve(words, g, w);
     }
-    memory::put(words, 3, x);
+    memory::put(words, HEADER_NUMBER, x);
 }

@@ -2,40 +2,73 @@
 ghost use mathlib.Core.Path.{_≡_};
 ghost use Prim.Native.Nat.{_+_, _≤_, _<_};
 ghost use lib.ListN.{length};
+ghost use Rattle.fields.specs.Fields.{widestRecord};
+ghost use Rattle.fields.specs.Regions.{workerAt};
 ghost use Rattle.layout.specs.Shape.{Fits};
-ghost use Rattle.layout.specs.Places.{workerAt, heldBy};
-ghost use Rattle.engine.specs.Engine.{announcedAt, slotReadAt, heldAt, flipBit, flippedAt, stateReadAt, toggleReadAt, directoryReadAt, roundAt, swappedAt, settledWord, foundBefore, marks, stateStepAt};
+ghost use Rattle.layout.specs.Addresses.{heldBy};
+ghost use Rattle.engine.specs.Engine.{announcedAt, slotReadAt, bucketReadAt, flipBit, flippedAt, stateReadAt, toggleReadAt, directoryReadAt, roundAt, swappedAt, settledTicket, settledAnswer, foundBefore, marks, stateStepAt};
 use crate::own::own_round;
+use bucket::splittable;
+use fields::HEADER_NUMBER;
+use fields::HEADER_SIZE;
+use fields::RECORD_ACCOUNTS;
+use fields::RECORD_APPLIED;
+use fields::RECORD_COUNT;
+use fields::RECORD_DEPTH;
+use fields::RECORD_NUMBER;
+use fields::RECORD_TOGGLE;
+use fields::SLOT_ACCOUNT;
+use fields::SLOT_KIND;
+use fields::SLOT_SIZE;
+use fields::SLOT_TICKET;
+use fields::WORKER_ACCOUNT;
+use fields::WORKER_DIRECTORY;
+use fields::WORKER_HELD;
+use fields::WORKER_MARKS;
+use fields::WORKER_SLOTS;
+use fields::WORKER_STATE;
+use fields::WORKER_TOGGLE;
+use interface::KIND_NONE;
 use interface::Settings;
+use layout::addresses::held_by;
+use layout::addresses::held_word;
+use layout::addresses::put_worker_word;
+use layout::addresses::record_of;
+use layout::addresses::slot_word;
+use layout::addresses::worker_at;
+use layout::addresses::worker_word;
 use layout::numbers::fresh_number;
-use layout::places::held_by;
-use layout::places::held_word;
-use layout::places::put_worker_word;
-use layout::places::record_of;
-use layout::places::slot_word;
-use layout::places::worker_at;
-use layout::places::worker_word;
 
 pub fn announce(words: &mut [u64], g: Settings, w: usize)
     requires { ⌜ Fits (now words) g × (w < g .workers) ⌝ }
     ensures { λ _. ⌜ now (words .exit) ≡ announcedAt (now (words .entry)) (workerAt (g .workers) w) w ⌝ }
 {
-    memory::copy(words, worker_at(g, w), 16 + 4 * w, 4);
+    memory::copy(
+        words,
+        worker_at(g, w),
+        HEADER_SIZE + SLOT_SIZE * w,
+        SLOT_SIZE,
+    );
 }
 
 pub fn read_slot(words: &mut [u64], g: Settings, w: usize, j: usize)
     requires { ⌜ Fits (now words) g × ((w < g .workers) × (j < g .workers)) ⌝ }
     ensures { λ _. ⌜ now (words .exit) ≡ slotReadAt (now (words .entry)) (workerAt (g .workers) w) j ⌝ }
 {
-    memory::copy(words, 16 + 4 * j, worker_at(g, w) + 24 + 4 * j, 4);
+    memory::copy(
+        words,
+        HEADER_SIZE + SLOT_SIZE * j,
+        worker_at(g, w) + WORKER_SLOTS + SLOT_SIZE * j,
+        SLOT_SIZE,
+    );
 }
 
 pub fn read_directory(words: &mut [u64], g: Settings, w: usize)
     requires { ⌜ Fits (now words) g × (w < g .workers) ⌝ }
-    ensures { λ _. ⌜ now (words .exit) ≡ heldAt (now (words .entry)) g (workerAt (g .workers) w) ⌝ }
+    ensures { λ _. ⌜ now (words .exit) ≡ bucketReadAt (now (words .entry)) g (workerAt (g .workers) w) ⌝ }
 {
-    let q = record_of(words, g, worker_word(words, g, w, 1));
-    put_worker_word(words, g, w, 5, q as u64);
+    let q = record_of(words, g, worker_word(words, g, w, WORKER_ACCOUNT));
+    put_worker_word(words, g, w, WORKER_HELD, q as u64);
 }
 
 // A word with bit w changed.
@@ -49,33 +82,53 @@ fn flip_bit(x: u64, w: usize) -> u64
 
 pub fn flip(words: &mut [u64], g: Settings, w: usize)
     requires { ⌜ Fits (now words) g × (w < g .workers) ⌝ }
-    ensures { λ _. ⌜ now (words .exit) ≡ flippedAt (now (words .entry)) (heldBy (now (words .entry)) (workerAt (g .workers) w)) w ⌝ }
+    ensures { λ _. ⌜ now (words .exit)
+        ≡ flippedAt (now (words .entry)) (heldBy (now (words .entry)) (workerAt (g .workers) w)) w ⌝ }
 {
     let q = held_by(words, g, w);
-    memory::put(words, q + 2, flip_bit(memory::get(words, q + 2), w));
+    memory::put(
+        words,
+        q + RECORD_TOGGLE,
+        flip_bit(memory::get(words, q + RECORD_TOGGLE), w),
+    );
 }
 
 pub fn read_state(words: &mut [u64], g: Settings, w: usize)
     requires { ⌜ Fits (now words) g × (w < g .workers) ⌝ }
-    ensures { λ _. ⌜ now (words .exit) ≡ stateReadAt (now (words .entry)) (workerAt (g .workers) w) (heldBy (now (words .entry)) (workerAt (g .workers) w)) ⌝ }
+    ensures { λ _. ⌜ now (words .exit)
+        ≡ stateReadAt (now (words .entry)) (workerAt (g .workers) w) (heldBy (now (words .entry)) (workerAt (g .workers) w)) ⌝ }
 {
-    put_worker_word(words, g, w, 6, held_word(words, g, w, 5));
+    put_worker_word(
+        words,
+        g,
+        w,
+        WORKER_STATE,
+        held_word(words, g, w, RECORD_NUMBER),
+    );
 }
 
 pub fn read_toggle(words: &mut [u64], g: Settings, w: usize)
     requires { ⌜ Fits (now words) g × (w < g .workers) ⌝ }
-    ensures { λ _. ⌜ now (words .exit) ≡ toggleReadAt (now (words .entry)) (workerAt (g .workers) w) (heldBy (now (words .entry)) (workerAt (g .workers) w)) ⌝ }
+    ensures { λ _. ⌜ now (words .exit)
+        ≡ toggleReadAt (now (words .entry)) (workerAt (g .workers) w) (heldBy (now (words .entry)) (workerAt (g .workers) w)) ⌝ }
 {
-    put_worker_word(words, g, w, 7, held_word(words, g, w, 2));
+    put_worker_word(
+        words,
+        g,
+        w,
+        WORKER_TOGGLE,
+        held_word(words, g, w, RECORD_TOGGLE),
+    );
 }
 
-// The state of the record at q after a round with what worker w has read. Where only its own bit differs, its own update is all that the round carries out.
+// The state of the record at q after a round with what worker w has read. Where only its own bit differs, its own
+// update is all that the round carries out.
 fn round(words: &mut [u64], g: Settings, w: usize, q: usize)
-    requires { ⌜ Fits (now words) g × ((w < g .workers) × (q + 54 ≤ length (now words))) ⌝ }
+    requires { ⌜ Fits (now words) g × ((w < g .workers) × (q + widestRecord ≤ length (now words))) ⌝ }
     ensures { λ _. ⌜ now (words .exit) ≡ roundAt (now (words .entry)) g (workerAt (g .workers) w) q ⌝ }
 {
-    let toggle = worker_word(words, g, w, 7);
-    let applied = memory::get(words, q + 1);
+    let toggle = worker_word(words, g, w, WORKER_TOGGLE);
+    let applied = memory::get(words, q + RECORD_APPLIED);
     if toggle == applied {
         return;
     }
@@ -86,40 +139,57 @@ fn round(words: &mut [u64], g: Settings, w: usize, q: usize)
     let n = g.workers as usize;
     let b = g.capacity as usize;
     let s = memory::load_state(words, q, b, n);
-    let from = worker_at(g, w) + 24;
-    let to = from + 4 * n;
-    let t = s.round(&words[from..to], n, g.capacity, toggle);
+    let depth = memory::get(words, q + RECORD_DEPTH);
+    let from = worker_at(g, w) + WORKER_SLOTS;
+    let to = from + SLOT_SIZE * n;
+    let t = s.round(&words[from..to], g, depth, toggle);
     memory::store_state(words, q, b, n, t);
 }
 
 pub fn swap(words: &mut [u64], g: Settings, w: usize)
     requires { ⌜ Fits (now words) g × (w < g .workers) ⌝ }
-    ensures { λ _. ⌜ now (words .exit) ≡ swappedAt (now (words .entry)) g (workerAt (g .workers) w) (heldBy (now (words .entry)) (workerAt (g .workers) w)) ⌝ }
+    ensures { λ _. ⌜ now (words .exit)
+        ≡ swappedAt (now (words .entry)) g (workerAt (g .workers) w) (heldBy (now (words .entry)) (workerAt (g .workers) w)) ⌝ }
 {
     let q = held_by(words, g, w);
-    if worker_word(words, g, w, 6) != memory::get(words, q + 5) {
+    if worker_word(words, g, w, WORKER_STATE) != memory::get(words, q + RECORD_NUMBER) {
         return;
     }
     let x = fresh_number(words, g, q);
     round(words, g, w, q);
-    memory::put(words, q + 5, x);
+    memory::put(words, q + RECORD_NUMBER, x);
 }
 
 pub fn copy_directory(words: &mut [u64], g: Settings, w: usize)
     requires { ⌜ Fits (now words) g × (w < g .workers) ⌝ }
     ensures { λ _. ⌜ now (words .exit) ≡ directoryReadAt (now (words .entry)) (workerAt (g .workers) w) ⌝ }
 {
-    put_worker_word(words, g, w, 8, memory::get(words, 3));
-    put_worker_word(words, g, w, 9, 0);
+    put_worker_word(
+        words,
+        g,
+        w,
+        WORKER_DIRECTORY,
+        memory::get(words, HEADER_NUMBER),
+    );
+    put_worker_word(words, g, w, WORKER_MARKS, 0);
 }
 
 // The ticket of worker j that is settled in the record at q.
-pub fn settled_word(words: &[u64], g: Settings, q: usize, j: usize) -> u64
-    requires { ⌜ Fits (now words) g × ((j < g .workers) × (q + 54 ≤ length (now words))) ⌝ }
-    ensures { λ r. ⌜ r ≡ settledWord (now (words .entry)) g q j ⌝ }
+pub fn settled_ticket(words: &[u64], g: Settings, q: usize, j: usize) -> u64
+    requires { ⌜ Fits (now words) g × ((j < g .workers) × (q + widestRecord ≤ length (now words))) ⌝ }
+    ensures { λ r. ⌜ r ≡ settledTicket (now (words .entry)) g q j ⌝ }
 {
     let b = g.capacity as usize;
-    memory::get(words, q + 6 + b + b + j)
+    memory::get(words, q + RECORD_ACCOUNTS + b + b + j)
+}
+
+// The number of the answer with which that ticket was settled.
+pub fn settled_answer(words: &[u64], g: Settings, q: usize, j: usize) -> u64
+    requires { ⌜ Fits (now words) g × ((j < g .workers) × (q + widestRecord ≤ length (now words))) ⌝ }
+    ensures { λ r. ⌜ r ≡ settledAnswer (now (words .entry)) g q j ⌝ }
+{
+    let b = g.capacity as usize;
+    memory::get(words, q + RECORD_ACCOUNTS + b + b + g.workers as usize + j)
 }
 
 // Whether a step of this round has found the bucket in the record at q before.
@@ -127,12 +197,12 @@ fn found_before(words: &[u64], g: Settings, w: usize, j: usize, q: usize) -> boo
     requires { ⌜ Fits (now words) g × ((w < g .workers) × (j < g .workers)) ⌝ }
     ensures { λ r. ⌜ r ≡ foundBefore (now (words .entry)) g (workerAt (g .workers) w) j q ⌝ }
 {
-    let bits = worker_word(words, g, w, 9);
+    let bits = worker_word(words, g, w, WORKER_MARKS);
     let mut i = j;
     while 0 < i {
         i -= 1;
         if (bits >> i) % 2 == 1 {
-            if record_of(words, g, slot_word(words, g, w, i, 1)) == q {
+            if record_of(words, g, slot_word(words, g, w, i, SLOT_ACCOUNT)) == q {
                 return true;
             }
         }
@@ -145,17 +215,15 @@ fn marking(words: &[u64], g: Settings, w: usize, j: usize) -> bool
     requires { ⌜ Fits (now words) g × ((w < g .workers) × (j < g .workers)) ⌝ }
     ensures { λ r. ⌜ r ≡ marks (now (words .entry)) g (workerAt (g .workers) w) j ⌝ }
 {
-    if slot_word(words, g, w, j, 0) == 0 {
+    if slot_word(words, g, w, j, SLOT_KIND) == KIND_NONE {
         return false;
     }
-    let q = record_of(words, g, slot_word(words, g, w, j, 1));
-    if memory::get(words, q) < g.capacity {
+    let q = record_of(words, g, slot_word(words, g, w, j, SLOT_ACCOUNT));
+    let depth = memory::get(words, q + RECORD_DEPTH);
+    if !splittable(g, depth, memory::get(words, q + RECORD_COUNT)) {
         return false;
     }
-    if g.depth <= memory::get(words, q + 3) {
-        return false;
-    }
-    if slot_word(words, g, w, j, 3) <= settled_word(words, g, q, j) {
+    if slot_word(words, g, w, j, SLOT_TICKET) <= settled_ticket(words, g, q, j) {
         return false;
     }
     !found_before(words, g, w, j, q)
@@ -166,9 +234,9 @@ pub fn state_step(words: &mut [u64], g: Settings, w: usize, j: usize)
     ensures { λ _. ⌜ now (words .exit) ≡ stateStepAt (now (words .entry)) g (workerAt (g .workers) w) j ⌝ }
 {
     if marking(words, g, w, j) {
-        let x = worker_word(words, g, w, 9);
+        let x = worker_word(words, g, w, WORKER_MARKS);
         if (x >> j) % 2 == 0 {
-            put_worker_word(words, g, w, 9, flip_bit(x, j));
+            put_worker_word(words, g, w, WORKER_MARKS, flip_bit(x, j));
         }
     }
 }

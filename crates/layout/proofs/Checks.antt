@@ -8,9 +8,11 @@ use lib.Dec.{ltb, leb, eqb}
 use lib.ListN.{length}
 use borrow.Author.Tests.{ltb-false, le-leb, lt-leb}
 use Rattle.interface.specs.declared.Settings.{Settings}
+use Rattle.fields.specs.Fields.{headerSettings, headerNeeded, markUnit, mark, widestRecord}
+use Rattle.fields.specs.Regions.{directoryStart, leastWords}
 use Rattle.machine.specs.Choice.{if_then_else_}
 use Rattle.machine.proofs.Base.{no-both, if-true, if-false}
-use Rattle.layout.specs.Shape.{word, mark, settingsOf, directoryStart, strange, shapeOf, Fits}
+use Rattle.layout.specs.Shape.{word, settingsOf, strange, shapeOf, Fits}
 
 -- ---- words that pass the checks
 
@@ -21,8 +23,9 @@ or-parts false b e = (refl, e)
 pub fits-of : (l : List ℕ) → strange l ≡ false → Fits l (shapeOf l)
 unfolding strange settingsOf
 fits-of l e =
-    let before : Bool = ltb (length l) 150 || not (eqb (word l 0 / 2_048) mark) || ltb (length l) (word l 1) in
-    let h = ltb-false (length l) (directoryStart (settingsOf (word l 0) .workers) + 54) (or-parts before _ e .1) in
+    let before : Bool =
+    ltb (length l) leastWords || not (eqb (word l headerSettings / markUnit) mark) || ltb (length l) (word l headerNeeded) in
+    let h = ltb-false (length l) (directoryStart (settingsOf (word l headerSettings) .workers) + widestRecord) (or-parts before _ e .1) in
     record {
       least = omega arith;
       workers = omega arith;
@@ -41,8 +44,12 @@ module _ (l : List ℕ) (x : Bool) (g : Settings) (tested : x ≡ strange l) whe
   pub fits-read : x ≡ false → g ≡ shapeOf l → Fits l g
   fits-read e h = rw h (fits-of l (sym tested ∙ e))
 
-  pub stranger-next : {A : Type 0} (a b c : A) (w : ℕ) → x ≡ false → g ≡ shapeOf l → g .workers ≤ w → b ≡ if strange l then a else if leb (shapeOf l .workers) w then b else c
+  pub stranger-next :
+      {A : Type 0} (a b c : A) (w : ℕ) → x ≡ false → g ≡ shapeOf l → g .workers ≤ w
+      → b ≡ if strange l then a else if leb (shapeOf l .workers) w then b else c
   stranger-next a b c w e h n = sym (if-false a _ (sym tested ∙ e) ∙ rw (← h) (if-true b c (le-leb (g .workers) w n)))
 
-  pub both-passed : {A : Type 0} (a b c : A) (w : ℕ) → x ≡ false → g ≡ shapeOf l → w < g .workers → c ≡ if strange l then a else if leb (shapeOf l .workers) w then b else c
+  pub both-passed :
+      {A : Type 0} (a b c : A) (w : ℕ) → x ≡ false → g ≡ shapeOf l → w < g .workers
+      → c ≡ if strange l then a else if leb (shapeOf l .workers) w then b else c
   both-passed a b c w e h n = sym (if-false a _ (sym tested ∙ e) ∙ rw (← h) (if-false b c (lt-leb (g .workers) w n)))

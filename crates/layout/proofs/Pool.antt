@@ -1,5 +1,5 @@
--- Bounds of the bucket records and of the directory's entries in words that hold every record, and the turns of the search for a spare record.
--- Rests on the bounds of a worker's words.
+-- Bounds of the bucket records and of the directory's entries in words that hold every record, and the turns of the search for a spare
+-- record. Rests on the bounds of a worker's words.
 use Prim.Native.Nat.{ℕ, zero, suc, _+_, _-_, _*_, _/_, _%_, _^_, _≤_, _<_}
 use native.Mathlib.Nat.{one-mul, suc-mul, mul-assoc, mul-le-mul, mul-le-mul-right, mod-lt, mod-add-div, add-mul-mod-self-left, add-mul, mul-mod-left}
 use native.Mathlib.Numerals.{add-one}
@@ -11,14 +11,15 @@ use lib.Dec.{ltb}
 use lib.ListN.{length}
 use lib.Pow.{pow-add, pow-pos, pow-mono, shl-exact, mod-pow-add}
 use borrow.Author.Tests.{lt-ltb, le-ltb, ltb-true}
+use Rattle.interface.specs.Limits.{greatestWorkers, greatestCapacity}
 use Rattle.interface.specs.declared.Settings.{Settings}
 use Rattle.machine.specs.Choice.{if_then_else_}
-use Rattle.machine.specs.Words.{wordsNeeded}
+use Rattle.fields.specs.Fields.{headerSpare, deepest, recordSize, widestRecord}
+use Rattle.fields.specs.Regions.{directoryStart, recordStart, poolSize, wordsNeeded, startOf}
 use Rattle.machine.proofs.Base.{if-elim, if-true}
-use Rattle.memory.specs.Layout.{startOf, poolAt, directoryAt, workersAt, recordSize, workerSize, poolSize}
-use Rattle.memory.proofs.Regions.{record-inside}
-use Rattle.layout.specs.Shape.{word, Whole, directoryStart}
-use Rattle.layout.specs.Records.{recordStart, poolOf, firstEntry, currentAt, heldByAny, usedAt, spareFrom, spareOf}
+use Rattle.fields.proofs.Regions.{record-inside}
+use Rattle.layout.specs.Shape.{word, Whole}
+use Rattle.layout.specs.Records.{firstEntry, currentAt, heldByAny, usedAt, spareFrom, spareOf}
 use Rattle.layout.proofs.Positions.{fits-kept, start-bound}
 
 -- ---- powers of two
@@ -30,47 +31,42 @@ shift-one w h = shl-exact {a = 1} 1 w 64 (omega arith) (omega arith) ∙ one-mul
 -- ---- records
 
 pub start-is : (s : Settings) (r a x : ℕ) → a ≡ directoryStart (s .workers) → x ≡ 2 ^ s .depth
-    → a + x + r * (2 * s .capacity + 2 * s .workers + 6) ≡ recordStart s r
+    → a + x + r * recordSize (s .capacity) (s .workers) ≡ recordStart s r
 unfolding recordStart
 start-is s r a x e f = rw (e, f)
 
-pub product-bound : (s : Settings) (r : ℕ) → s .workers ≤ 8 → s .capacity ≤ 16 → r ≤ 65_536
-    → r * (2 * s .capacity + 2 * s .workers + 6) ≤ 3_538_944
-product-bound s r h k m =
-    let size : 2 * s .capacity + 2 * s .workers + 6 ≤ 54 = omega arith in
-    mul-le-mul m size
-
-pub pool-bound : (s : Settings) → s .workers ≤ 8 → s .depth ≤ 15 → poolOf s ≤ 32_778
-unfolding poolOf
+pub pool-bound : (s : Settings) → s .workers ≤ greatestWorkers → s .depth ≤ deepest → poolSize s ≤ 32_778
+unfolding poolSize
 pool-bound s h k = let m = pow-mono k in omega arith
 
-pub record-start-bound : (s : Settings) (r : ℕ) → s .workers ≤ 8 → s .capacity ≤ 16 → s .depth ≤ 15 → r ≤ 65_536
-    → recordStart s r ≤ 3_572_208
-unfolding recordStart
-record-start-bound s r h k m n =
-    let a = start-bound (s .workers) h in
-    let b = pow-mono m in
-    let d = product-bound s r h k n in
-    omega arith
+module _ (s : Settings) (r : ℕ) (h : s .workers ≤ greatestWorkers) (k : s .capacity ≤ greatestCapacity) (m : s .depth ≤ deepest)
+    (n : r ≤ poolSize s) where
+  pub product-bound : r * recordSize (s .capacity) (s .workers) ≤ 1_770_012
+  product-bound =
+      let size : recordSize (s .capacity) (s .workers) ≤ widestRecord = omega arith in
+      let most = pool-bound s h m in
+      let few : r ≤ 32_778 = omega arith in
+      mul-le-mul few size
 
-pub needed-is : (s : Settings) → recordStart s (poolOf s) + 53 ≡ wordsNeeded s
-unfolding recordStart poolOf directoryStart wordsNeeded
-needed-is s = omega arith
+  pub record-start-bound : recordStart s r ≤ 1_803_276
+  unfolding recordStart
+  record-start-bound =
+      let a = start-bound (s .workers) h in
+      let b = pow-mono m in
+      let d = product-bound in
+      omega arith
 
 pub whole-kept : {l m : List ℕ} {s : Settings} → length l ≡ length m → Whole l s → Whole m s
 whole-kept e f = record { fits = fits-kept e (f .fits); all = omega arith }
 
 module _ {l : List ℕ} {s : Settings} (whole : Whole l s) where
-  pub pool-inside : (r : ℕ) → r < poolOf s → recordStart s r + 54 ≤ length l
-  unfolding recordStart directoryStart poolOf startOf poolAt directoryAt workersAt recordSize workerSize poolSize
+  pub pool-inside : (r : ℕ) → r < poolSize s → recordStart s r + widestRecord ≤ length l
+  unfolding startOf
   pool-inside r h = let w : Whole l s = whole in omega (arith, record-inside s r h)
 
   pub directory-inside : directoryStart (s .workers) + 2 ^ s .depth ≤ length l
-  unfolding recordStart
-  directory-inside =
-      let w : Whole l s = whole in
-      let n = needed-is s in
-      omega arith
+  unfolding wordsNeeded recordStart
+  directory-inside = let w : Whole l s = whole in omega arith
 
 -- ---- entries of the directory
 
@@ -81,14 +77,15 @@ entry-is s d q x w e f =
     let n : ℕ = 2 ^ s .depth in
     let k : ℕ = 2 ^ (s .depth - d) in
     let parts : q * k ≡ (q % n) * k + n * (q / n * k) =
-    sym (ap (λ (x : ℕ). x * k) (mod-add-div q n)) ∙ add-mul (q % n) (n * (q / n)) k ∙ ap (λ (x : ℕ). (q % n) * k + x) (mul-assoc n (q / n) k) in
+    sym (ap (λ (x : ℕ). x * k) (mod-add-div q n)) ∙ add-mul (q % n) (n * (q / n)) k
+    ∙ ap (λ (x : ℕ). (q % n) * k + x) (mul-assoc n (q / n) k) in
     rw (e, f, parts, add-mul-mod-self-left)
 
 -- a depth of at least M leaves one entry
 pub width-one : (m d : ℕ) → m ≤ d → 1 ≡ 2 ^ (m - d)
 width-one m d h = let e : m - d ≡ 0 = omega arith in rw e
 
-pub entry-product : (q m k x w : ℕ) → m ≤ 15 → k ≤ 15 → x ≡ 2 ^ m → w ≡ 2 ^ k → (q % x) * w ≤ 1_073_741_824
+pub entry-product : (q m k x w : ℕ) → m ≤ deepest → k ≤ deepest → x ≡ 2 ^ m → w ≡ 2 ^ k → (q % x) * w ≤ 1_073_741_824
 entry-product q m k x w h n e f =
     let a = pow-mono h in
     let b = mod-lt q (pow-pos m) in
@@ -107,7 +104,8 @@ entries-inside s d q h =
     let x : ℕ = q * 2 ^ m / 2 ^ m % 2 ^ d in
     let whole : s .depth ≡ d + m = omega arith in
     let all : 2 ^ s .depth ≡ 2 ^ d * 2 ^ m = ap (λ (j : ℕ). 2 ^ j) whole ∙ pow-add 2 d m in
-    let exact : q * 2 ^ m % 2 ^ s .depth ≡ x * 2 ^ m + q * 2 ^ m % 2 ^ m = ap (λ (j : ℕ). q * 2 ^ m % 2 ^ j) whole ∙ mod-pow-add (q * 2 ^ m) d m in
+    let exact : q * 2 ^ m % 2 ^ s .depth ≡ x * 2 ^ m + q * 2 ^ m % 2 ^ m =
+    ap (λ (j : ℕ). q * 2 ^ m % 2 ^ j) whole ∙ mod-pow-add (q * 2 ^ m) d m in
     let room : suc x * 2 ^ m ≤ 2 ^ d * 2 ^ m = mul-le-mul-right (2 ^ m) (mod-lt _ (pow-pos d)) in
     omega (arith, mul-mod-left q (2 ^ m), suc-mul x (2 ^ m))
 
@@ -125,7 +123,7 @@ module _ (l : List ℕ) (s : Settings) (r q : ℕ) (t : Bool) (e : q ≡ recordS
       rw h (k ∙ ap (heldByAny l (s .workers)) e)
 
 module _ (l : List ℕ) (s : Settings) where
-  pub spare-start : (x n : ℕ) → n ≡ poolOf s → x ≡ word l 4 → spareFrom l s (x % n) n ≡ spareOf l s
+  pub spare-start : (x n : ℕ) → n ≡ poolSize s → x ≡ word l headerSpare → spareFrom l s (x % n) n ≡ spareOf l s
   unfolding spareOf
   spare-start x n e f = rw (e, f)
 
@@ -134,34 +132,37 @@ module _ (l : List ℕ) (s : Settings) where
   spare-found r zero h e = absurd (omega arith)
   spare-found r (suc k) h e = rw e
 
-  spare-next : (r k n : ℕ) → 0 < k → usedAt l s r ≡ true → (if ltb (suc r) (poolOf s) then suc r else 0) ≡ n → spareFrom l s n (k - 1) ≡ spareFrom l s r k
+  spare-next :
+      (r k n : ℕ) → 0 < k → usedAt l s r ≡ true → (if ltb (suc r) (poolSize s) then suc r else 0) ≡ n
+      → spareFrom l s n (k - 1) ≡ spareFrom l s r k
   unfolding spareFrom
   spare-next r zero n h e f = absurd (omega arith)
   spare-next r (suc k) n h e f =
       let less : suc k - 1 ≡ k = omega arith in
       ap (spareFrom l s n) less ∙ sym (if-true _ r e ∙ ap (λ (x : ℕ). spareFrom l s x k) f)
 
-  pub spare-up : (r k : ℕ) → 0 < k → usedAt l s r ≡ true → r + 1 < poolOf s → spareFrom l s (r + 1) (k - 1) ≡ spareFrom l s r k
+  pub spare-up : (r k : ℕ) → 0 < k → usedAt l s r ≡ true → r + 1 < poolSize s → spareFrom l s (r + 1) (k - 1) ≡ spareFrom l s r k
   unfolding if_then_else_
-  spare-up r k h e b = spare-next r k (r + 1) h e (rw (lt-ltb (suc r) (poolOf s) (omega arith)) (sym (add-one r)))
+  spare-up r k h e b = spare-next r k (r + 1) h e (rw (lt-ltb (suc r) (poolSize s) (omega arith)) (sym (add-one r)))
 
-  pub spare-round : (r k : ℕ) → 0 < k → usedAt l s r ≡ true → poolOf s ≤ r + 1 → spareFrom l s 0 (k - 1) ≡ spareFrom l s r k
+  pub spare-round : (r k : ℕ) → 0 < k → usedAt l s r ≡ true → poolSize s ≤ r + 1 → spareFrom l s 0 (k - 1) ≡ spareFrom l s r k
   unfolding if_then_else_
-  spare-round r k h e b = spare-next r k 0 h e (rw (le-ltb (suc r) (poolOf s) (omega arith)))
+  spare-round r k h e b = spare-next r k 0 h e (rw (le-ltb (suc r) (poolSize s) (omega arith)))
 
   pub spare-end : (r k : ℕ) → k ≤ 0 → spareFrom l s r k ≡ r
   unfolding spareFrom
   spare-end r zero h = refl
   spare-end r (suc k) h = absurd (omega arith)
 
-  from-below : (r k : ℕ) → r < poolOf s → spareFrom l s r k < poolOf s
+  from-below : (r k : ℕ) → r < poolSize s → spareFrom l s r k < poolSize s
   unfolding spareFrom
   from-below r zero h = h
   from-below r (suc k) h =
-      if-elim (λ (x : ℕ). x < poolOf s) (usedAt l s r) _ r
-      (λ e. from-below _ k (if-elim (λ (x : ℕ). x < poolOf s) (ltb (suc r) (poolOf s)) (suc r) 0 (ltb-true (suc r) (poolOf s)) (λ b. omega arith)))
+      if-elim (λ (x : ℕ). x < poolSize s) (usedAt l s r) _ r
+      (λ e. from-below _ k (if-elim (λ (x : ℕ). x < poolSize s) (ltb (suc r) (poolSize s)) (suc r) 0 (ltb-true (suc r) (poolSize s))
+      (λ b. omega arith)))
       (λ e. h)
 
-  pub spare-below : spareOf l s < poolOf s
-  unfolding spareOf poolOf
+  pub spare-below : spareOf l s < poolSize s
+  unfolding spareOf poolSize
   spare-below = from-below _ _ (mod-lt _ (omega arith))

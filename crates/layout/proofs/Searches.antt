@@ -10,7 +10,8 @@ use lib.Dec.{eqb}
 use Rattle.machine.specs.Choice.{_and_}
 use Rattle.machine.proofs.Base.{if-true, if-false, and-right-false}
 use Rattle.layout.specs.Shape.{word}
-use Rattle.layout.specs.Places.{workerAt}
+use Rattle.fields.specs.Fields.{workerHeld, workerState}
+use Rattle.fields.specs.Regions.{workerAt}
 use Rattle.layout.specs.Numbers.{any, leastFree}
 
 module _ (f : ℕ → Bool) where
@@ -54,4 +55,4 @@ abbrev pub has : List ℕ → ℕ → ℕ → ℕ → ℕ → Bool
 has l n k x j = eqb (word l (workerAt n j + k)) x
 
 abbrev pub readNumber : List ℕ → ℕ → ℕ → ℕ → ℕ → Bool
-readNumber l n q x j = has l n 5 q j and has l n 6 x j
+readNumber l n q x j = has l n workerHeld q j and has l n workerState x j

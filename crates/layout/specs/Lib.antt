@@ -1,4 +1,4 @@
 pub mod Shape
-pub mod Places
+pub mod Addresses
 pub mod Numbers
 pub mod Records

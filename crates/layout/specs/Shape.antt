@@ -1,49 +1,51 @@
--- The header: what its first words say, for any words, and the checks behind 8. Rests on the layout.
+-- The header: what its first words say, for any words, and the checks behind 8. Rests on the regions of the lent words.
 use Prim.Native.Nat.{ℕ, _+_, _-_, _*_, _/_, _%_, _≤_}
 use mathlib.Core.Bool.{Bool, _||_, not}
 use mathlib.Core.List.{List}
 use lib.Dec.{ltb, eqb}
 use lib.ListN.{length, getD}
 use Rattle.interface.specs.declared.Settings.{Settings}
-use Rattle.machine.specs.Words.{wordsNeeded}
+use Rattle.interface.specs.Limits.{greatestWorkers, greatestCapacity}
+use Rattle.fields.specs.Fields.{headerSettings, headerNeeded, capacityUnit, depthUnit, deepest, markUnit, mark, widestRecord}
+use Rattle.fields.specs.Regions.{directoryStart, wordsNeeded, leastWords}
 
 abbrev pub word : List ℕ → ℕ → ℕ
 word l i = getD l i 0
 
--- what stands above the settings in the first word of an open table
-abbrev pub mark : ℕ
-mark = 6_004_514_763
-
--- the settings that a first word keeps: n-1 in 3 bits, b-1 in 4, M in 4
+-- the settings that a first word keeps
 unfoldable pub settingsOf : ℕ → Settings
-settingsOf x = record { workers = x % 8 + 1; capacity = x / 8 % 16 + 1; depth = x / 128 % 16 }
+settingsOf x =
+    record {
+      workers = x % greatestWorkers + 1;
+      capacity = x / capacityUnit % greatestCapacity + 1;
+      depth = x / depthUnit % (deepest + 1);
+    }
 
 unfoldable pub firstWord : Settings → ℕ
-firstWord s = mark * 2_048 + (s .workers - 1) + 8 * (s .capacity - 1) + 128 * s .depth
+firstWord s = mark * markUnit + (s .workers - 1) + capacityUnit * (s .capacity - 1) + depthUnit * s .depth
 
--- where the directory begins: past the header, the slots and the workers
-unfoldable pub directoryStart : ℕ → ℕ
-directoryStart n = 16 + 4 * n + n * (4 * n + 24)
-
--- The checks behind 8: too short for any table; no mark; a number of words needed above the words lent; too short for the workers and one record.
+-- The checks behind 8, strange, the field's unrecognised memory: too short for any table; no mark; a number of words
+-- needed above the words lent; too short for the workers and one record.
 unfoldable pub strange : List ℕ → Bool
 strange l =
-    ltb (length l) 150 || not (eqb (word l 0 / 2_048) mark) || ltb (length l) (word l 1)
-    || ltb (length l) (directoryStart (settingsOf (word l 0) .workers) + 54)
+    ltb (length l) leastWords
+    || not (eqb (word l headerSettings / markUnit) mark)
+    || ltb (length l) (word l headerNeeded)
+    || ltb (length l) (directoryStart (settingsOf (word l headerSettings) .workers) + widestRecord)
 
 -- the settings of the words at hand
 abbrev pub shapeOf : List ℕ → Settings
-shapeOf l = settingsOf (word l 0)
+shapeOf l = settingsOf (word l headerSettings)
 
--- What the code keeps of settings, and that words pass the checks with them: every word of the header, the slots and the workers is there,
--- and at least one bucket record's length after them.
+-- What the code keeps of settings, and that words pass the checks with them: every word of the header, the slots and
+-- the workers is there, and at least one bucket record's length after them.
 pub record Fits (l : List ℕ) (s : Settings) : Type 0 where
   pub least : 1 ≤ s .workers
-  pub workers : s .workers ≤ 8
+  pub workers : s .workers ≤ greatestWorkers
   pub least-capacity : 1 ≤ s .capacity
-  pub capacity : s .capacity ≤ 16
-  pub depth : s .depth ≤ 15
-  pub room : directoryStart (s .workers) + 54 ≤ length l
+  pub capacity : s .capacity ≤ greatestCapacity
+  pub depth : s .depth ≤ deepest
+  pub room : directoryStart (s .workers) + widestRecord ≤ length l
 
 -- and every word of every record is there
 pub record Whole (l : List ℕ) (s : Settings) : Type 0 where

@@ -1,14 +1,18 @@
 // Numbers of states and of the directory, used again: the least one that no worker has read.
 ghost use mathlib.Core.Path.{_≡_};
 ghost use Prim.Native.Nat.{_<_};
+ghost use Rattle.fields.specs.Fields.{workerSlots};
 ghost use Rattle.layout.specs.Shape.{Fits};
 ghost use Rattle.layout.specs.Numbers.{anyHas, numberTaken, freshNumber, freshDirectory};
-use crate::places::worker_word;
+use crate::addresses::worker_word;
+use fields::WORKER_DIRECTORY;
+use fields::WORKER_HELD;
+use fields::WORKER_STATE;
 use interface::Settings;
 
 // Whether word k of some worker's record is x.
 pub fn any_has(words: &[u64], g: Settings, k: usize, x: u64) -> bool
-    requires { ⌜ Fits (now words) g × (k < 24) ⌝ }
+    requires { ⌜ Fits (now words) g × (k < workerSlots) ⌝ }
     ensures { λ r. ⌜ r ≡ anyHas (now (words .entry)) (g .workers) k x ⌝ }
 {
     let mut j = g.workers as usize;
@@ -29,8 +33,8 @@ fn number_taken(words: &[u64], g: Settings, q: usize, x: u64) -> bool
     let mut j = g.workers as usize;
     while 0 < j {
         j -= 1;
-        if worker_word(words, g, j, 5) == q as u64 {
-            if worker_word(words, g, j, 6) == x {
+        if worker_word(words, g, j, WORKER_HELD) == q as u64 {
+            if worker_word(words, g, j, WORKER_STATE) == x {
                 return true;
             }
         }
@@ -60,7 +64,7 @@ pub fn fresh_directory(words: &[u64], g: Settings) -> u64
 {
     let mut x: u64 = 0;
     while x < g.workers {
-        if !any_has(words, g, 8, x) {
+        if !any_has(words, g, WORKER_DIRECTORY, x) {
             return x;
         }
         x += 1;

@@ -1,26 +1,35 @@
 // The header of the lent words: the settings it keeps, and the checks behind 8.
 ghost use mathlib.Core.Path.{_≡_};
 ghost use Prim.Native.Nat.{_≤_};
-ghost use Rattle.layout.specs.Shape.{strange, settingsOf, directoryStart};
-use crate::places::worker_at;
+ghost use Rattle.interface.specs.Limits.{greatestWorkers};
+ghost use Rattle.fields.specs.Regions.{directoryStart};
+ghost use Rattle.layout.specs.Shape.{strange, settingsOf};
+use crate::addresses::worker_at;
+use fields::CAPACITY_UNIT;
+use fields::DEEPEST;
+use fields::DEPTH_UNIT;
+use fields::HEADER_NEEDED;
+use fields::HEADER_SETTINGS;
+use fields::LEAST_WORDS;
+use fields::MARK;
+use fields::MARK_UNIT;
+use fields::WIDEST_RECORD;
 use interface::Settings;
-
-pub const MARK: u64 = 6004514763;
 
 // The settings that a first word keeps.
 pub fn settings_of(x: u64) -> Settings
     ensures { λ r. ⌜ r ≡ settingsOf x ⌝ }
 {
     Settings {
-        workers: x % 8 + 1,
-        capacity: x / 8 % 16 + 1,
-        depth: x / 128 % 16,
+        workers: x % Settings::GREATEST_WORKERS + 1,
+        capacity: x / CAPACITY_UNIT % Settings::GREATEST_CAPACITY + 1,
+        depth: x / DEPTH_UNIT % (DEEPEST + 1),
     }
 }
 
 // Where the directory begins: where one more worker's record would.
 pub fn directory_start(g: Settings) -> usize
-    requires { ⌜ g .workers ≤ 8 ⌝ }
+    requires { ⌜ g .workers ≤ greatestWorkers ⌝ }
     ensures { λ r. ⌜ r ≡ directoryStart (g .workers) ⌝ }
 {
     worker_at(g, g.workers as usize)
@@ -31,15 +40,15 @@ pub fn strange_words(words: &[u64]) -> bool
     ensures { λ r. ⌜ r ≡ strange (now (words .entry)) ⌝ }
 {
     let len = words.len();
-    if len < 150 {
+    if len < LEAST_WORDS {
         return true;
     }
-    let x = words[0];
-    if x / 2048 != MARK {
+    let x = words[HEADER_SETTINGS];
+    if x / MARK_UNIT != MARK {
         return true;
     }
-    if (len as u64) < words[1] {
+    if (len as u64) < words[HEADER_NEEDED] {
         return true;
     }
-    len < directory_start(settings_of(x)) + 54
+    len < directory_start(settings_of(x)) + WIDEST_RECORD
 }

@@ -1,26 +1,39 @@
-// The functions on a bucket record behind a C interface, for the comparison under bench/: a record's state is loaded, changed and stored.
+// The functions on a bucket record behind a C interface, for the comparison under bench/: a record's state is loaded,
+// changed and stored.
 use bucket::BucketState;
-use bucket::Place;
+use bucket::Position;
+use fields::WIDEST_RECORD;
+use interface::Settings;
 
-// A place as a number: twice the place, and 1 more where the account stands there.
-fn place_number(place: Place) -> u64 {
-    match place {
-        Place::At(i) => { if i < 1000 { 2 * i as u64 + 1 } else { 0 } }
-        Place::Before(i) => { if i < 1000 { 2 * i as u64 } else { 0 } }
+// The operations that a number names.
+const SEARCH: u64 = 1;
+
+const PUT: u64 = 2;
+
+const REMOVE: u64 = 3;
+
+const HALF: u64 = 4;
+
+// A position as a number: twice its index, and 1 more where the account stands there.
+fn position_number(position: Position) -> u64 {
+    match position {
+        Position::At(i) => { if i < 1000 { 2 * i as u64 + 1 } else { 0 } }
+        Position::Before(i) => { if i < 1000 { 2 * i as u64 } else { 0 } }
     }
 }
 
 // The state changed in the way that a number names; any other number leaves it.
 fn changed(state: BucketState, which: u64, account: u64, total: u64) -> BucketState {
     match which {
-        2 => state.put(account, total),
-        3 => state.remove(account),
-        4 => state.half(account, total),
+        PUT => state.put(state.search(account), account, total),
+        REMOVE => state.remove(state.search(account)),
+        HALF => state.half(account, total),
         _ => state,
     }
 }
 
-// 1 searches the record at q; any other number stores the changed state at `to`. Nothing is done where a record does not fit.
+// SEARCH searches the record at q; any other number stores the changed state at `to`. Nothing is done where a record
+// does not fit.
 #[no_mangle]
 pub extern "C" fn leaf(
     words: &mut [u64],
@@ -32,25 +45,25 @@ pub extern "C" fn leaf(
     account: u64,
     total: u64,
 ) -> u64 {
-    if words.len() < 54 {
+    if words.len() < WIDEST_RECORD {
         return 0;
     }
-    let most = words.len() - 54;
+    let most = words.len() - WIDEST_RECORD;
     if most < q {
         return 0;
     }
     if most < to {
         return 0;
     }
-    if 16 < b {
+    if Settings::GREATEST_CAPACITY < b as u64 {
         return 0;
     }
-    if 8 < n {
+    if Settings::GREATEST_WORKERS < n as u64 {
         return 0;
     }
     let state = memory::load_state(words, q, b, n);
-    if which == 1 {
-        return place_number(state.search(account));
+    if which == SEARCH {
+        return position_number(state.search(account));
     }
     memory::store_state(words, to, b, n, changed(state, which, account, total));
     0

@@ -2,6 +2,7 @@
 -- They rest on the definitions of specs/.
 pub mod Splitting
 pub mod Numerals
+pub mod Pairs
 pub mod Longest
 pub mod Streaming
 pub mod Session

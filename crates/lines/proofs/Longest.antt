@@ -1,4 +1,4 @@
--- No line of more than 39 bytes means anything: `I 65535 4294967295 -9223372036854775808` is a longest one that does.
+-- No line of more than longestLine bytes means anything: `I 65535 4294967295 -9223372036854775808` is a longest that does.
 -- Rests on the definitions of specs/Grammar.
 use Prim.Native.Nat.{ℕ, zero, suc, _+_, _-_, _*_, _^_, _≤_, _<_}
 use mathlib.Core.Path.{_≡_, refl, sym, _∙_, ap}
@@ -12,22 +12,14 @@ use lib.IntN.{ℤ, pos, negsuc}
 use lib.ListN.{length}
 use borrow.Author.Tests.{leb-true, leb-false, eqb-false}
 use Rattle.machine.specs.Choice.{if_then_else_}
-use Rattle.machine.proofs.Base.{and-parts}
+use Rattle.machine.proofs.Base.{and-parts, if-elim}
+use Rattle.replies.specs.Ascii.{space, minusSign, zeroDigit, nineDigit}
 use Rattle.lines.specs.declared.command.Command.{Command}
 use Rattle.lines.specs.declared.command.Command.the-variants.{Open, Insert, Delete, Lookup, Steps, Unread}
-use Rattle.lines.specs.Numerals.{isDigit, digitsAfter, zeroThen, numeral, plus, minus, signedNumeral, upTo, from, in64}
-use Rattle.lines.specs.Grammar.{before, partsAt, fieldsOf, letterOf, smallOf, accountOf, totalOf, stepsOf, with2, with3, oneField, threeFields, fourFields, ofFields, commandOf}
-
--- ---- a test that lets something through
-
-module _ {A : Type 0} where
-  some-none : {a : A} → some a ≡ none → ⊥
-  some-none {a} e = let z : _≡_ {A = ℕ} 0 1 = cc in omega arith
-
-  passed : (t : Bool) (o : Option A) (v : A) → if t then o else none ≡ some v → (t ≡ true) × (o ≡ some v)
-  unfolding if_then_else_
-  passed true o v e = (refl, e)
-  passed false o v e = absurd (some-none (sym e))
+use Rattle.lines.specs.Numerals.{isDigit, digitsAfter, zeroThen, numeral, plus, minus, signedNumeral, upTo, from, in64, greatestTotal, leastTotalSize}
+use Rattle.lines.specs.Grammar.{greatestSmall, greatestAccount, leastSteps, greatestSteps, openLetter, insertLetter, deleteLetter, lookupLetter, stepsLetter, before, partsAt, fieldsOf, letterOf, smallOf, accountOf, totalOf, stepsOf, with2, with3, oneField, threeFields, fourFields, ofFields, commandOf}
+use Rattle.lines.specs.Reading.{longestLine}
+use Rattle.lines.proofs.Numerals.{some-none, passed}
 
 -- ---- the length of a number
 
@@ -36,8 +28,8 @@ grows : (a : ℕ) (f : List ℕ) (v : ℕ) → digitsAfter a f ≡ some v → a 
 unfolding digitsAfter
 grows a [] v e = let q : a ≡ v = cc in omega (arith, mul-one a)
 grows a (b ∷ f) v e =
-    let h = grows (a * 10 + (b - 48)) f v (passed (isDigit b) _ v e .1) in
-    let k = mul-le-mul-right (10 ^ length f) (le-add-right (a * 10) (b - 48)) in
+    let h = grows (a * 10 + (b - zeroDigit)) f v (passed (isDigit b) _ v e .1) in
+    let k = mul-le-mul-right (10 ^ length f) (le-add-right (a * 10) (b - zeroDigit)) in
     let q : a * 10 ^ suc (length f) ≡ a * 10 * 10 ^ length f = ap (λ (n : ℕ). a * n) (pow-succ' 10 (length f))
     ∙ sym (mul-assoc a 10 (10 ^ length f)) in
     omega arith
@@ -54,13 +46,14 @@ unfolding zeroThen
 lone-zero k [] v e = omega arith
 lone-zero k (b ∷ f) v e = absurd (some-none (sym e))
 
-first-digit : (k b : ℕ) (f : List ℕ) (v : ℕ) → digitsAfter 0 (b ∷ f) ≡ some v → (b ≡ 48 → ⊥) → v < 10 ^ suc k → suc (length f) ≤ suc k
+first-digit : (k b : ℕ) (f : List ℕ) (v : ℕ) → digitsAfter 0 (b ∷ f) ≡ some v → (b ≡ zeroDigit → ⊥) → v < 10 ^ suc k
+    → suc (length f) ≤ suc k
 unfolding digitsAfter isDigit
 first-digit k b f v e z h =
     let p = passed (isDigit b) _ v e in
-    let low = leb-true 48 b (and-parts (leb 48 b) (leb b 57) (p .0) .0) in
-    let g = grows (0 * 10 + (b - 48)) f v (p .1) in
-    let one : 1 ≤ 0 * 10 + (b - 48) = omega arith in
+    let low = leb-true zeroDigit b (and-parts (leb zeroDigit b) (leb b nineDigit) (p .0) .0) in
+    let g = grows (0 * 10 + (b - zeroDigit)) f v (p .1) in
+    let one : 1 ≤ 0 * 10 + (b - zeroDigit) = omega arith in
     let m = mul-le-mul-right (10 ^ length f) one in
     let n = shorter k (length f) (omega (arith, one-mul (10 ^ length f))) in
     omega arith
@@ -69,11 +62,11 @@ first-digit k b f v e z h =
 numeral-length : (k : ℕ) (f : List ℕ) (v : ℕ) → numeral f ≡ some v → v < 10 ^ suc k → length f ≤ suc k
 unfolding numeral if_then_else_
 numeral-length k [] v e h = absurd (some-none (sym e))
-numeral-length k (b ∷ f) v e h = by (eqb b 48) refl e
+numeral-length k (b ∷ f) v e h = by (eqb b zeroDigit) refl e
   where
-    by : (t : Bool) → eqb b 48 ≡ t → if t then zeroThen f else digitsAfter 0 (b ∷ f) ≡ some v → suc (length f) ≤ suc k
+    by : (t : Bool) → eqb b zeroDigit ≡ t → if t then zeroThen f else digitsAfter 0 (b ∷ f) ≡ some v → suc (length f) ≤ suc k
     by true q p = lone-zero k f v p
-    by false q p = first-digit k b f v p (eqb-false b 48 q) h
+    by false q p = first-digit k b f v p (eqb-false b zeroDigit q) h
 
 -- within a limit of the grammar
 limited-length : (most k : ℕ) (f : List ℕ) (v : ℕ) → most < 10 ^ suc k → upTo most (numeral f) ≡ some v → length f ≤ suc k
@@ -89,43 +82,60 @@ limited-length most k f v h e = by (numeral f) refl e
 
 -- ---- the fields of a command
 
-small-length : (f : List ℕ) (v : ℕ) → smallOf f ≡ some v → length f ≤ 5
+-- the most bytes of each
+abbrev smallLength : ℕ
+smallLength = 5
+
+abbrev accountLength : ℕ
+accountLength = 10
+
+abbrev stepsLength : ℕ
+stepsLength = 4
+
+abbrev sizeLength : ℕ
+sizeLength = 19
+
+-- with the minus
+abbrev totalLength : ℕ
+totalLength = suc sizeLength
+
+small-length : (f : List ℕ) (v : ℕ) → smallOf f ≡ some v → length f ≤ smallLength
 unfolding smallOf
-small-length f v e = limited-length 65_535 4 f v (lit< tt) e
+small-length f v e = limited-length greatestSmall 4 f v (lit< tt) e
 
-account-length : (f : List ℕ) (v : ℕ) → accountOf f ≡ some v → length f ≤ 10
+account-length : (f : List ℕ) (v : ℕ) → accountOf f ≡ some v → length f ≤ accountLength
 unfolding accountOf
-account-length f v e = limited-length 4_294_967_295 9 f v (lit< tt) e
+account-length f v e = limited-length greatestAccount 9 f v (lit< tt) e
 
-steps-length : (f : List ℕ) (v : ℕ) → stepsOf f ≡ some v → length f ≤ 4
+steps-length : (f : List ℕ) (v : ℕ) → stepsOf f ≡ some v → length f ≤ stepsLength
 unfolding stepsOf from
-steps-length f v e = by (upTo 9_999 (numeral f)) refl e
+steps-length f v e = by (upTo greatestSteps (numeral f)) refl e
   where
-    by : (o : Option ℕ) → upTo 9_999 (numeral f) ≡ o → from 1 o ≡ some v → length f ≤ 4
+    by : (o : Option ℕ) → upTo greatestSteps (numeral f) ≡ o → from leastSteps o ≡ some v → length f ≤ stepsLength
     by none q p = absurd (some-none (sym p))
-    by (some u) q p = limited-length 9_999 3 f u (lit< tt) q
+    by (some u) q p = limited-length greatestSteps 3 f u (lit< tt) q
 
-unsigned-length : (f : List ℕ) (o : Option ℕ) (z : ℤ) → numeral f ≡ o → in64 (plus o) ≡ some z → length f ≤ 19
+unsigned-length : (f : List ℕ) (o : Option ℕ) (z : ℤ) → numeral f ≡ o → in64 (plus o) ≡ some z → length f ≤ sizeLength
 unfolding plus in64
 unsigned-length f none z q p = absurd (some-none (sym p))
 unsigned-length f (some n) z q p =
-    let h = leb-true n (2 ^ 63 - 1) (passed (leb n (2 ^ 63 - 1)) (some (pos n)) z p .0) in
+    let h = leb-true n greatestTotal (passed (leb n greatestTotal) (some (pos n)) z p .0) in
     numeral-length 18 f n q (omega arith)
 
-negative-length : (f : List ℕ) (o : Option ℕ) (z : ℤ) → numeral f ≡ o → in64 (minus o) ≡ some z → length f ≤ 19
+negative-length : (f : List ℕ) (o : Option ℕ) (z : ℤ) → numeral f ≡ o → in64 (minus o) ≡ some z → length f ≤ sizeLength
 unfolding minus in64
 negative-length f none z q p = absurd (some-none (sym p))
 negative-length f (some zero) z q p = absurd (some-none (sym p))
 negative-length f (some (suc n)) z q p =
-    let h =
-    leb-true (suc n) (2 ^ 63) (passed (leb (suc n) (2 ^ 63)) (some (negsuc n)) z p .0) in numeral-length 18 f (suc n) q (omega arith)
+    let h = leb-true (suc n) leastTotalSize (passed (leb (suc n) leastTotalSize) (some (negsuc n)) z p .0) in
+    numeral-length 18 f (suc n) q (omega arith)
 
-total-length : (f : List ℕ) (z : ℤ) → totalOf f ≡ some z → length f ≤ 20
+total-length : (f : List ℕ) (z : ℤ) → totalOf f ≡ some z → length f ≤ totalLength
 unfolding totalOf signedNumeral if_then_else_
 total-length [] z e = omega arith
-total-length (b ∷ f) z e = by (eqb b 45) e
+total-length (b ∷ f) z e = by (eqb b minusSign) e
   where
-    by : (t : Bool) → in64 (if t then minus (numeral f) else plus (numeral (b ∷ f))) ≡ some z → suc (length f) ≤ 20
+    by : (t : Bool) → in64 (if t then minus (numeral f) else plus (numeral (b ∷ f))) ≡ some z → suc (length f) ≤ totalLength
     by true p = let h = negative-length f (numeral f) z refl p in omega arith
     by false p = let h = unsigned-length (b ∷ f) (numeral (b ∷ f)) z refl p in omega arith
 
@@ -148,29 +158,32 @@ long3 f (some u) none q x y z a b c i j k h = refl
 long3 f (some u) (some v) none x y z a b c i j k h = refl
 long3 f (some u) (some v) (some w) x y z a b c i j k h = let l = i u refl in let m = j v refl in let n = k w refl in absurd (omega arith)
 
-both : {A : Type 0} (t : Bool) (x y z : A) → x ≡ z → y ≡ z → if t then x else y ≡ z
-unfolding if_then_else_
-both true x y z e f = e
-both false x y z e f = f
+-- a choice between commands that are all unread
+none-of : (t : Bool) {x y : Command} → x ≡ Unread → y ≡ Unread → if t then x else y ≡ Unread
+none-of t {x} {y} e f = if-elim (λ c. c ≡ Unread) t x y (λ _. e) (λ _. f)
 
-long-three : (letter : ℕ) (x y : List ℕ) → 15 < length x + length y → threeFields letter x y ≡ Unread
+long-three : (letter : ℕ) (x y : List ℕ) → smallLength + accountLength < length x + length y → threeFields letter x y ≡ Unread
 unfolding threeFields
 long-three letter x y h =
-    both (eqb letter 68) _ _ Unread (long2 Delete (smallOf x) (accountOf y) (length x) (length y) 5 10 (small-length x) (account-length y)
-    h)
-    (both (eqb letter 76) _ _ Unread (long2 Lookup (smallOf x) (accountOf y) (length x) (length y) 5 10 (small-length x) (account-length y)
-    h)
-    (both (eqb letter 83) _ _ Unread (long2 Steps (smallOf x) (stepsOf y) (length x) (length y) 5 4 (small-length x) (steps-length y)
-    (omega arith)) refl))
+    let keyed : (f : ℕ → ℕ → Command) → with2 f (smallOf x) (accountOf y) ≡ Unread = λ f. long2 f (smallOf x) (accountOf y) (length x)
+    (length y) smallLength accountLength (small-length x) (account-length y) h in
+    none-of (eqb letter deleteLetter) (keyed Delete)
+    (none-of (eqb letter lookupLetter) (keyed Lookup)
+    (none-of (eqb letter stepsLetter)
+    (long2 Steps (smallOf x) (stepsOf y) (length x) (length y) smallLength stepsLength (small-length x) (steps-length y) (omega arith))
+    refl))
 
-long-four : (letter : ℕ) (x y z : List ℕ) → 35 < length x + length y + length z → fourFields letter x y z ≡ Unread
+long-four : (letter : ℕ) (x y z : List ℕ) → smallLength + accountLength + totalLength < length x + length y + length z
+    → fourFields letter x y z ≡ Unread
 unfolding fourFields
 long-four letter x y z h =
-    both (eqb letter 79) _ _ Unread (long3 Open (smallOf x) (smallOf y) (smallOf z) (length x) (length y) (length z) 5 5 5 (small-length x)
+    none-of (eqb letter openLetter)
+    (long3 Open (smallOf x) (smallOf y) (smallOf z) (length x) (length y) (length z) smallLength smallLength smallLength (small-length x)
     (small-length y) (small-length z) (omega arith))
-    (both (eqb letter 73) _ _ Unread
-    (long3 Insert (smallOf x) (accountOf y) (totalOf z) (length x) (length y) (length z) 5 10 20 (small-length x) (account-length y)
-    (total-length z) h) refl)
+    (none-of (eqb letter insertLetter)
+    (long3 Insert (smallOf x) (accountOf y) (totalOf z) (length x) (length y) (length z) smallLength accountLength totalLength
+    (small-length x) (account-length y) (total-length z) h)
+    refl)
 
 -- ---- lines
 
@@ -188,10 +201,10 @@ span-step false b n (p ∷ ps) e = omega arith
 span-of : (l : List ℕ) → suc (length l) ≡ span (fieldsOf l)
 unfolding fieldsOf partsAt
 span-of [] = omega arith
-span-of (b ∷ bs) = span-step (eqb b 32) b (length bs) (fieldsOf bs) (span-of bs)
+span-of (b ∷ bs) = span-step (eqb b space) b (length bs) (fieldsOf bs) (span-of bs)
 
 -- a first field of one byte, or none that counts
-long-fields : (fs : List (List ℕ)) → 40 < span fs → ofFields fs ≡ Unread
+long-fields : (fs : List (List ℕ)) → suc longestLine < span fs → ofFields fs ≡ Unread
 unfolding ofFields letterOf oneField if_then_else_ threeFields fourFields
 long-fields [] h = refl
 long-fields ([] ∷ []) h = refl
@@ -206,7 +219,7 @@ long-fields ((b ∷ []) ∷ x ∷ y ∷ z ∷ []) h = long-four b x y z (omega a
 long-fields ((b ∷ c ∷ f) ∷ x ∷ y ∷ z ∷ []) h = refl
 long-fields (f ∷ x ∷ y ∷ z ∷ g ∷ gs) h = refl
 
--- "so the bound loses nothing": a line of more than 39 bytes is unread
-pub longest : (l : List ℕ) → 39 < length l → commandOf l ≡ Unread
+-- "so the bound loses nothing": a longer line is unread
+pub long-unread : (l : List ℕ) → longestLine < length l → commandOf l ≡ Unread
 unfolding commandOf
-longest l h = long-fields (fieldsOf l) (let e = span-of l in omega arith)
+long-unread l h = long-fields (fieldsOf l) (let e = span-of l in omega arith)

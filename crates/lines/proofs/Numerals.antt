@@ -1,5 +1,5 @@
 -- Reading numbers within a limit, and what the source's enums say of it. Rests on the definitions of specs/Numerals.
-use Prim.Native.Nat.{ℕ, zero, suc, _+_, _-_, _*_, _^_, _≤_, _<_}
+use Prim.Native.Nat.{ℕ, zero, suc, _+_, _-_, _*_, _≤_, _<_}
 use mathlib.Core.Path.{_≡_, refl, sym, _∙_, ap}
 use mathlib.Core.Bool.{Bool, true, false}
 use mathlib.Core.List.{List, [], _∷_}
@@ -12,9 +12,10 @@ use lib.ListN.{length, drop, getD, drop-of-length-le}
 use lib.Seq.{drop-cons}
 use borrow.Author.Tests.{eq-eqb, ne-eqb, le-leb, lt-leb, leb-true}
 use Rattle.machine.specs.Choice.{if_then_else_, _and_}
+use Rattle.replies.specs.Ascii.{minusSign, zeroDigit, nineDigit}
 use Rattle.lines.specs.declared.number.Number.the-variants as Number
 use Rattle.lines.specs.declared.number.Signed.the-variants as Signed
-use Rattle.lines.specs.Numerals.{isDigit, digitsAfter, zeroThen, numeral, plus, minus, signedNumeral, upTo, in64, asNumber, asSigned}
+use Rattle.lines.specs.Numerals.{isDigit, digitsAfter, zeroThen, numeral, plus, minus, signedNumeral, upTo, in64, asNumber, asSigned, greatestTotal, leastTotalSize}
 
 -- ---- the source's enums
 
@@ -64,34 +65,40 @@ pub past : (most v : ℕ) → most < v → upTo most (some v) ≡ none
 unfolding upTo if_then_else_
 past most v h = rw (lt-leb v most h)
 
-kept : (t : Bool) (u v : ℕ) → if t then some u else none ≡ some v → (t ≡ true) × (u ≡ v)
-unfolding if_then_else_
-kept true u v e = (refl, cc)
-kept false u v e = let z : _≡_ {A = ℕ} 0 1 = cc in absurd (omega arith)
+module _ {A : Type 0} where
+  pub some-none : {a : A} → some a ≡ none → ⊥
+  some-none {a} e = let z : _≡_ {A = ℕ} 0 1 = cc in omega arith
+
+  -- a test that lets something through
+  pub passed : (t : Bool) (o : Option A) (v : A) → if t then o else none ≡ some v → (t ≡ true) × (o ≡ some v)
+  unfolding if_then_else_
+  passed true o v e = (refl, e)
+  passed false o v e = absurd (some-none (sym e))
 
 -- what is read within a limit is within it, and was read
 pub limited : (most : ℕ) (o : Option ℕ) (v : ℕ) → upTo most o ≡ some v → v ≤ most
 unfolding upTo
-limited most none v e = let z : _≡_ {A = ℕ} 0 1 = cc in absurd (omega arith)
+limited most none v e = absurd (some-none (sym e))
 limited most (some u) v e =
-    let k = kept (leb u most) u v e in
+    let k = passed (leb u most) (some u) v e in
     let h = leb-true u most (k .0) in
-    let q : u ≡ v = k .1 in
+    let r : some u ≡ some v = k .1 in
+    let q : u ≡ v = cc in
     omega arith
 
 -- ---- digits
 
-pub digit-yes : (b : ℕ) → 48 ≤ b → b ≤ 57 → isDigit b ≡ true
+pub digit-yes : (b : ℕ) → zeroDigit ≤ b → b ≤ nineDigit → isDigit b ≡ true
 unfolding isDigit _and_
-digit-yes b h k = rw (le-leb 48 b h, le-leb b 57 k)
+digit-yes b h k = rw (le-leb zeroDigit b h, le-leb b nineDigit k)
 
-pub digit-low : (b : ℕ) → b < 48 → isDigit b ≡ false
+pub digit-low : (b : ℕ) → b < zeroDigit → isDigit b ≡ false
 unfolding isDigit _and_
-digit-low b h = rw (lt-leb 48 b h)
+digit-low b h = rw (lt-leb zeroDigit b h)
 
-pub digit-high : (b : ℕ) → 57 < b → isDigit b ≡ false
+pub digit-high : (b : ℕ) → nineDigit < b → isDigit b ≡ false
 unfolding isDigit _and_
-digit-high b h = rw (le-leb 48 b (omega arith), lt-leb b 57 h)
+digit-high b h = rw (le-leb zeroDigit b (omega arith), lt-leb b nineDigit h)
 
 past-if : (t : Bool) (most : ℕ) (o : Option ℕ) → upTo most o ≡ none → upTo most (if t then o else none) ≡ none
 unfolding upTo if_then_else_
@@ -103,7 +110,7 @@ pub stays-past : (most v : ℕ) (bs : List ℕ) → most < v → upTo most (digi
 unfolding digitsAfter
 stays-past most v [] h = past most v h
 stays-past most v (b ∷ bs) h =
-    past-if (isDigit b) most (digitsAfter (v * 10 + (b - 48)) bs) (stays-past most (v * 10 + (b - 48)) bs (omega arith))
+    past-if (isDigit b) most (digitsAfter (v * 10 + (b - zeroDigit)) bs) (stays-past most (v * 10 + (b - zeroDigit)) bs (omega arith))
 
 -- one byte of a field, read after those that said v
 module _ (most v : ℕ) (l : List ℕ) (i : ℕ) (h : i < length l) where
@@ -111,19 +118,20 @@ module _ (most v : ℕ) (l : List ℕ) (i : ℕ) (h : i < length l) where
   unfolding digitsAfter upTo if_then_else_
   stop e = rw (drop-cons l i 0 h, e)
 
-  pub stop-low : getD l i 0 < 48 → upTo most (digitsAfter v (drop i l)) ≡ none
+  pub stop-low : getD l i 0 < zeroDigit → upTo most (digitsAfter v (drop i l)) ≡ none
   stop-low k = stop (digit-low (getD l i 0) k)
 
-  pub stop-high : 57 < getD l i 0 → upTo most (digitsAfter v (drop i l)) ≡ none
+  pub stop-high : nineDigit < getD l i 0 → upTo most (digitsAfter v (drop i l)) ≡ none
   stop-high k = stop (digit-high (getD l i 0) k)
 
-  pub go-on : 48 ≤ getD l i 0 → getD l i 0 ≤ 57
-      → upTo most (digitsAfter v (drop i l)) ≡ upTo most (digitsAfter (v * 10 + (getD l i 0 - 48)) (drop (i + 1) l))
+  pub go-on : zeroDigit ≤ getD l i 0 → getD l i 0 ≤ nineDigit
+      → upTo most (digitsAfter v (drop i l)) ≡ upTo most (digitsAfter (v * 10 + (getD l i 0 - zeroDigit)) (drop (i + 1) l))
   unfolding digitsAfter if_then_else_
   go-on j k = rw (drop-cons l i 0 h, digit-yes (getD l i 0) j k, add-one)
 
-  pub stop-large : 48 ≤ getD l i 0 → getD l i 0 ≤ 57 → most < v * 10 + (getD l i 0 - 48) → upTo most (digitsAfter v (drop i l)) ≡ none
-  stop-large j k m = go-on j k ∙ stays-past most (v * 10 + (getD l i 0 - 48)) (drop (i + 1) l) m
+  pub stop-large : zeroDigit ≤ getD l i 0 → getD l i 0 ≤ nineDigit → most < v * 10 + (getD l i 0 - zeroDigit)
+      → upTo most (digitsAfter v (drop i l)) ≡ none
+  stop-large j k m = go-on j k ∙ stays-past most (v * 10 + (getD l i 0 - zeroDigit)) (drop (i + 1) l) m
 
 pub digits-end : (most v : ℕ) (l : List ℕ) (i : ℕ) → length l ≤ i → v ≤ most → upTo most (digitsAfter v (drop i l)) ≡ some v
 unfolding digitsAfter
@@ -136,22 +144,22 @@ unfolding numeral
 no-bytes [] e = refl
 no-bytes (b ∷ l) e = absurd (omega arith)
 
-pub only-zero : (l : List ℕ) → getD l 0 0 ≡ 48 → length l ≡ 1 → numeral l ≡ some 0
+pub only-zero : (l : List ℕ) → getD l 0 0 ≡ zeroDigit → length l ≡ 1 → numeral l ≡ some 0
 unfolding numeral zeroThen if_then_else_
 only-zero [] e k = absurd (omega arith)
-only-zero (b ∷ []) e k = rw (eq-eqb b 48 e)
+only-zero (b ∷ []) e k = rw (eq-eqb b zeroDigit e)
 only-zero (b ∷ d ∷ l) e k = absurd (omega arith)
 
-pub leading-zero : (l : List ℕ) → getD l 0 0 ≡ 48 → (length l ≡ 1 → ⊥) → numeral l ≡ none
+pub leading-zero : (l : List ℕ) → getD l 0 0 ≡ zeroDigit → (length l ≡ 1 → ⊥) → numeral l ≡ none
 unfolding numeral zeroThen if_then_else_
 leading-zero [] e k = refl
 leading-zero (b ∷ []) e k = absurd (k refl)
-leading-zero (b ∷ d ∷ l) e k = rw (eq-eqb b 48 e)
+leading-zero (b ∷ d ∷ l) e k = rw (eq-eqb b zeroDigit e)
 
-pub no-leading-zero : (l : List ℕ) → 0 < length l → (getD l 0 0 ≡ 48 → ⊥) → numeral l ≡ digitsAfter 0 l
+pub no-leading-zero : (l : List ℕ) → 0 < length l → (getD l 0 0 ≡ zeroDigit → ⊥) → numeral l ≡ digitsAfter 0 l
 unfolding numeral if_then_else_
 no-leading-zero [] h e = absurd (omega arith)
-no-leading-zero (b ∷ l) h e = rw (ne-eqb b 48 e)
+no-leading-zero (b ∷ l) h e = rw (ne-eqb b zeroDigit e)
 
 -- ---- signs
 
@@ -162,31 +170,31 @@ module _ {A B : Type 0} (f : Option A → Option B) where
   through true a b e z = sym e
   through false a b e z = sym z
 
-pub plus-limit : (o : Option ℕ) → in64 (plus o) ≡ plus (upTo (2 ^ 63 - 1) o)
+pub plus-limit : (o : Option ℕ) → in64 (plus o) ≡ plus (upTo greatestTotal o)
 unfolding in64 plus upTo
 plus-limit none = refl
-plus-limit (some n) = through plus (leb n (2 ^ 63 - 1)) n (pos n) refl refl
+plus-limit (some n) = through plus (leb n greatestTotal) n (pos n) refl refl
 
-pub minus-limit : (o : Option ℕ) → in64 (minus o) ≡ minus (upTo (2 ^ 63) o)
+pub minus-limit : (o : Option ℕ) → in64 (minus o) ≡ minus (upTo leastTotalSize o)
 unfolding in64 minus upTo if_then_else_
 minus-limit none = refl
 minus-limit (some zero) = refl
-minus-limit (some (suc n)) = through minus (leb (suc n) (2 ^ 63)) (suc n) (negsuc n) refl refl
+minus-limit (some (suc n)) = through minus (leb (suc n) leastTotalSize) (suc n) (negsuc n) refl refl
 
 pub minus-some : (n : ℕ) → 0 < n → minus (some n) ≡ some (negsuc (n - 1))
 unfolding minus
 minus-some zero h = absurd (omega arith)
 minus-some (suc n) h = let e : n ≡ suc n - 1 = omega arith in ap (λ (k : ℕ). some (negsuc k)) e
 
-pub signed-minus : (l : List ℕ) → 0 < length l → getD l 0 0 ≡ 45 → signedNumeral l ≡ minus (numeral (drop 1 l))
+pub signed-minus : (l : List ℕ) → 0 < length l → getD l 0 0 ≡ minusSign → signedNumeral l ≡ minus (numeral (drop 1 l))
 unfolding signedNumeral if_then_else_
 signed-minus [] h e = absurd (omega arith)
-signed-minus (b ∷ l) h e = rw (eq-eqb b 45 e)
+signed-minus (b ∷ l) h e = rw (eq-eqb b minusSign e)
 
-pub signed-plus : (l : List ℕ) → 0 < length l → (getD l 0 0 ≡ 45 → ⊥) → signedNumeral l ≡ plus (numeral l)
+pub signed-plus : (l : List ℕ) → 0 < length l → (getD l 0 0 ≡ minusSign → ⊥) → signedNumeral l ≡ plus (numeral l)
 unfolding signedNumeral if_then_else_
 signed-plus [] h e = absurd (omega arith)
-signed-plus (b ∷ l) h e = rw (ne-eqb b 45 e)
+signed-plus (b ∷ l) h e = rw (ne-eqb b minusSign e)
 
 pub signed-empty : (l : List ℕ) → length l ≡ 0 → signedNumeral l ≡ none
 unfolding signedNumeral

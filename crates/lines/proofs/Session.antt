@@ -3,15 +3,35 @@
 use mathlib.Core.Path.{_≡_, refl}
 use Rattle.interface.specs.Numbers.{bytes, answerWord, answerTotal}
 use Rattle.machine.specs.Computing.{computing}
-use Rattle.replies.specs.Decimals.{digit, digits, placesUpTo, places, decimal, signedDecimal}
+use Rattle.replies.specs.Decimals.{digit, digits, digitCountUpTo, digitCount, decimal, signedDecimal}
 use Rattle.lines.specs.Numerals.{isDigit, digitsAfter, zeroThen, numeral, plus, minus, signedNumeral, upTo, from, in64}
 use Rattle.lines.specs.Grammar.{before, partsAt, linesOf, fieldsOf, letterOf, smallOf, accountOf, totalOf, stepsOf, with2, with3, oneField, threeFields, fourFields, ofFields, commandOf, lineOf}
 use Rattle.replies.specs.Printed.{printedLine, totalThen, printedRow, printedEnd, printedRows, printedAnswer, printed, printedUnread}
 use Rattle.lines.specs.Session.{told, sessionFrom, session}
 
 -- a declaration that says `unfolding reading` computes with every definition of lines and of what is printed for them
+unfoldable numbers : Unit {0}
+unfolding isDigit digitsAfter zeroThen numeral plus minus signedNumeral upTo from in64
+numbers = tt
+
+unfoldable decimals : Unit {0}
+unfolding digit digits digitCountUpTo digitCount decimal signedDecimal
+decimals = tt
+
+unfoldable fields : Unit {0}
+unfolding before partsAt linesOf fieldsOf letterOf smallOf accountOf totalOf stepsOf
+fields = tt
+
+unfoldable commands : Unit {0}
+unfolding with2 with3 oneField threeFields fourFields ofFields commandOf lineOf
+commands = tt
+
+unfoldable printing : Unit {0}
+unfolding bytes answerWord answerTotal printedLine totalThen printedRow printedEnd printedRows printedAnswer printed printedUnread
+printing = tt
+
 unfoldable reading : Unit {0}
-unfolding computing bytes answerWord answerTotal digit digits placesUpTo places decimal signedDecimal isDigit digitsAfter zeroThen numeral plus minus signedNumeral upTo from in64 before partsAt linesOf fieldsOf letterOf smallOf accountOf totalOf stepsOf with2 with3 oneField threeFields fourFields ofFields commandOf lineOf printedLine totalThen printedRow printedEnd printedRows printedAnswer printed printedUnread told sessionFrom session
+unfolding computing numbers decimals fields commands printing told sessionFrom session
 reading = tt
 
 -- "Input and whole output"

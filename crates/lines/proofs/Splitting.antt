@@ -10,19 +10,20 @@ use lib.ListN.{length, take, drop, getD, length-drop, drop-of-length-le}
 use lib.Seq.{drop-cons, take-all}
 use borrow.Author.Tests.{eq-eqb, ne-eqb}
 use Rattle.machine.specs.Choice.{if_then_else_}
+use Rattle.replies.specs.Ascii.{space}
 use Rattle.lines.specs.declared.command.Command.the-variants.{Unread}
 use Rattle.lines.specs.Grammar.{before, partsAt, fieldsOf, firstField, letterOf, oneField, ofFields, commandOf}
 
 -- ---- the first field, byte by byte
 
 module _ (l : List ℕ) (i : ℕ) (h : i < length l) where
-  pub field-ends : getD l i 0 ≡ 32 → firstField (drop i l) ≡ 0
+  pub field-ends : getD l i 0 ≡ space → firstField (drop i l) ≡ 0
   unfolding firstField if_then_else_
-  field-ends e = rw (drop-cons l i 0 h, eq-eqb (getD l i 0) 32 e)
+  field-ends e = rw (drop-cons l i 0 h, eq-eqb (getD l i 0) space e)
 
-  pub field-goes-on : (getD l i 0 ≡ 32 → ⊥) → firstField (drop i l) ≡ suc (firstField (drop (i + 1) l))
+  pub field-goes-on : (getD l i 0 ≡ space → ⊥) → firstField (drop i l) ≡ suc (firstField (drop (i + 1) l))
   unfolding firstField if_then_else_
-  field-goes-on e = rw (drop-cons l i 0 h, ne-eqb (getD l i 0) 32 e, add-one)
+  field-goes-on e = rw (drop-cons l i 0 h, ne-eqb (getD l i 0) space e, add-one)
 
 pub field-at-end : (l : List ℕ) (i : ℕ) → length l ≤ i → firstField (drop i l) ≡ 0
 unfolding firstField
@@ -40,7 +41,7 @@ one-step false b bs h ih = rw (ih (omega arith))
 pub one-field : (l : List ℕ) → length l ≤ firstField l → fieldsOf l ≡ l ∷ []
 unfolding fieldsOf partsAt firstField
 one-field [] h = refl
-one-field (b ∷ bs) h = one-step (eqb b 32) b bs h (one-field bs)
+one-field (b ∷ bs) h = one-step (eqb b space) b bs h (one-field bs)
 
 more-step : (t : Bool) (b : ℕ) (bs : List ℕ) → (if t then 0 else suc (firstField bs)) < suc (length bs)
     → (firstField bs < length bs → fieldsOf bs ≡ take (firstField bs) bs ∷ fieldsOf (drop (suc (firstField bs)) bs))
@@ -53,7 +54,7 @@ more-step false b bs h ih = rw (ih (omega arith))
 at-space : (l : List ℕ) → firstField l < length l → fieldsOf l ≡ take (firstField l) l ∷ fieldsOf (drop (suc (firstField l)) l)
 unfolding fieldsOf partsAt firstField
 at-space [] h = absurd (omega arith)
-at-space (b ∷ bs) h = more-step (eqb b 32) b bs h (at-space bs)
+at-space (b ∷ bs) h = more-step (eqb b space) b bs h (at-space bs)
 
 -- a line with a space is its first field and the fields after the space
 pub more-fields : (l : List ℕ) (n : ℕ) → n ≡ firstField l → n < length l → fieldsOf l ≡ take n l ∷ fieldsOf (drop (n + 1) l)
@@ -74,7 +75,7 @@ module _ (b : ℕ) where
 some-field : (l : List ℕ) → (p : List ℕ) × (qs : List (List ℕ)) × (fieldsOf l ≡ p ∷ qs)
 unfolding fieldsOf partsAt
 some-field [] = ([], [], refl)
-some-field (b ∷ bs) = begins b (eqb b 32) (fieldsOf bs)
+some-field (b ∷ bs) = begins b (eqb b space) (fieldsOf bs)
 
 -- five fields and more mean nothing
 pub too-many : (f x y z l : List ℕ) → Unread ≡ ofFields (f ∷ x ∷ y ∷ z ∷ fieldsOf l)

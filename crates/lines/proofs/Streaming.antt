@@ -3,7 +3,7 @@
 use Prim.Native.Nat.{ℕ, suc, _≤_, _<_}
 use mathlib.Core.Path.{_≡_, refl, sym, _∙_, ap}
 use mathlib.Core.Bool.{Bool, true, false}
-use mathlib.Core.List.{List, [], _∷_, _++_, map, append-assoc, append-nil}
+use mathlib.Core.List.{List, [], _∷_, _++_, map}
 use native.Mathlib.Omega.{arith}
 use native.Mathlib.Numerals.{add-one}
 use lib.Dec.{leb, ltb, eqb, eqb·suc-zero}
@@ -11,11 +11,12 @@ use lib.ListN.{length, take, length-append, length-set}
 use lib.Seq.{take-suc-set}
 use borrow.Author.Tests.{le-leb, lt-ltb, le-ltb, leb-true, leb-false, ltb-true, ltb-false, ne-eqb}
 use Rattle.machine.specs.Choice.{if_then_else_}
+use Rattle.replies.specs.Ascii.{lineFeed}
 use Rattle.lines.specs.declared.command.Command.the-variants.{Unread}
 use Rattle.lines.specs.declared.reader.Reader.{Reader}
 use Rattle.lines.specs.Grammar.{before, partsAt, linesOf, commandOf}
-use Rattle.lines.specs.Reading.{fresh, pushed, pushedAll, commandIn, isEmpty, commandsRead}
-use Rattle.lines.proofs.Longest.{longest}
+use Rattle.lines.specs.Reading.{lineRoom, fresh, pushed, commandIn, isEmpty, commandsRead}
+use Rattle.lines.proofs.Longest.{long-unread}
 
 -- ---- what a reader holds
 
@@ -25,31 +26,31 @@ pub record Short (r : Reader) (xs : List ℕ) : Type 0 where
   pub long : r .long ≡ false
 
 pub record Over (r : Reader) : Type 0 where
-  pub len : r .len ≡ 64
+  pub len : r .len ≡ lineRoom
   pub long : r .long ≡ true
 
 -- a reader that was pushed xs
-pub record Holds (r : Reader) (xs : List ℕ) : Type 0 where
-  pub room : length (r .line) ≡ 64
-  pub short : length xs ≤ 64 → Short r xs
-  pub over : 64 < length xs → Over r
+pub record HoldsBytes (r : Reader) (xs : List ℕ) : Type 0 where
+  pub room : length (r .line) ≡ lineRoom
+  pub short : length xs ≤ lineRoom → Short r xs
+  pub over : lineRoom < length xs → Over r
 
-pub holds-fresh : Holds fresh []
+pub holds-bytes-fresh : HoldsBytes fresh []
 unfolding fresh
-holds-fresh = record { room = refl; short = λ h. record { len = refl; line = refl; long = refl }; over = λ h. absurd (omega arith) }
+holds-bytes-fresh = record { room = refl; short = λ h. record { len = refl; line = refl; long = refl }; over = λ h. absurd (omega arith) }
 
-module _ (r : Reader) (xs : List ℕ) (b : ℕ) (h : Holds r xs) where
+module _ (r : Reader) (xs : List ℕ) (b : ℕ) (h : HoldsBytes r xs) where
   more : length (xs ++ b ∷ []) ≡ suc (length xs)
   more = length-append xs (b ∷ []) ∙ add-one (length xs)
 
-  kept : length xs < 64 → Holds (pushed r b) (xs ++ b ∷ [])
+  kept : length xs < lineRoom → HoldsBytes (pushed r b) (xs ++ b ∷ [])
   unfolding pushed if_then_else_
   kept k =
       let s = h .short (omega arith) in
       let e = s .len in
       let m = more in
       let f = h .room in
-      rw (lt-ltb (r .len) 64 (omega arith))
+      rw (lt-ltb (r .len) lineRoom (omega arith))
       (record {
         room = length-set (r .line) (r .len) b ∙ h .room;
         short = λ _. record {
@@ -60,68 +61,56 @@ module _ (r : Reader) (xs : List ℕ) (b : ℕ) (h : Holds r xs) where
         over = λ g. absurd (omega arith);
       })
 
-  lost : 64 ≤ length xs → r .len ≡ 64 → Holds (pushed r b) (xs ++ b ∷ [])
+  lost : lineRoom ≤ length xs → r .len ≡ lineRoom → HoldsBytes (pushed r b) (xs ++ b ∷ [])
   unfolding pushed if_then_else_
   lost k e =
       let m = more in
-      rw (le-ltb (r .len) 64 (omega arith)) (record {
+      rw (le-ltb (r .len) lineRoom (omega arith)) (record {
         room = h .room;
         short = λ g. absurd (omega arith);
         over = λ g. record
             { len = e; long = refl };
       })
 
-  full : 64 ≤ length xs → r .len ≡ 64
-  full k = by (leb (length xs) 64) refl
+  full : lineRoom ≤ length xs → r .len ≡ lineRoom
+  full k = by (leb (length xs) lineRoom) refl
     where
-      by : (t : Bool) → leb (length xs) 64 ≡ t → r .len ≡ 64
-      by true e = let l = leb-true (length xs) 64 e in omega (arith, h .short l .len)
-      by false e = h .over (leb-false (length xs) 64 e) .len
+      by : (t : Bool) → leb (length xs) lineRoom ≡ t → r .len ≡ lineRoom
+      by true e = let l = leb-true (length xs) lineRoom e in omega (arith, h .short l .len)
+      by false e = h .over (leb-false (length xs) lineRoom e) .len
 
-  pub holds-pushed : Holds (pushed r b) (xs ++ b ∷ [])
-  holds-pushed = by (ltb (length xs) 64) refl
+  pub holds-bytes-pushed : HoldsBytes (pushed r b) (xs ++ b ∷ [])
+  holds-bytes-pushed = by (ltb (length xs) lineRoom) refl
     where
-      by : (t : Bool) → ltb (length xs) 64 ≡ t → Holds (pushed r b) (xs ++ b ∷ [])
-      by true e = kept (ltb-true (length xs) 64 e)
-      by false e = let k = ltb-false (length xs) 64 e in lost k (full k)
-
-pub holds-all : (r : Reader) (xs bs : List ℕ) → Holds r xs → Holds (pushedAll r bs) (xs ++ bs)
-unfolding pushedAll
-holds-all r xs [] h = rw (append-nil xs) h
-holds-all r xs (b ∷ bs) h = rw (append-assoc xs (b ∷ []) bs) at (holds-all (pushed r b) (xs ++ b ∷ []) bs (holds-pushed r xs b h))
+      by : (t : Bool) → ltb (length xs) lineRoom ≡ t → HoldsBytes (pushed r b) (xs ++ b ∷ [])
+      by true e = kept (ltb-true (length xs) lineRoom e)
+      by false e = let k = ltb-false (length xs) lineRoom e in lost k (full k)
 
 -- ---- what it means
 
-module _ (r : Reader) (xs : List ℕ) (h : Holds r xs) where
+module _ (r : Reader) (xs : List ℕ) (h : HoldsBytes r xs) where
   pub means : commandIn r ≡ commandOf xs
   unfolding commandIn if_then_else_
-  means = by (leb (length xs) 64) refl
+  means = by (leb (length xs) lineRoom) refl
     where
-      by : (t : Bool) → leb (length xs) 64 ≡ t
+      by : (t : Bool) → leb (length xs) lineRoom ≡ t
           → if r .long then Unread else if leb (r .len) (length (r .line)) then commandOf (take (r .len) (r .line)) else Unread ≡ commandOf
           xs
       by true e =
-          let k = leb-true (length xs) 64 e in
+          let k = leb-true (length xs) lineRoom e in
           let s = h .short k in
           let n = s .len in
           let m = h .room in
           rw (s .long, le-leb (r .len) (length (r .line)) (omega arith), s .len, s .line)
-      by false e = let k = leb-false (length xs) 64 e in rw (h .over k .long, longest xs (omega arith))
+      by false e = let k = leb-false (length xs) lineRoom e in rw (h .over k .long, long-unread xs (omega arith))
 
   pub empty-if : isEmpty r ≡ eqb (length xs) 0
   unfolding isEmpty
-  empty-if = by (leb (length xs) 64) refl
+  empty-if = by (leb (length xs) lineRoom) refl
     where
-      by : (t : Bool) → leb (length xs) 64 ≡ t → eqb (r .len) 0 ≡ eqb (length xs) 0
-      by true e = rw (h .short (leb-true (length xs) 64 e) .len)
-      by false e = let k = leb-false (length xs) 64 e in rw (h .over k .len) (sym (ne-eqb (length xs) 0 (omega arith)))
-
--- after pushing bs from new, `command` is what bs mean, and `empty` whether there are none
-pub command-pushed : (bs : List ℕ) → commandIn (pushedAll fresh bs) ≡ commandOf bs
-command-pushed bs = means (pushedAll fresh bs) bs (holds-all fresh [] bs holds-fresh)
-
-pub empty-pushed : (bs : List ℕ) → isEmpty (pushedAll fresh bs) ≡ eqb (length bs) 0
-empty-pushed bs = empty-if (pushedAll fresh bs) bs (holds-all fresh [] bs holds-fresh)
+      by : (t : Bool) → leb (length xs) lineRoom ≡ t → eqb (r .len) 0 ≡ eqb (length xs) 0
+      by true e = rw (h .short (leb-true (length xs) lineRoom e) .len)
+      by false e = let k = leb-false (length xs) lineRoom e in rw (h .over k .len) (sym (ne-eqb (length xs) 0 (omega arith)))
 
 -- ---- the lines of an input
 
@@ -151,7 +140,7 @@ unfolding front if_then_else_
 front-last [] = refl
 front-last (x ∷ xs) = rw (eqb·suc-zero (length xs)) (ap (map commandOf) (front-nil x xs))
 
-module _ (r : Reader) (xs : List ℕ) (h : Holds r xs) where
+module _ (r : Reader) (xs : List ℕ) (h : HoldsBytes r xs) where
   read-byte : (t : Bool) (b : ℕ) (bs : List ℕ) → commandsRead fresh bs ≡ map commandOf (linesOf bs)
       → commandsRead (pushed r b) bs ≡ map commandOf (front (xs ++ b ∷ []) (linesOf bs))
       → if t then commandIn r ∷ commandsRead fresh bs else commandsRead (pushed r b) bs ≡ map commandOf
@@ -160,13 +149,14 @@ module _ (r : Reader) (xs : List ℕ) (h : Holds r xs) where
   read-byte true b bs e f = rw (front-line xs (linesOf bs), means r xs h, e)
   read-byte false b bs e f = f ∙ ap (map commandOf) (front-end xs b (linesOf bs))
 
-read-on : (r : Reader) (xs bs : List ℕ) → Holds r xs → commandsRead r bs ≡ map commandOf (front xs (linesOf bs))
+read-on : (r : Reader) (xs bs : List ℕ) → HoldsBytes r xs → commandsRead r bs ≡ map commandOf (front xs (linesOf bs))
 unfolding commandsRead linesOf partsAt front
 read-on r xs [] h = rw (empty-if r xs h, means r xs h) (sym (front-last xs))
 read-on r xs (b ∷ bs) h =
-    read-byte r xs h (eqb b 10) b bs (read-on fresh [] bs holds-fresh) (read-on (pushed r b) (xs ++ b ∷ []) bs (holds-pushed r xs b h))
+    read-byte r xs h (eqb b lineFeed) b bs (read-on fresh [] bs holds-bytes-fresh)
+    (read-on (pushed r b) (xs ++ b ∷ []) bs (holds-bytes-pushed r xs b h))
 
 -- an input read byte by byte has the commands of its lines
 pub commands-read : (input : List ℕ) → commandsRead fresh input ≡ map commandOf (linesOf input)
 unfolding front
-commands-read input = read-on fresh [] input holds-fresh
+commands-read input = read-on fresh [] input holds-bytes-fresh

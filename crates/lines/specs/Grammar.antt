@@ -1,12 +1,15 @@
--- What a line of `totals` means. 01, The driver: "`totals` reads lines from standard input: `O n b M`, `I w account total`, `D w account`,
--- `L w account`, `S w k` .., `T` (listing). Fields stand one space apart, in decimal." Rests on specs/Numerals and the enum of commands.
+-- What a line of `totals` means. 01, The driver: "`totals` reads lines from standard input: `O n b M`,
+-- `I w account total`, `D w account`, `L w account`, `S w k` .., `T` (listing). Fields stand one space apart, in
+-- decimal." Rests on specs/Numerals and the enum of commands.
 use Prim.Native.Nat.{ℕ, suc}
 use mathlib.Core.List.{List, [], _∷_}
 use mathlib.Core.Option.{Option, none, some}
 use lib.Dec.{eqb}
 use lib.IntN.{ℤ}
+use Rattle.interface.specs.Numbers.{kindDelete, kindLookup}
 use Rattle.machine.specs.Choice.{if_then_else_}
 use Rattle.machine.specs.Script.{Line, O, I, D, L, S, T}
+use Rattle.replies.specs.Ascii.{lineFeed, space}
 use Rattle.lines.specs.declared.command.Command.{Command}
 use Rattle.lines.specs.declared.command.Command.the-variants.{Open, Insert, Delete, Lookup, Steps, List as Listing, Unread}
 use Rattle.lines.specs.Numerals.{numeral, signedNumeral, upTo, from, in64}
@@ -23,18 +26,18 @@ unfoldable pub partsAt : ℕ → List (List ℕ) → List ℕ → List (List ℕ
 partsAt x last [] = last
 partsAt x last (b ∷ bs) = let rest : List (List ℕ) = partsAt x last bs in if eqb b x then [] ∷ rest else before b rest
 
--- "A line ends at a line feed or at the end of the input; a line feed that ends the input starts no further line"; 10 is the line feed
+-- "A line ends at a line feed or at the end of the input; a line feed that ends the input starts no further line"
 unfoldable pub linesOf : List ℕ → List (List ℕ)
-linesOf input = partsAt 10 [] input
+linesOf input = partsAt lineFeed [] input
 
--- "Fields stand one space apart"; 32 is the space, and an empty field is a field
+-- "Fields stand one space apart"; an empty field is a field
 unfoldable pub fieldsOf : List ℕ → List (List ℕ)
-fieldsOf line = partsAt 32 ([] ∷ []) line
+fieldsOf line = partsAt space ([] ∷ []) line
 
 -- how long the first field is
 unfoldable pub firstField : List ℕ → ℕ
 firstField [] = 0
-firstField (b ∷ bs) = if eqb b 32 then 0 else suc (firstField bs)
+firstField (b ∷ bs) = if eqb b space then 0 else suc (firstField bs)
 
 -- ---- what a field has to be
 
@@ -45,22 +48,53 @@ letterOf (b ∷ []) = b
 letterOf (b ∷ c ∷ bs) = 0
 
 -- w, n, b or M: not "over 65,535"
+abbrev pub greatestSmall : ℕ
+greatestSmall = 65_535
+
 unfoldable pub smallOf : List ℕ → Option ℕ
-smallOf f = upTo 65_535 (numeral f)
+smallOf f = upTo greatestSmall (numeral f)
 
 -- "An account is a 32-bit unsigned number"
+abbrev pub greatestAccount : ℕ
+greatestAccount = 4_294_967_295
+
 unfoldable pub accountOf : List ℕ → Option ℕ
-accountOf f = upTo 4_294_967_295 (numeral f)
+accountOf f = upTo greatestAccount (numeral f)
 
 -- "a total a 64-bit signed number"
 unfoldable pub totalOf : List ℕ → Option ℤ
 totalOf f = in64 (signedNumeral f)
 
 -- "up to k steps, 1 to 9999"
+abbrev pub leastSteps : ℕ
+leastSteps = 1
+
+abbrev pub greatestSteps : ℕ
+greatestSteps = 9_999
+
 unfoldable pub stepsOf : List ℕ → Option ℕ
-stepsOf f = from 1 (upTo 9_999 (numeral f))
+stepsOf f = from leastSteps (upTo greatestSteps (numeral f))
 
 -- ---- commands
+
+-- the letters of the commands
+abbrev pub openLetter : ℕ
+openLetter = 79
+
+abbrev pub insertLetter : ℕ
+insertLetter = 73
+
+abbrev pub deleteLetter : ℕ
+deleteLetter = 68
+
+abbrev pub lookupLetter : ℕ
+lookupLetter = 76
+
+abbrev pub stepsLetter : ℕ
+stepsLetter = 83
+
+abbrev pub listLetter : ℕ
+listLetter = 84
 
 -- a command of two fields, or of three, each of which has to be read
 unfoldable pub with2 : {A B : Type 0} → (A → B → Command) → Option A → Option B → Command
@@ -74,23 +108,44 @@ with3 f (some a) none c = Unread
 with3 f (some a) (some b) none = Unread
 with3 f (some a) (some b) (some c) = f a b c
 
--- `T`; 84 is its byte
+-- `T`
 unfoldable pub oneField : ℕ → Command
-oneField letter = if eqb letter 84 then Listing else Unread
+oneField letter = if eqb letter listLetter then Listing else Unread
 
--- `D w account`, `L w account`, `S w k`; 68, 76 and 83 are the bytes of the letters
+-- `O n b M`, `I w account total`, `D w account`, `L w account`, `S w k`
+abbrev pub openCommand : List ℕ → List ℕ → List ℕ → Command
+openCommand x y z = with3 Open (smallOf x) (smallOf y) (smallOf z)
+
+abbrev pub insertCommand : List ℕ → List ℕ → List ℕ → Command
+insertCommand x y z = with3 Insert (smallOf x) (accountOf y) (totalOf z)
+
+abbrev pub deleteCommand : List ℕ → List ℕ → Command
+deleteCommand x y = with2 Delete (smallOf x) (accountOf y)
+
+abbrev pub lookupCommand : List ℕ → List ℕ → Command
+lookupCommand x y = with2 Lookup (smallOf x) (accountOf y)
+
+abbrev pub stepsCommand : List ℕ → List ℕ → Command
+stepsCommand x y = with2 Steps (smallOf x) (stepsOf y)
+
+-- an operation by its kind; z counts for an insert alone
+unfoldable pub operationCommand : ℕ → List ℕ → List ℕ → List ℕ → Command
+operationCommand kind x y z =
+    if eqb kind kindDelete then deleteCommand x y
+    else if eqb kind kindLookup then lookupCommand x y
+    else insertCommand x y z
+
 unfoldable pub threeFields : ℕ → List ℕ → List ℕ → Command
 threeFields letter x y =
-    if eqb letter 68 then with2 Delete (smallOf x) (accountOf y)
-    else if eqb letter 76 then with2 Lookup (smallOf x) (accountOf y)
-    else if eqb letter 83 then with2 Steps (smallOf x) (stepsOf y)
+    if eqb letter deleteLetter then deleteCommand x y
+    else if eqb letter lookupLetter then lookupCommand x y
+    else if eqb letter stepsLetter then stepsCommand x y
     else Unread
 
--- `O n b M`, `I w account total`; 79 and 73 are the bytes of the letters
 unfoldable pub fourFields : ℕ → List ℕ → List ℕ → List ℕ → Command
 fourFields letter x y z =
-    if eqb letter 79 then with3 Open (smallOf x) (smallOf y) (smallOf z)
-    else if eqb letter 73 then with3 Insert (smallOf x) (accountOf y) (totalOf z)
+    if eqb letter openLetter then openCommand x y z
+    else if eqb letter insertLetter then insertCommand x y z
     else Unread
 
 unfoldable pub ofFields : List (List ℕ) → Command

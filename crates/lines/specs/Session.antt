@@ -1,8 +1,9 @@
--- What a whole input is met with: bytes in, bytes out. 01, The driver. Rests on specs/Grammar, specs/Printed and the machine's script.
+-- What a whole input is met with: bytes in, bytes out. 01, The driver.
+-- Rests on specs/Grammar, on what is printed and on the machine's script.
 use Prim.Native.Nat.{ℕ}
 use mathlib.Core.List.{List, [], _∷_, _++_}
 use mathlib.Core.Option.{Option, none, some}
-use Rattle.machine.specs.Script.{Line, Memory, zeros, Met, driver, meet}
+use Rattle.machine.specs.Script.{Line, Memory, zeros, Response, driver, responseTo}
 use Rattle.lines.specs.Grammar.{linesOf, commandOf, lineOf}
 use Rattle.replies.specs.Printed.{printed, printedUnread}
 
@@ -14,7 +15,7 @@ pub record Told : Type 0 where
 -- "Any other line .. gives `unread`", and leaves the memory as it was
 unfoldable pub told : Memory → Option Line → Told
 told x none = record { memory = x; text = printedUnread }
-told x (some l) = let y : Met = meet driver x l in record { memory = y .memory; text = printed (y .reply) }
+told x (some l) = let y : Response = responseTo driver x l in record { memory = y .memory; text = printed (y .reply) }
 
 unfoldable pub sessionFrom : Memory → List (List ℕ) → List ℕ
 sessionFrom x [] = []

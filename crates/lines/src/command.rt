@@ -2,12 +2,16 @@
 // Rests on the numbers of number.rt.
 ghost use mathlib.Core.Path.{_≡_};
 ghost use mathlib.Core.List.{[], _∷_};
-ghost use Rattle.lines.specs.declared.command.Command.the-variants.{Open as Open·, Insert as Insert·, Delete as Delete·, Lookup as Lookup·, Steps as Steps·};
-ghost use Rattle.lines.specs.Grammar.{commandOf, ofFields, fieldsOf, firstField, letterOf, threeFields, fourFields, smallOf, accountOf, totalOf, stepsOf, with2, with3};
+ghost use Rattle.lines.specs.Numerals.{numeral, upTo, asPair};
+ghost use Rattle.lines.specs.Grammar.{commandOf, ofFields, fieldsOf, firstField, letterOf, threeFields, fourFields, openCommand, operationCommand, stepsCommand, smallOf};
 use crate::number::Number;
+use crate::number::Pair;
 use crate::number::Signed;
 use crate::number::read_number;
 use crate::number::read_signed;
+use interface::KIND_DELETE;
+use interface::KIND_INSERT;
+use interface::KIND_LOOKUP;
 
 // What a line asks for. Unread is a line that is none of the others.
 pub enum Command {
@@ -25,10 +29,12 @@ pub enum Command {
     Unread,
 }
 
-// The greatest w, n, b and M.
+// The limits of specs/Grammar, by the same names: the greatest w, n, b and M; of accounts; of steps.
 const GREATEST_SMALL: u64 = 65535;
 
 const GREATEST_ACCOUNT: u64 = 4294967295;
+
+const LEAST_STEPS: u64 = 1;
 
 const GREATEST_STEPS: u64 = 9999;
 
@@ -85,8 +91,8 @@ fn three_fields(letter: u8, x: &[u8], y: &[u8]) -> Command
     ensures { λ r. ⌜ r ≡ threeFields letter (now (x .entry)) (now (y .entry)) ⌝ }
 {
     match letter {
-        b'D' => delete(x, y),
-        b'L' => lookup(x, y),
+        b'D' => operation(KIND_DELETE, x, y, b""),
+        b'L' => operation(KIND_LOOKUP, x, y, b""),
         b'S' => steps(x, y),
         _ => Command::Unread,
     }
@@ -97,18 +103,15 @@ fn four_fields(letter: u8, x: &[u8], y: &[u8], z: &[u8]) -> Command
 {
     match letter {
         b'O' => open(x, y, z),
-        b'I' => insert(x, y, z),
+        b'I' => operation(KIND_INSERT, x, y, z),
         _ => Command::Unread,
     }
 }
 
 fn open(x: &[u8], y: &[u8], z: &[u8]) -> Command
-    ensures { λ r. ⌜ r ≡ with3 Open· (smallOf (now (x .entry))) (smallOf (now (y .entry))) (smallOf (now (z .entry))) ⌝ }
+    ensures { λ r. ⌜ r ≡ openCommand (now (x .entry)) (now (y .entry)) (now (z .entry)) ⌝ }
 {
-    let Number::Value(n) = read_number(x, GREATEST_SMALL) else {
-        return Command::Unread;
-    };
-    let Number::Value(b) = read_number(y, GREATEST_SMALL) else {
+    let Pair::Values(n, b) = read_pair(x, y, GREATEST_SMALL) else {
         return Command::Unread;
     };
     let Number::Value(m) = read_number(z, GREATEST_SMALL) else {
@@ -117,58 +120,49 @@ fn open(x: &[u8], y: &[u8], z: &[u8]) -> Command
     Command::Open(n, b, m)
 }
 
-fn insert(x: &[u8], y: &[u8], z: &[u8]) -> Command
-    ensures { λ r. ⌜ r ≡ with3 Insert· (smallOf (now (x .entry))) (accountOf (now (y .entry))) (totalOf (now (z .entry))) ⌝ }
+// A delete, a lookup or, for any other kind, an insert; z is the total of an insert and is else not read.
+fn operation(kind: u64, x: &[u8], y: &[u8], z: &[u8]) -> Command
+    ensures { λ r. ⌜ r ≡ operationCommand kind (now (x .entry)) (now (y .entry)) (now (z .entry)) ⌝ }
 {
-    let Number::Value(w) = read_number(x, GREATEST_SMALL) else {
+    let Pair::Values(w, account) = read_pair(x, y, GREATEST_ACCOUNT) else {
         return Command::Unread;
     };
-    let Number::Value(account) = read_number(y, GREATEST_ACCOUNT) else {
-        return Command::Unread;
-    };
+    let account = account as u32;
+    if kind == KIND_DELETE {
+        return Command::Delete(w, account);
+    }
+    if kind == KIND_LOOKUP {
+        return Command::Lookup(w, account);
+    }
     let Signed::Value(total) = read_signed(z) else {
         return Command::Unread;
     };
-    Command::Insert(w, account as u32, total)
-}
-
-fn delete(x: &[u8], y: &[u8]) -> Command
-    ensures { λ r. ⌜ r ≡ with2 Delete· (smallOf (now (x .entry))) (accountOf (now (y .entry))) ⌝ }
-{
-    let Number::Value(w) = read_number(x, GREATEST_SMALL) else {
-        return Command::Unread;
-    };
-    let Number::Value(account) = read_number(y, GREATEST_ACCOUNT) else {
-        return Command::Unread;
-    };
-    Command::Delete(w, account as u32)
-}
-
-fn lookup(x: &[u8], y: &[u8]) -> Command
-    ensures { λ r. ⌜ r ≡ with2 Lookup· (smallOf (now (x .entry))) (accountOf (now (y .entry))) ⌝ }
-{
-    let Number::Value(w) = read_number(x, GREATEST_SMALL) else {
-        return Command::Unread;
-    };
-    let Number::Value(account) = read_number(y, GREATEST_ACCOUNT) else {
-        return Command::Unread;
-    };
-    Command::Lookup(w, account as u32)
+    Command::Insert(w, account, total)
 }
 
 fn steps(x: &[u8], y: &[u8]) -> Command
-    ensures { λ r. ⌜ r ≡ with2 Steps· (smallOf (now (x .entry))) (stepsOf (now (y .entry))) ⌝ }
+    ensures { λ r. ⌜ r ≡ stepsCommand (now (x .entry)) (now (y .entry)) ⌝ }
 {
-    let Number::Value(w) = read_number(x, GREATEST_SMALL) else {
+    let Pair::Values(w, k) = read_pair(x, y, GREATEST_STEPS) else {
         return Command::Unread;
     };
-    let Number::Value(k) = read_number(y, GREATEST_STEPS) else {
-        return Command::Unread;
-    };
-    if k == 0 {
+    if k < LEAST_STEPS {
         return Command::Unread;
     }
     Command::Steps(w, k)
+}
+
+// The first number of a command and the one after it, which is at most `most`.
+fn read_pair(x: &[u8], y: &[u8], most: u64) -> Pair
+    ensures { λ r. ⌜ r ≡ asPair (smallOf (now (x .entry))) (upTo most (numeral (now (y .entry)))) ⌝ }
+{
+    let Number::Value(first) = read_number(x, GREATEST_SMALL) else {
+        return Pair::Nothing;
+    };
+    let Number::Value(second) = read_number(y, most) else {
+        return Pair::Nothing;
+    };
+    Pair::Values(first, second)
 }
 
 // How long the first field is: up to the first space, or to the end.

@@ -3,9 +3,20 @@
 ghost use mathlib.Core.Path.{_≡_};
 ghost use Rattle.lines.specs.Numerals.{numeral, digitsAfter, plus, minus, signedNumeral, upTo, in64, asNumber, asSigned};
 
+// The limits of a total, as specs/Numerals names them.
+const GREATEST_TOTAL: u64 = 9223372036854775807;
+
+const LEAST_TOTAL_SIZE: u64 = 9223372036854775808;
+
 // A number, or a field that is none.
 pub enum Number {
     Value(u64),
+    Nothing,
+}
+
+// Two numbers, or fields of which one is none.
+pub enum Pair {
+    Values(u64, u64),
     Nothing,
 }
 
@@ -80,7 +91,7 @@ pub fn read_signed(field: &[u8]) -> Signed
 fn read_positive(field: &[u8]) -> Signed
     ensures { λ r. ⌜ r ≡ asSigned (in64 (plus (numeral (now (field .entry))))) ⌝ }
 {
-    let Number::Value(size) = read_number(field, 9223372036854775807) else {
+    let Number::Value(size) = read_number(field, GREATEST_TOTAL) else {
         return Signed::Nothing;
     };
     Signed::Value(size as i64)
@@ -89,7 +100,7 @@ fn read_positive(field: &[u8]) -> Signed
 fn read_negative(field: &[u8]) -> Signed
     ensures { λ r. ⌜ r ≡ asSigned (in64 (minus (numeral (now (field .entry))))) ⌝ }
 {
-    let Number::Value(size) = read_number(field, 9223372036854775808) else {
+    let Number::Value(size) = read_number(field, LEAST_TOTAL_SIZE) else {
         return Signed::Nothing;
     };
     if size == 0 {

@@ -1,13 +1,16 @@
-// A line read byte by byte, in constant memory: no line of more than 39 bytes means anything, so 64 are enough to keep.
+// A line read byte by byte, in constant memory: no line longer than specs/Reading's longestLine means anything.
 // Rests on `parse`.
 ghost use mathlib.Core.Path.{_≡_};
 ghost use Rattle.lines.specs.Reading.{fresh, pushed, commandIn, isEmpty};
 use crate::command::Command;
 use crate::command::parse;
 
+// The bytes that are kept of a line, more than longestLine.
+const LINE_ROOM: usize = 64;
+
 // The bytes of a line so far: the first len of `line`, or more than there is room for.
 pub struct Reader {
-    line: [u8; 64],
+    line: [u8; LINE_ROOM],
     len: usize,
     long: bool,
 }
@@ -18,7 +21,7 @@ impl Reader {
         ensures { λ r. ⌜ r ≡ fresh ⌝ }
     {
         Reader {
-            line: [0u8; 64],
+            line: [0u8; LINE_ROOM],
             len: 0,
             long: false,
         }
@@ -29,7 +32,7 @@ impl Reader {
         ensures { λ r. ⌜ r ≡ pushed self byte ⌝ }
     {
         let len = self.len;
-        if len < 64 {
+        if len < LINE_ROOM {
             self.line[len] = byte;
             self.len = len + 1;
         } else {

@@ -11,6 +11,13 @@ use lib.ListN.{length, getD, set, take, drop, length-append, length-drop, take-a
 use lib.Seq.{length-take-le, take-at, drop-append-add, drop-drop, getD-take, getD-drop, getD-append-add, set-split, append-snoc, ext-getD}
 use Rattle.lists.specs.Parts.{part, overlay}
 
+-- ---- a part, as code takes it
+
+-- from `at` to `at + k`
+pub part-taken : (l : List ℕ) (at to k : ℕ) → at ≡ to → take (at + k - at) (drop at l) ≡ part l to k
+unfolding part
+part-taken l at to k e = let size : at + k - at ≡ k = omega arith in rw (size, e)
+
 -- ---- an overlay of a list of anything
 
 pub set-overlay : {A : Type 0} (l : List A) (i : ℕ) (v : A) → i < length l → set l i v ≡ overlay l i (v ∷ [])
@@ -49,7 +56,8 @@ module _ {A : Type 0} (l : List A) (at : ℕ) where
 
     -- an item written behind a run
     pub overlay-more : (v : A) → at + length xs < length l → set (overlay l at xs) (at + length xs) v ≡ overlay l at (xs ++ v ∷ [])
-    overlay-more v h = set-overlay (overlay l at xs) (at + length xs) v (rw (length-overlay (omega arith)) h) ∙ overlay-join (v ∷ []) (omega arith)
+    overlay-more v h =
+        set-overlay (overlay l at xs) (at + length xs) v (rw (length-overlay (omega arith)) h) ∙ overlay-join (v ∷ []) (omega arith)
 
 -- ---- a run
 
@@ -99,7 +107,8 @@ module _ (l : List ℕ) (at : ℕ) (xs : List ℕ) (fits : at + length xs ≤ le
       (m : List ℕ) → length m ≡ length l → ((i : ℕ) → i < length xs → getD m (at + i) 0 ≡ getD xs i 0)
       → ((i : ℕ) → i < at → getD m i 0 ≡ getD l i 0) → ((i : ℕ) → at + length xs ≤ i → i < length l → getD m i 0 ≡ getD l i 0)
       → m ≡ overlay l at xs
-  overlay-ext m e within before after = ext-getD 0 m _ (e ∙ sym (length-overlay l at xs fits)) (λ i h. go i h (decLt i at) (decLt i (at + length xs)))
+  overlay-ext m e within before after =
+      ext-getD 0 m _ (e ∙ sym (length-overlay l at xs fits)) (λ i h. go i h (decLt i at) (decLt i (at + length xs)))
     where
       go : (i : ℕ) → i < length m → Dec (i < at) → Dec (i < at + length xs) → getD m i 0 ≡ getD (overlay l at xs) i 0
       go i h (yes b) c = before i b ∙ sym (getD-overlay-before i b)
@@ -123,18 +132,6 @@ module _ (l : List ℕ) (at : ℕ) (xs : List ℕ) (fits : at + length xs ≤ le
       part-ext _ e size _ (rw (length-overlay l at xs fits) k) (length-part l e size k)
       (λ i b. getD-overlay-after (e + i) (omega arith) ∙ sym (getD-part l e size i b))
 
--- an overlay at the same place that is at least as long covers the first
-pub overlay-overlay :
-    (l : List ℕ) (at : ℕ) (xs ys : List ℕ) → length xs ≤ length ys → at + length ys ≤ length l
-    → overlay (overlay l at xs) at ys ≡ overlay l at ys
-overlay-overlay l at xs ys h fits =
-    let first : at + length xs ≤ length l = omega arith in
-    let e : length (overlay l at xs) ≡ length l = length-overlay l at xs first in
-    let second : at + length ys ≤ length (overlay l at xs) = omega arith in
-    overlay-ext l at ys fits _ (length-overlay _ at ys second ∙ e) (getD-overlay-in _ at ys second)
-    (λ i b. getD-overlay-before _ at ys second i b ∙ getD-overlay-before l at xs first i b)
-    (λ i b c. getD-overlay-after _ at ys second i b ∙ getD-overlay-after l at xs first i (omega arith))
-
 -- ---- an overlay inside a run
 
 module _ (l : List ℕ) (at size : ℕ) (fits : at + size ≤ length l) where
@@ -145,9 +142,6 @@ module _ (l : List ℕ) (at size : ℕ) (fits : at + size ≤ length l) where
   overlay-part-ext m e before after =
       let n : length (part m at size) ≡ size = length-part m at size (omega arith) in
       sym (overlay-ext l at _ (omega arith) m e (λ i h. sym (getD-part m at size i (omega arith))) before (λ i h c. after i (omega arith)))
-
-  pub overlay-part : overlay l at (part l at size) ≡ l
-  overlay-part = overlay-part-ext l refl (λ i h. refl) (λ i h. refl)
 
   same-word :
       (m : List ℕ) (i : ℕ) → i < size → getD m (at + i) 0 ≡ getD l (at + i) 0 → getD (part m at size) i 0 ≡ getD (part l at size) i 0

@@ -6,7 +6,7 @@ use mathlib.Core.List.{List, [], _∷_, _++_}
 use mathlib.Core.Option.{Option, none, some}
 use lib.IntN.{pos, negℤ}
 use Rattle.interface.specs.declared.Answer.{Answer}
-use Rattle.interface.specs.declared.Answer.the-variants.{Added, Replaced, Removed, Absent, Found, Missing, Crowded}
+use Rattle.interface.specs.declared.Answer.the-variants.{Added, Replaced, Removed, Absent, Found, None, Crowded}
 use Rattle.machine.specs.Computing.{computing}
 use Rattle.machine.specs.Script.{Line, O, I, D, L, S, T, Reply, ok, refused, moved, answered, listed}
 use Rattle.machine.specs.Script.{Memory, zeros, holding, Lent, driver, run, memoryAfter}
@@ -26,7 +26,7 @@ pub record Case : Type 0 where
   pub row : Row
   pub right : Right row
 
--- "Left the input, right the output": a line and what it is met with
+-- "Left the input, right the output": a line and its reply
 abbrev pub Exchange : Type 0
 Exchange = Line × Reply
 
@@ -42,12 +42,12 @@ abbrev pub repliesOf : List Exchange → List Reply
 repliesOf [] = []
 repliesOf (e ∷ es) = e .1 ∷ repliesOf es
 
-abbrev pub over : (l : Lent) (es : List Exchange) → run l (lines es) ≡ repliesOf es → Case
-over l es e = record { row = record { lent = l; script = lines es; replies = repliesOf es }; right = e }
+abbrev pub lentCase : (l : Lent) (es : List Exchange) → run l (lines es) ≡ repliesOf es → Case
+lentCase l es e = record { row = record { lent = l; script = lines es; replies = repliesOf es }; right = e }
 
 -- what the program lends
-abbrev pub driven : (es : List Exchange) → run driver (lines es) ≡ repliesOf es → Case
-driven es e = over driver es e
+abbrev pub driverCase : (es : List Exchange) → run driver (lines es) ≡ repliesOf es → Case
+driverCase es e = lentCase driver es e
 
 abbrev pub workerOf : Line → ℕ
 workerOf (O n b M) = 0
@@ -75,28 +75,30 @@ two-holding-5-6 = O 2 2 1 ⟶ ok ∷ [] ++ I 0 5 (pos 50) gets Added at 15 ++ I 
 unfoldable pub settings-out-of-range : Case
 unfolding computing
 settings-out-of-range =
-    driven (O 0 2 1 ⟶ refused 1 ∷ O 9 2 1 ⟶ refused 1 ∷ O 1 1 1 ⟶ refused 1 ∷ O 1 17 1 ⟶ refused 1 ∷ O 1 2 9 ⟶ refused 1 ∷ O 1 2 0 ⟶ ok ∷ []) refl
+    driverCase (O 0 2 1 ⟶ refused 1 ∷ O 9 2 1 ⟶ refused 1 ∷ O 1 1 1 ⟶ refused 1 ∷ O 1 17 1 ⟶ refused 1 ∷ O 1 2 9 ⟶ refused 1 ∷ O 1 2 0 ⟶ ok
+    ∷ []) refl
 
 -- "n 8, b 16, M 8 over the words needed: opened."
 unfoldable pub greatest-settings : Case
 unfolding computing
-greatest-settings = over (record { words = 15_169; accounts = 0; totals = 0 }) (O 8 16 8 ⟶ ok ∷ T ⟶ listed [] ∷ []) refl
+greatest-settings = lentCase (record { words = 15_169; accounts = 0; totals = 0 }) (O 8 16 8 ⟶ ok ∷ T ⟶ listed [] ∷ []) refl
 
 -- "2 short: fewer words lent than needed"; 1 is checked before 2
 unfoldable pub one-word-short : Case
 unfolding computing
-one-word-short = over (record { words = 15_168; accounts = 0; totals = 0 }) (O 8 16 8 ⟶ refused 2 ∷ O 8 16 9 ⟶ refused 1 ∷ T ⟶ refused 8 ∷ []) refl
+one-word-short =
+    lentCase (record { words = 15_168; accounts = 0; totals = 0 }) (O 8 16 8 ⟶ refused 2 ∷ O 8 16 9 ⟶ refused 1 ∷ T ⟶ refused 8 ∷ []) refl
 
 -- "P: a fresh table lists nothing, count 0."
 unfoldable pub fresh-table : Case
 unfolding computing
-fresh-table = driven (O 2 2 1 ⟶ ok ∷ T ⟶ listed [] ∷ []) refl
+fresh-table = driverCase (O 2 2 1 ⟶ ok ∷ T ⟶ listed [] ∷ []) refl
 
 -- "P: the session above."
-unfoldable pub session : Case
+unfoldable pub session-lines : Case
 unfolding computing
-session =
-    driven (
+session-lines =
+    driverCase (
     O 1 2 1 ⟶ ok ∷ I 0 5 (pos 700) ⟶ ok ∷ S 0 12 ⟶ moved 12 ∷ S 0 9 ⟶ answered Added 13
     ∷ L 0 5 ⟶ ok ∷ S 0 2 ⟶ answered (Found (pos 700)) 2 ∷ T ⟶ listed ((5, pos 700) ∷ []) ∷ [])
     refl
@@ -105,7 +107,7 @@ session =
 unfoldable pub split-then-crowded : Case
 unfolding computing
 split-then-crowded =
-    driven (
+    driverCase (
     one-holding-5-6 ++ I 0 2_147_483_648 (pos 1) gets Added at 23 ++ I 0 7 (pos 70) gets Crowded at 13 ++ D 0 5 gets Crowded at 13
     ++ T ⟶ listed ((5, pos 50) ∷ (6, pos 60) ∷ (2_147_483_648, pos 1) ∷ []) ∷ [])
     refl
@@ -118,7 +120,7 @@ straight-after = one-holding-5-6 ++ I 0 7 (pos 70) gets Crowded at 23
 unfoldable pub crowded-straight-after : Case
 unfolding computing
 crowded-straight-after =
-    driven (
+    driverCase (
     straight-after ++ S 0 1 ⟶ refused 5 ∷ T ⟶ listed ((5, pos 50) ∷ (6, pos 60) ∷ []) ∷ [] ++ I 0 2_147_483_648 (pos 1) gets Added at 13
     ++ T ⟶ listed ((5, pos 50) ∷ (6, pos 60) ∷ (2_147_483_648, pos 1) ∷ []) ∷ [])
     refl
@@ -127,7 +129,7 @@ crowded-straight-after =
 unfoldable pub busy-idle-stranger : Case
 unfolding computing
 busy-idle-stranger =
-    driven (
+    driverCase (
     O 2 2 1 ⟶ ok ∷ S 0 1 ⟶ refused 5 ∷ I 0 5 (pos 7) ⟶ ok ∷ S 0 3 ⟶ moved 3
     ∷ I 0 6 (pos 8) ⟶ refused 4 ∷ D 0 5 ⟶ refused 4 ∷ L 0 5 ⟶ refused 4
     ∷ I 2 5 (pos 7) ⟶ refused 3 ∷ D 2 5 ⟶ refused 3 ∷ L 2 5 ⟶ refused 3 ∷ S 2 1 ⟶ refused 3 ∷ S 1 1 ⟶ refused 5
@@ -138,17 +140,17 @@ busy-idle-stranger =
 unfoldable pub lookup-after-delete : Case
 unfolding computing
 lookup-after-delete =
-    driven (
+    driverCase (
     O 2 2 1 ⟶ ok ∷ [] ++ I 0 5 (pos 50) gets Added at 15
-    ++ L 1 5 ⟶ ok ∷ S 1 1 ⟶ moved 1 ∷ [] ++ D 0 5 gets Removed at 15 ++ S 1 1 ⟶ answered Missing 2 ∷ [])
+    ++ L 1 5 ⟶ ok ∷ S 1 1 ⟶ moved 1 ∷ [] ++ D 0 5 gets Removed at 15 ++ S 1 1 ⟶ answered None 2 ∷ [])
     refl
 
 -- "P: n 2, b 2, M 1, empty. Worker 1 calls insert 9, 3 steps. Worker 0 inserts 5, 15 steps. The listing has 5 and 9; worker 1
 -- later gets added at 15."
-unfoldable pub helped : Case
+unfoldable pub helped-update : Case
 unfolding computing
-helped =
-    driven (
+helped-update =
+    driverCase (
     O 2 2 1 ⟶ ok ∷ I 1 9 (pos 90) ⟶ ok ∷ S 1 3 ⟶ moved 3 ∷ [] ++ I 0 5 (pos 50) gets Added at 15
     ++ T ⟶ listed ((5, pos 50) ∷ (9, pos 90) ∷ []) ∷ S 1 99 ⟶ answered Added 15 ∷ [])
     refl
@@ -158,7 +160,7 @@ helped =
 unfoldable pub second-pass : Case
 unfolding computing
 second-pass =
-    driven (
+    driverCase (
     two-holding-5-6 ++ I 0 2_147_483_648 (pos 1) ⟶ ok ∷ S 0 20 ⟶ moved 20 ∷ I 1 2_147_483_649 (pos 2) ⟶ ok ∷ S 1 13 ⟶ moved 13
     ∷ S 0 99 ⟶ answered Added 29 ∷ S 1 99 ⟶ answered Added 43
     ∷ T ⟶ listed ((5, pos 50) ∷ (6, pos 60) ∷ (2_147_483_648, pos 1) ∷ (2_147_483_649, pos 2) ∷ []) ∷ [])
@@ -170,7 +172,7 @@ second-pass =
 unfoldable pub memory-of-zeros : Case
 unfolding computing
 memory-of-zeros =
-    driven (
+    driverCase (
     I 0 5 (pos 7) ⟶ refused 8 ∷ D 0 5 ⟶ refused 8 ∷ L 0 5 ⟶ refused 8 ∷ S 0 1 ⟶ refused 8 ∷ T ⟶ refused 8
     ∷ O 9 2 1 ⟶ refused 1 ∷ O 8 16 8 ⟶ refused 2 ∷ T ⟶ refused 8 ∷ O 8 16 7 ⟶ ok ∷ T ⟶ listed [] ∷ [])
     refl
@@ -180,55 +182,58 @@ memory-of-zeros =
 unfoldable pub refused-opening : Case
 unfolding computing
 refused-opening =
-    driven (
+    driverCase (
     O 1 2 1 ⟶ ok ∷ [] ++ I 0 5 (pos 7) gets Added at 13
-    ++ I 0 6 (pos 8) ⟶ ok ∷ S 0 5 ⟶ moved 5 ∷ O 0 2 1 ⟶ refused 1 ∷ O 8 16 8 ⟶ refused 2 ∷ T ⟶ listed ((5, pos 7) ∷ []) ∷ S 0 99 ⟶ answered Added 13
+    ++ I 0 6 (pos 8) ⟶ ok ∷ S 0 5 ⟶ moved 5 ∷ O 0 2 1 ⟶ refused 1 ∷ O 8 16 8 ⟶ refused 2 ∷ T ⟶ listed ((5, pos 7) ∷ [])
+    ∷ S 0 99 ⟶ answered Added 13
     ∷ O 2 3 2 ⟶ ok ∷ T ⟶ listed [] ∷ S 0 1 ⟶ refused 5 ∷ S 1 1 ⟶ refused 5 ∷ [])
     refl
 
 -- "10 narrow: accounts or totals list shorter than the count": no place, one place or two for one account and then two
 abbrev pub two-accounts : Reply → Reply → List Exchange
 two-accounts first second =
-    O 1 2 1 ⟶ ok ∷ T ⟶ listed [] ∷ [] ++ I 0 9 (pos 90) gets Added at 13 ++ T ⟶ first ∷ [] ++ I 0 5 (pos 50) gets Added at 13 ++ T ⟶ second ∷ []
+    O 1 2 1 ⟶ ok ∷ T ⟶ listed [] ∷ [] ++ I 0 9 (pos 90) gets Added at 13 ++ T ⟶ first ∷ [] ++ I 0 5 (pos 50) gets Added at 13
+    ++ T ⟶ second ∷ []
 
 abbrev pub lists-of : ℕ → ℕ → Lent
 lists-of x y = record { words = 8_192; accounts = x; totals = y }
 
 unfoldable pub no-accounts : Case
 unfolding computing
-no-accounts = over (lists-of 0 4_096) (two-accounts (refused 10) (refused 10)) refl
+no-accounts = lentCase (lists-of 0 4_096) (two-accounts (refused 10) (refused 10)) refl
 
 unfoldable pub no-totals : Case
 unfolding computing
-no-totals = over (lists-of 4_096 0) (two-accounts (refused 10) (refused 10)) refl
+no-totals = lentCase (lists-of 4_096 0) (two-accounts (refused 10) (refused 10)) refl
 
 unfoldable pub one-account : Case
 unfolding computing
-one-account = over (lists-of 1 2) (two-accounts (listed ((9, pos 90) ∷ [])) (refused 10)) refl
+one-account = lentCase (lists-of 1 2) (two-accounts (listed ((9, pos 90) ∷ [])) (refused 10)) refl
 
 unfoldable pub one-total : Case
 unfolding computing
-one-total = over (lists-of 2 1) (two-accounts (listed ((9, pos 90) ∷ [])) (refused 10)) refl
+one-total = lentCase (lists-of 2 1) (two-accounts (listed ((9, pos 90) ∷ [])) (refused 10)) refl
 
 unfoldable pub just-enough : Case
 unfolding computing
-just-enough = over (lists-of 2 2) (two-accounts (listed ((9, pos 90) ∷ [])) (listed ((5, pos 50) ∷ (9, pos 90) ∷ []))) refl
+just-enough = lentCase (lists-of 2 2) (two-accounts (listed ((9, pos 90) ∷ [])) (listed ((5, pos 50) ∷ (9, pos 90) ∷ []))) refl
 
 -- "Insert answers added, or replaced where the account was there; delete answers removed or absent"; "answer found with the total, or none"
 unfoldable pub every-answer : Case
 unfolding computing
 every-answer =
-    driven (
-    O 1 3 1 ⟶ ok ∷ [] ++ D 0 5 gets Absent at 13 ++ L 0 5 gets Missing at 2 ++ I 0 5 (pos 1) gets Added at 13 ++ I 0 4 (pos 3) gets Added at 13
-    ++ I 0 5 (pos 2) gets Replaced at 13 ++ L 0 5 gets Found (pos 2) at 2 ++ D 0 6 gets Absent at 13 ++ T ⟶ listed ((4, pos 3) ∷ (5, pos 2) ∷ []) ∷ []
-    ++ D 0 5 gets Removed at 13 ++ L 0 5 gets Missing at 2 ++ T ⟶ listed ((4, pos 3) ∷ []) ∷ [])
+    driverCase (
+    O 1 3 1 ⟶ ok ∷ [] ++ D 0 5 gets Absent at 13 ++ L 0 5 gets None at 2 ++ I 0 5 (pos 1) gets Added at 13 ++ I 0 4 (pos 3) gets Added at 13
+    ++ I 0 5 (pos 2) gets Replaced at 13 ++ L 0 5 gets Found (pos 2) at 2 ++ D 0 6 gets Absent at 13
+    ++ T ⟶ listed ((4, pos 3) ∷ (5, pos 2) ∷ []) ∷ []
+    ++ D 0 5 gets Removed at 13 ++ L 0 5 gets None at 2 ++ T ⟶ listed ((4, pos 3) ∷ []) ∷ [])
     refl
 
 -- "An account is a 32-bit unsigned number, a total a 64-bit signed number": both ends of both
 unfoldable pub both-ends : Case
 unfolding computing
 both-ends =
-    driven (
+    driverCase (
     O 1 2 1 ⟶ ok ∷ [] ++ I 0 4_294_967_295 (negℤ (pos 9_223_372_036_854_775_808)) gets Added at 13
     ++ I 0 0 (pos 9_223_372_036_854_775_807) gets Added at 13
     ++ L 0 4_294_967_295 gets Found (negℤ (pos 9_223_372_036_854_775_808)) at 2 ++ L 0 0 gets Found (pos 9_223_372_036_854_775_807) at 2
@@ -242,8 +247,9 @@ both-ends =
 unfoldable pub effect-at-swap : Case
 unfolding computing
 effect-at-swap =
-    driven (
-    O 1 2 1 ⟶ ok ∷ I 0 5 (pos 7) ⟶ ok ∷ S 0 6 ⟶ moved 6 ∷ T ⟶ listed [] ∷ S 0 1 ⟶ moved 1 ∷ T ⟶ listed ((5, pos 7) ∷ []) ∷ S 0 99 ⟶ answered Added 13
+    driverCase (
+    O 1 2 1 ⟶ ok ∷ I 0 5 (pos 7) ⟶ ok ∷ S 0 6 ⟶ moved 6 ∷ T ⟶ listed [] ∷ S 0 1 ⟶ moved 1 ∷ T ⟶ listed ((5, pos 7) ∷ [])
+    ∷ S 0 99 ⟶ answered Added 13
     ∷ D 0 5 ⟶ ok ∷ S 0 6 ⟶ moved 6 ∷ T ⟶ listed ((5, pos 7) ∷ []) ∷ S 0 1 ⟶ moved 1 ∷ T ⟶ listed [] ∷ S 0 99 ⟶ answered Removed 13 ∷ [])
     refl
 
@@ -251,20 +257,20 @@ effect-at-swap =
 unfoldable pub effect-at-directory-swap : Case
 unfolding computing
 effect-at-directory-swap =
-    driven (
+    driverCase (
     one-holding-5-6 ++ I 0 2_147_483_648 (pos 1) ⟶ ok ∷ S 0 16 ⟶ moved 16 ∷ T ⟶ listed ((5, pos 50) ∷ (6, pos 60) ∷ [])
     ∷ S 0 1 ⟶ moved 1 ∷ T ⟶ listed ((5, pos 50) ∷ (6, pos 60) ∷ (2_147_483_648, pos 1) ∷ []) ∷ S 0 99 ⟶ answered Added 23 ∷ [])
     refl
 
 -- A lookup answers from the bucket that stood in the directory it read, also if that was split and the account deleted since.
 -- Tells apart: a second step that reads the directory again.
-unfoldable pub overtaken-lookup : Case
+unfoldable pub superseded-lookup : Case
 unfolding computing
-overtaken-lookup =
-    driven (
+superseded-lookup =
+    driverCase (
     O 2 2 1 ⟶ ok ∷ [] ++ I 0 5 (pos 50) gets Added at 15 ++ I 0 2_147_483_648 (pos 1) gets Added at 15
     ++ L 1 2_147_483_648 ⟶ ok ∷ S 1 1 ⟶ moved 1 ∷ [] ++ I 0 6 (pos 60) gets Added at 29 ++ D 0 2_147_483_648 gets Removed at 15
-    ++ S 1 1 ⟶ answered (Found (pos 1)) 2 ∷ [] ++ L 1 2_147_483_648 gets Missing at 2)
+    ++ S 1 1 ⟶ answered (Found (pos 1)) 2 ∷ [] ++ L 1 2_147_483_648 gets None at 2)
     refl
 
 -- ---- wrong machines: each row says what one would do instead
@@ -273,7 +279,7 @@ overtaken-lookup =
 unfoldable pub full-on-the-copy : Case
 unfolding computing
 full-on-the-copy =
-    driven (
+    driverCase (
     O 2 2 0 ⟶ ok ∷ [] ++ I 0 5 (pos 50) gets Added at 15 ++ I 1 9 (pos 90) ⟶ ok ∷ S 1 3 ⟶ moved 3 ∷ [] ++ I 0 6 (pos 60) gets Added at 15
     ++ T ⟶ listed ((5, pos 50) ∷ (6, pos 60) ∷ []) ∷ S 1 99 ⟶ answered Crowded 15 ∷ [])
     refl
@@ -282,7 +288,7 @@ full-on-the-copy =
 unfoldable pub worker-order : Case
 unfolding computing
 worker-order =
-    driven (
+    driverCase (
     O 2 2 1 ⟶ ok ∷ I 0 5 (pos 1) ⟶ ok ∷ S 0 3 ⟶ moved 3 ∷ [] ++ I 1 5 (pos 2) gets Replaced at 15
     ++ S 0 99 ⟶ answered Added 15 ∷ T ⟶ listed ((5, pos 2) ∷ []) ∷ [])
     refl
@@ -292,7 +298,7 @@ worker-order =
 unfoldable pub not-flipped : Case
 unfolding computing
 not-flipped =
-    driven (
+    driverCase (
     two-holding-5-6 ++ I 0 2_147_483_648 (pos 1) gets Added at 29 ++ I 0 7 (pos 70) ⟶ ok ∷ S 0 1 ⟶ moved 1 ∷ []
     ++ I 1 2_147_483_649 (pos 2) gets Added at 15
     ++ T ⟶ listed ((5, pos 50) ∷ (6, pos 60) ∷ (2_147_483_648, pos 1) ∷ (2_147_483_649, pos 2) ∷ []) ∷ S 0 99 ⟶ answered Crowded 15 ∷ [])
@@ -302,7 +308,7 @@ not-flipped =
 unfoldable pub late-bucket-swap : Case
 unfolding computing
 late-bucket-swap =
-    driven (
+    driverCase (
     O 2 2 1 ⟶ ok ∷ I 0 5 (pos 50) ⟶ ok ∷ S 0 7 ⟶ moved 7 ∷ [] ++ I 1 9 (pos 90) gets Added at 15
     ++ S 0 1 ⟶ moved 1 ∷ T ⟶ listed ((5, pos 50) ∷ (9, pos 90) ∷ []) ∷ S 0 99 ⟶ answered Added 15 ∷ [])
     refl
@@ -312,7 +318,7 @@ late-bucket-swap =
 unfoldable pub second-bucket-round : Case
 unfolding computing
 second-bucket-round =
-    driven (
+    driverCase (
     O 2 2 0 ⟶ ok ∷ I 1 5 (pos 50) ⟶ ok ∷ S 1 5 ⟶ moved 5 ∷ I 0 6 (pos 60) ⟶ ok ∷ S 0 7 ⟶ moved 7 ∷ S 1 3 ⟶ moved 3
     ∷ S 0 99 ⟶ answered Added 15 ∷ S 1 99 ⟶ answered Added 15 ∷ T ⟶ listed ((5, pos 50) ∷ (6, pos 60) ∷ []) ∷ [])
     refl
@@ -321,7 +327,7 @@ second-bucket-round =
 unfoldable pub state-before-toggle : Case
 unfolding computing
 state-before-toggle =
-    driven (
+    driverCase (
     O 2 3 1 ⟶ ok ∷ I 1 9 (pos 90) ⟶ ok ∷ S 1 4 ⟶ moved 4 ∷ [] ++ I 0 5 (pos 50) gets Added at 15 ++ S 1 4 ⟶ moved 4 ∷ []
     ++ I 0 6 (pos 60) gets Added at 15 ++ S 1 99 ⟶ answered Added 15 ∷ T ⟶ listed ((5, pos 50) ∷ (6, pos 60) ∷ (9, pos 90) ∷ []) ∷ [])
     refl
@@ -330,7 +336,7 @@ state-before-toggle =
 unfoldable pub own-answer : Case
 unfolding computing
 own-answer =
-    driven (
+    driverCase (
     O 2 2 1 ⟶ ok ∷ [] ++ I 0 5 (pos 50) gets Added at 15 ++ D 1 5 gets Removed at 15 ++ I 1 5 (pos 51) gets Added at 15
     ++ I 0 5 (pos 52) gets Replaced at 15)
     refl
@@ -339,7 +345,7 @@ own-answer =
 unfoldable pub delete-held-back : Case
 unfolding computing
 delete-held-back =
-    driven (
+    driverCase (
     O 2 2 1 ⟶ ok ∷ [] ++ I 0 5 (pos 50) gets Added at 15 ++ I 0 2_147_483_648 (pos 1) gets Added at 15
     ++ I 1 6 (pos 60) ⟶ ok ∷ S 1 20 ⟶ moved 20 ∷ [] ++ D 0 2_147_483_648 gets Removed at 29
     ++ S 1 1 ⟶ moved 1 ∷ T ⟶ listed ((5, pos 50) ∷ (6, pos 60) ∷ []) ∷ S 1 99 ⟶ answered Added 29 ∷ [])
@@ -349,7 +355,7 @@ delete-held-back =
 unfoldable pub late-directory-swap : Case
 unfolding computing
 late-directory-swap =
-    driven (
+    driverCase (
     two-holding-5-6 ++ I 0 2_147_483_648 (pos 1) ⟶ ok ∷ S 0 20 ⟶ moved 20 ∷ [] ++ I 1 7 (pos 70) gets Crowded at 29
     ++ I 1 2_147_483_649 (pos 2) gets Added at 15 ++ S 0 1 ⟶ moved 1
     ∷ T ⟶ listed ((5, pos 50) ∷ (6, pos 60) ∷ (2_147_483_648, pos 1) ∷ (2_147_483_649, pos 2) ∷ []) ∷ S 0 99 ⟶ answered Added 29 ∷ [])
@@ -359,7 +365,7 @@ late-directory-swap =
 unfoldable pub unchanged-swap : Case
 unfolding computing
 unchanged-swap =
-    driven (
+    driverCase (
     O 2 2 2 ⟶ ok ∷ [] ++ I 0 5 (pos 50) gets Added at 15 ++ I 0 2_147_483_648 (pos 1) gets Added at 15
     ++ I 0 6 (pos 60) ⟶ ok ∷ S 0 26 ⟶ moved 26 ∷ I 1 1_073_741_824 (pos 2) ⟶ ok ∷ S 1 20 ⟶ moved 20 ∷ S 0 1 ⟶ moved 1 ∷ S 1 1 ⟶ moved 1
     ∷ T ⟶ listed ((5, pos 50) ∷ (6, pos 60) ∷ (2_147_483_648, pos 1) ∷ []) ∷ S 0 99 ⟶ answered Added 29 ∷ S 1 99 ⟶ answered Added 29
@@ -371,7 +377,7 @@ unchanged-swap =
 unfoldable pub every-update-of-the-bucket : Case
 unfolding computing
 every-update-of-the-bucket =
-    driven (
+    driverCase (
     two-holding-5-6 ++ I 1 2_147_483_648 (pos 2) ⟶ ok ∷ S 1 1 ⟶ moved 1 ∷ [] ++ I 0 2_147_483_648 (pos 1) gets Added at 29
     ++ T ⟶ listed ((5, pos 50) ∷ (6, pos 60) ∷ (2_147_483_648, pos 2) ∷ []) ∷ S 1 99 ⟶ answered Replaced 15 ∷ [])
     refl
@@ -380,7 +386,7 @@ every-update-of-the-bucket =
 unfoldable pub slots-read-again : Case
 unfolding computing
 slots-read-again =
-    driven (
+    driverCase (
     two-holding-5-6 ++ I 0 2_147_483_648 (pos 1) ⟶ ok ∷ S 0 15 ⟶ moved 15 ∷ I 1 2_147_483_649 (pos 2) ⟶ ok ∷ S 1 1 ⟶ moved 1
     ∷ S 0 99 ⟶ answered Added 29 ∷ T ⟶ listed ((5, pos 50) ∷ (6, pos 60) ∷ (2_147_483_648, pos 1) ∷ (2_147_483_649, pos 2) ∷ [])
     ∷ S 1 99 ⟶ answered Added 15 ∷ [])
@@ -396,19 +402,22 @@ two-splits =
 unfoldable pub a-step-per-worker : Case
 unfolding computing
 a-step-per-worker =
-    driven (
+    driverCase (
     two-splits
-    ++ T ⟶ listed ((5, pos 50) ∷ (6, pos 60) ∷ (1_073_741_824, pos 4) ∷ (2_147_483_648, pos 1) ∷ (2_147_483_649, pos 2) ∷ (3_221_225_472, pos 3) ∷ [])
+    ++ T ⟶ listed ((5, pos 50) ∷ (6, pos 60) ∷ (1_073_741_824, pos 4) ∷ (2_147_483_648, pos 1) ∷ (2_147_483_649, pos 2)
+    ∷ (3_221_225_472, pos 3) ∷ [])
     ∷ S 1 99 ⟶ answered Added 15 ∷ [])
     refl
 
--- A bucket made in this round that is not planted at all its entries: the upper half has depth 1 in a directory of depth 2.
+-- A bucket made in this round that does not stand at all its entries: the upper half has depth 1 in a directory of depth 2.
 unfoldable pub shallow-half : Case
 unfolding computing
 shallow-half =
-    driven (
-    O 2 2 2 ⟶ ok ∷ [] ++ I 0 5 (pos 50) gets Added at 15 ++ I 0 6 (pos 60) gets Added at 15 ++ I 1 2_147_483_648 (pos 2) ⟶ ok ∷ S 1 1 ⟶ moved 1 ∷ []
-    ++ I 0 1_073_741_824 (pos 1) gets Added at 29 ++ T ⟶ listed ((5, pos 50) ∷ (6, pos 60) ∷ (1_073_741_824, pos 1) ∷ (2_147_483_648, pos 2) ∷ [])
+    driverCase (
+    O 2 2 2 ⟶ ok ∷ [] ++ I 0 5 (pos 50) gets Added at 15 ++ I 0 6 (pos 60) gets Added at 15
+    ++ I 1 2_147_483_648 (pos 2) ⟶ ok ∷ S 1 1 ⟶ moved 1 ∷ []
+    ++ I 0 1_073_741_824 (pos 1) gets Added at 29
+    ++ T ⟶ listed ((5, pos 50) ∷ (6, pos 60) ∷ (1_073_741_824, pos 1) ∷ (2_147_483_648, pos 2) ∷ [])
     ∷ [] ++ I 0 3_221_225_472 (pos 3) gets Added at 15 ++ L 0 2_147_483_648 gets Found (pos 2) at 2 ++ S 1 99 ⟶ answered Added 15 ∷ [])
     refl
 
@@ -416,7 +425,7 @@ shallow-half =
 unfoldable pub settled-in-both-halves : Case
 unfolding computing
 settled-in-both-halves =
-    driven (
+    driverCase (
     O 3 2 1 ⟶ ok ∷ I 1 2_147_483_648 (pos 1) ⟶ ok ∷ S 1 3 ⟶ moved 3 ∷ I 2 5 (pos 50) ⟶ ok ∷ S 2 3 ⟶ moved 3 ∷ []
     ++ D 0 9 gets Absent at 17 ++ I 0 6 (pos 60) gets Added at 35 ++ D 0 2_147_483_648 gets Removed at 17
     ++ S 1 99 ⟶ answered Added 17 ∷ S 2 99 ⟶ answered Added 17 ∷ T ⟶ listed ((5, pos 50) ∷ (6, pos 60) ∷ []) ∷ [])
@@ -427,9 +436,10 @@ settled-in-both-halves =
 unfoldable pub settled-makes-nothing : Case
 unfolding computing
 settled-makes-nothing =
-    driven (
+    driverCase (
     O 3 3 2 ⟶ ok ∷ [] ++ I 0 5 (pos 50) gets Added at 17 ++ I 0 6 (pos 60) gets Added at 17 ++ I 0 2_147_483_648 (pos 1) gets Added at 17
-    ++ I 0 7 (pos 70) gets Added at 35 ++ I 1 2_147_483_649 (pos 2) ⟶ ok ∷ S 1 8 ⟶ moved 8 ∷ [] ++ I 2 3_221_225_472 (pos 3) gets Added at 17
+    ++ I 0 7 (pos 70) gets Added at 35 ++ I 1 2_147_483_649 (pos 2) ⟶ ok ∷ S 1 8 ⟶ moved 8 ∷ []
+    ++ I 2 3_221_225_472 (pos 3) gets Added at 17
     ++ I 0 1_073_741_824 (pos 4) gets Added at 35 ++ S 1 1 ⟶ moved 1 ∷ L 0 3_221_225_472 ⟶ ok ∷ S 0 99 ⟶ answered (Found (pos 3)) 2
     ∷ S 1 99 ⟶ answered Added 17 ∷ [])
     refl
@@ -439,9 +449,10 @@ settled-makes-nothing =
 unfoldable pub settled-by-a-later-ticket : Case
 unfolding computing
 settled-by-a-later-ticket =
-    driven (
+    driverCase (
     O 2 2 2 ⟶ ok ∷ [] ++ I 0 5 (pos 50) gets Added at 15 ++ I 0 6 (pos 60) gets Added at 15 ++ I 0 2_147_483_648 (pos 1) gets Added at 29
-    ++ I 1 2_147_483_648 (pos 2) ⟶ ok ∷ S 1 1 ⟶ moved 1 ∷ I 0 1_073_741_824 (pos 5) ⟶ ok ∷ S 0 18 ⟶ moved 18 ∷ S 1 99 ⟶ answered Replaced 15 ∷ []
+    ++ I 1 2_147_483_648 (pos 2) ⟶ ok ∷ S 1 1 ⟶ moved 1 ∷ I 0 1_073_741_824 (pos 5) ⟶ ok ∷ S 0 18 ⟶ moved 18 ∷ S 1 99 ⟶ answered Replaced 15
+    ∷ []
     ++ I 1 2_147_483_648 (pos 3) gets Replaced at 15 ++ I 1 3_221_225_472 (pos 4) gets Added at 15 ++ S 0 99 ⟶ answered Added 29
     ∷ T ⟶ listed ((5, pos 50) ∷ (6, pos 60) ∷ (1_073_741_824, pos 5) ∷ (2_147_483_648, pos 3) ∷ (3_221_225_472, pos 4) ∷ []) ∷ [])
     refl
@@ -450,18 +461,20 @@ settled-by-a-later-ticket =
 unfoldable pub split-while-full : Case
 unfolding computing
 split-while-full =
-    driven (
+    driverCase (
     O 1 2 3 ⟶ ok ∷ [] ++ I 0 5 (pos 50) gets Added at 13 ++ I 0 6 (pos 60) gets Added at 13 ++ I 0 536_870_912 (pos 1) gets Added at 23
-    ++ D 0 5 gets Crowded at 13 ++ L 0 5 gets Found (pos 50) at 2 ++ T ⟶ listed ((5, pos 50) ∷ (6, pos 60) ∷ (536_870_912, pos 1) ∷ []) ∷ [])
+    ++ D 0 5 gets Crowded at 13 ++ L 0 5 gets Found (pos 50) at 2 ++ T ⟶ listed ((5, pos 50) ∷ (6, pos 60) ∷ (536_870_912, pos 1) ∷ [])
+    ∷ [])
     refl
 
 -- A directory of depth 1 doubled without moving its entries: the other half would be lost.
 unfoldable pub doubled-directory : Case
 unfolding computing
 doubled-directory =
-    driven (
+    driverCase (
     O 1 2 2 ⟶ ok ∷ [] ++ I 0 5 (pos 50) gets Added at 13 ++ I 0 2_147_483_648 (pos 1) gets Added at 13 ++ I 0 6 (pos 60) gets Added at 23
-    ++ I 0 2_147_483_648 (pos 3) gets Replaced at 13 ++ I 0 1_073_741_824 (pos 2) gets Added at 23 ++ L 0 2_147_483_648 gets Found (pos 3) at 2
+    ++ I 0 2_147_483_648 (pos 3) gets Replaced at 13 ++ I 0 1_073_741_824 (pos 2) gets Added at 23
+    ++ L 0 2_147_483_648 gets Found (pos 3) at 2
     ++ T ⟶ listed ((5, pos 50) ∷ (6, pos 60) ∷ (1_073_741_824, pos 2) ∷ (2_147_483_648, pos 3) ∷ []) ∷ [])
     refl
 
@@ -469,7 +482,7 @@ doubled-directory =
 unfoldable pub fourth-check : Case
 unfolding computing
 fourth-check =
-    driven (
+    driverCase (
     O 3 2 2 ⟶ ok ∷ [] ++ I 2 0 (pos 7) gets Added at 17 ++ I 2 2_147_483_648 (pos 7) gets Added at 17
     ++ I 2 2_214_592_512 (pos 7) ⟶ ok ∷ S 2 24 ⟶ moved 24 ∷ I 0 67_108_864 (pos 7) ⟶ ok ∷ S 0 2 ⟶ moved 2
     ∷ I 1 3_355_443_200 (pos 7) ⟶ ok ∷ S 1 2 ⟶ moved 2 ∷ S 2 1 ⟶ moved 1 ∷ S 1 15 ⟶ moved 15 ∷ S 0 33 ⟶ moved 33 ∷ S 1 7 ⟶ moved 7
@@ -479,33 +492,34 @@ fourth-check =
 
 -- ---- the table
 
-abbrev pub rowsOf : List Case → List Row
-rowsOf [] = []
-rowsOf (c ∷ cs) = c .row ∷ rowsOf cs
+abbrev pub caseRows : List Case → List Row
+caseRows [] = []
+caseRows (c ∷ cs) = c .row ∷ caseRows cs
 
-abbrev pub All : (Row → Type 0) → List Row → Type 0
-All P [] = Unit {0}
-All P (r ∷ rs) = P r × All P rs
+abbrev pub AllRows : (Row → Type 0) → List Row → Type 0
+AllRows P [] = Unit {0}
+AllRows P (r ∷ rs) = P r × AllRows P rs
 
-all-right : (cs : List Case) → All Right (rowsOf cs)
+all-right : (cs : List Case) → AllRows Right (caseRows cs)
 all-right [] = tt
 all-right (c ∷ cs) = (c .right, all-right cs)
 
 abbrev pub cases : List Case
 cases =
-    settings-out-of-range ∷ greatest-settings ∷ one-word-short ∷ fresh-table ∷ session ∷ split-then-crowded ∷ crowded-straight-after
-    ∷ busy-idle-stranger ∷ lookup-after-delete ∷ helped ∷ second-pass
+    settings-out-of-range ∷ greatest-settings ∷ one-word-short ∷ fresh-table ∷ session-lines ∷ split-then-crowded ∷ crowded-straight-after
+    ∷ busy-idle-stranger ∷ lookup-after-delete ∷ helped-update ∷ second-pass
     ∷ memory-of-zeros ∷ refused-opening ∷ no-accounts ∷ no-totals ∷ one-account ∷ one-total ∷ just-enough ∷ every-answer ∷ both-ends
-    ∷ effect-at-swap ∷ effect-at-directory-swap ∷ overtaken-lookup
-    ∷ full-on-the-copy ∷ worker-order ∷ not-flipped ∷ late-bucket-swap ∷ second-bucket-round ∷ state-before-toggle ∷ own-answer ∷ delete-held-back
+    ∷ effect-at-swap ∷ effect-at-directory-swap ∷ superseded-lookup
+    ∷ full-on-the-copy ∷ worker-order ∷ not-flipped ∷ late-bucket-swap ∷ second-bucket-round ∷ state-before-toggle ∷ own-answer
+    ∷ delete-held-back
     ∷ late-directory-swap ∷ unchanged-swap ∷ every-update-of-the-bucket ∷ slots-read-again ∷ a-step-per-worker ∷ shallow-half
     ∷ settled-in-both-halves ∷ settled-makes-nothing ∷ settled-by-a-later-ticket ∷ split-while-full ∷ doubled-directory ∷ fourth-check ∷ []
 
 abbrev pub table : List Row
-table = rowsOf cases
+table = caseRows cases
 
 -- Every row of the table is right.
-pub table-right : All Right table
+pub table-right : AllRows Right table
 table-right = all-right cases
 
 -- ---- the depth of the directory that a script leaves

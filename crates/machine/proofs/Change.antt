@@ -14,74 +14,80 @@ use Rattle.machine.specs.DirectoryPass.{leafOf}
 use Rattle.machine.proofs.Base.{and-parts}
 use Rattle.machine.proofs.Counter.{Two, one, two, BStep, readS, readT, swap, slotB, DStep, copyD, swapD, slotD, state, PC, idle, announce}
 use Rattle.machine.proofs.Counter.{look₁, look₂, over, readD, flip, checkD, checkS, inB, inD}
-use Rattle.machine.proofs.Whereabouts.{IsTwo, Rounds, SawThere, Past, Known, Covered, Holds, Second, LastRound, known-two, second-rounds}
-use Rattle.machine.proofs.Inv.{Task, target, leaf, body, leafBody, held, own, SettledOrFull, FreshOrShut, HeldOrGone, HeldOrShut, FullOrShut}
-use Rattle.machine.proofs.Inv.{Rush, Old, DirectoryFresh, Fresh, Agree, Differ, ticketOf, IsMade, Closed, ClosedSlot, Shut, Gone, Hold}
-use Rattle.machine.proofs.Inv.{SeenState, SeenAt, Grown, Worked, SeenDirectory, ReadAt, RoundAt, Announced, Looking, SlotFacts, ReadFacts, Own}
+use Rattle.machine.proofs.CounterFacts.{IsTwo, Rounds, HasSlotD, PastState, UpdateSeen, BucketSplit, HoldsBucket, Second, LastRound, update-seen-two, second-rounds}
+use Rattle.machine.proofs.Inv.{Task, target, leaf, body, leafBody, held, own, SettledOrFull, FreshOrClosed, HeldOrSuperseded, HeldOrClosed, FullOrClosed}
+use Rattle.machine.proofs.Inv.{SeesFlip, OldSlot, DirectoryFresh, Fresh, Applied, Pending, ticketOf, IsMade, Closed, ClosedSlot, OwnClosed, Superseded, Hold}
+use Rattle.machine.proofs.Inv.{SeenState, SeenAt, ResolvedTo, KeptOrResolved, SeenDirectory, ReadAt, RoundAt, Announced, Looking, SlotFacts, ReadFacts, Own}
 use Rattle.machine.proofs.Inv.{Pair}
-use Rattle.machine.proofs.Resolve.{Fate, stays, gets, fate-le, fate-keep}
+use Rattle.machine.proofs.Resolve.{SettledChange, settled-same, settled-new, settled-change-le, settled-change-keep}
 
 -- ---- a change
 
 -- the directory's cell: as it was, or with a later stamp
-pub data Turn (c c′ : Cells) : Type 0 where
-  still : c′ .directory ≡ c .directory → Turn c c′
-  turned : c .directory .stamp < c′ .directory .stamp → Turn c c′
+pub data DirectoryEvolves (c c′ : Cells) : Type 0 where
+  same-directory : c′ .directory ≡ c .directory → DirectoryEvolves c c′
+  later-directory : c .directory .stamp < c′ .directory .stamp → DirectoryEvolves c c′
 
 module _ (s : Settings) where
   -- An account's bucket, x with body b, becomes x′ with body b′: it is the same bucket, or a deeper one made of it, which was full.
   pub data Evolves (slots : ℕ → Slot) (x : Name) (b : Body) (x′ : Name) (b′ : Body) : Type 0 where
-    stay : x′ ≡ x → ((i : ℕ) → Fate b b′ (slots i) (Unit {0}) i) → (full s b ≡ true → b′ ≡ b) → Evolves slots x b x′ b′
-    grow : x .depth < x′ .depth → full s b ≡ true → x .depth < s .depth → ((i : ℕ) → Fate b b′ (slots i) (Unit {0}) i) → Evolves slots x b x′ b′
+    same-bucket : x′ ≡ x → ((i : ℕ) → SettledChange b b′ (slots i) (Unit {0}) i) → (full s b ≡ true → b′ ≡ b) → Evolves slots x b x′ b′
+    deeper-bucket :
+        x .depth < x′ .depth → full s b ≡ true → x .depth < s .depth → ((i : ℕ) → SettledChange b b′ (slots i) (Unit {0}) i)
+        → Evolves slots x b x′ b′
 
-  -- What becomes of the bucket that worker j holds at place pc, with ticket t and the stamp i of the state it has read.
+  -- What becomes of the bucket that worker j holds at counter pc, with ticket t and the stamp i of the state it has read.
   pub record KeptBucket (j t : ℕ) (pc : PC) (i : ℕ) (x x′ : Bucket) : Type 0 where
     pub unchanged : full s (x .state .value .body) ≡ true → x′ .state .value .body ≡ x .state .value .body
     pub later : x .state .stamp ≤ x′ .state .stamp
     pub same : x′ .state .stamp ≡ x .state .stamp → x′ .state .value ≡ x .state .value
     pub applied :
-        Rounds pc → (Agree x j → SettledOrFull s j t (x .state .value .body)) → Agree x′ j → SettledOrFull s j t (x′ .state .value .body)
-    pub second : Second pc → (Differ x j → i ≡ x .state .stamp) → Differ x′ j → i ≡ x′ .state .stamp
+        Rounds pc → (Applied x j → SettledOrFull s j t (x .state .value .body)) → Applied x′ j
+        → SettledOrFull s j t (x′ .state .value .body)
+    pub second : Second pc → (Pending x j → i ≡ x .state .stamp) → Pending x′ j → i ≡ x′ .state .stamp
     pub settled : x .state .value .body .settled j .ticket ≤ x′ .state .value .body .settled j .ticket
 
   -- what becomes of account a's bucket
-  abbrev pub Leads : Cells → Cells → ℕ → Type 0
-  Leads c c′ a = Evolves (c .slots) (leaf c a) (leafBody c a) (leaf c′ a) (leafBody c′ a)
+  abbrev pub LeafEvolves : Cells → Cells → ℕ → Type 0
+  LeafEvolves c c′ a = Evolves (c .slots) (leaf c a) (leafBody c a) (leaf c′ a) (leafBody c′ a)
 
   -- A change of the cells, of slots too.
-  pub record Moved (c c′ : Cells) : Type 0 where
-    pub turn : Turn c c′
-    pub evolves : (a : ℕ) → Leads c c′ a
+  pub record CellsChanged (c c′ : Cells) : Type 0 where
+    pub directory-evolves : DirectoryEvolves c c′
+    pub evolves : (a : ℕ) → LeafEvolves c c′ a
 
   -- A change of the cells that leaves the slots.
-  pub record Changed (c c′ : Cells) : Type 0 where
+  pub record BucketsChanged (c c′ : Cells) : Type 0 where
     pub slots : c′ .slots ≡ c .slots
-    pub turn : Turn c c′
-    pub evolves : (a : ℕ) → Leads c c′ a
+    pub directory-evolves : DirectoryEvolves c c′
+    pub evolves : (a : ℕ) → LeafEvolves c c′ a
 
-  -- ---- what is asked of a change, for worker j with task k at place pc
+  -- ---- what is asked of a change, for worker j with task k at counter pc
 
   module _ (c c′ : Cells) (j : ℕ) (k : Task) (pc : PC) where
-    abbrev pub Kept : Type 0
-    Kept = KeptBucket j (k .ticket) pc (k .reads .state .stamp) (own c k) (own c′ k)
+    abbrev pub OwnKept : Type 0
+    OwnKept = KeptBucket j (k .ticket) pc (k .reads .state .stamp) (own c k) (own c′ k)
 
     -- that its bucket is kept
-    abbrev pub Keeps : Type 0
-    Keeps = Holds pc → Kept
+    abbrev pub HeldKept : Type 0
+    HeldKept = HoldsBucket pc → OwnKept
 
     -- that its update is closed if its account's bucket was split
-    abbrev pub Splits : Type 0
-    Splits = Known (k .reads .directory .stamp) (c .directory .stamp) pc → leaf c (target k) .depth < leaf c′ (target k) .depth → Shut s c′ j k
+    abbrev pub SplitCloses : Type 0
+    SplitCloses =
+        UpdateSeen (k .reads .directory .stamp) (c .directory .stamp) pc → leaf c (target k) .depth < leaf c′ (target k) .depth
+        → OwnClosed s c′ j k
 
     -- that its update is closed if it is past the last directory read and the directory was swapped
-    abbrev pub Swaps : Type 0
-    Swaps = LastRound pc → FreshOrShut s c j k → FreshOrShut s c′ j k
+    abbrev pub SwapCloses : Type 0
+    SwapCloses = LastRound pc → FreshOrClosed s c j k → FreshOrClosed s c′ j k
 
   -- ---- one bucket
 
   -- a bucket whose state is as it was is kept, if in its rounds the worker's bit is too
   pub kept-same :
-      {j t : ℕ} {pc : PC} {i : ℕ} {x x′ : Bucket} → x′ .state ≡ x .state → (Rounds pc → x′ .toggle j ≡ x .toggle j) → KeptBucket j t pc i x x′
+      {j t : ℕ} {pc : PC} {i : ℕ} {x x′ : Bucket} → x′ .state ≡ x .state → (Rounds pc → x′ .toggle j ≡ x .toggle j)
+      → KeptBucket j t pc i x x′
   kept-same {pc = pc} e f = record {
     unchanged = λ h. rw e;
     later = rw e (omega arith);
@@ -92,23 +98,27 @@ module _ (s : Settings) where
   }
 
   closed-on :
-      {slots : ℕ → Slot} {x x′ : Name} {b b′ : Body} (j t : ℕ) → Evolves slots x b x′ b′ → Closed s j t (x .depth) b → Closed s j t (x′ .depth) b′
-  closed-on j t (stay e f g) (inl h) = inl (omega (arith, fate-le (f j)))
-  closed-on j t (stay e f g) (inr h) = inr (rw (g (h .0)) (h .0), ap (λ z. z .depth) e ∙ h .1)
-  closed-on j t (grow l m d f) (inl h) = inl (omega (arith, fate-le (f j)))
-  closed-on j t (grow l m d f) (inr h) = absurd (omega arith)
+      {slots : ℕ → Slot} {x x′ : Name} {b b′ : Body} (j t : ℕ) → Evolves slots x b x′ b′ → Closed s j t (x .depth) b
+      → Closed s j t (x′ .depth) b′
+  closed-on j t (same-bucket e f g) (inl h) = inl (omega (arith, settled-change-le (f j)))
+  closed-on j t (same-bucket e f g) (inr h) = inr (rw (g (h .0)) (h .0), ap (λ z. z .depth) e ∙ h .1)
+  closed-on j t (deeper-bucket l m d f) (inl h) = inl (omega (arith, settled-change-le (f j)))
+  closed-on j t (deeper-bucket l m d f) (inr h) = absurd (omega arith)
 
   -- a closed update stays closed at a bucket that is kept
   closed-kept :
-      {j t d : ℕ} {b b′ : Body} → (full s b ≡ true → b′ ≡ b) → b .settled j .ticket ≤ b′ .settled j .ticket → Closed s j t d b → Closed s j t d b′
+      {j t d : ℕ} {b b′ : Body} → (full s b ≡ true → b′ ≡ b) → b .settled j .ticket ≤ b′ .settled j .ticket → Closed s j t d b
+      → Closed s j t d b′
   closed-kept f l (inl h) = inl (omega arith)
   closed-kept f l (inr h) = inr (rw (f (h .0)) (h .0), h .1)
 
-  -- h is the body of the bucket that is gone, b that of the one in its place
-  gone-on : {j t : ℕ} {x : Slot} {T : Type 0} {h h′ b b′ : Body} → ticketOf x ≤ t → Fate b b′ x T j → h′ ≡ h → Gone s j t h b → Gone s j t h′ b′
-  gone-on l f e g = rw e (record {
+  -- h is the body of the superseded bucket, b that of the one that superseded it
+  superseded-on :
+      {j t : ℕ} {x : Slot} {T : Type 0} {h h′ b b′ : Body} → ticketOf x ≤ t → SettledChange b b′ x T j → h′ ≡ h → Superseded s j t h b
+      → Superseded s j t h′ b′
+  superseded-on l f e g = rw e (record {
     full = g .full;
-    settled = λ le. let q = g .settled le in fate-keep f (rw q (omega arith)) ∙ q;
+    settled = λ le. let q = g .settled le in settled-change-keep f (rw q (omega arith)) ∙ q;
   })
 
   splits-full : (d : ℕ) (b : Body) → splittable s d b ≡ true → full s b ≡ true
@@ -117,58 +127,61 @@ module _ (s : Settings) where
 
   -- ---- what a worker has read in the directory pass is no later than the directory
 
-  saw-bounded :
-      (n j p : ℕ) (k : Task) (c : Cells) (pc : PC) → SawThere n j pc → ReadFacts s pc c p k → k .reads .directory .stamp ≤ c .directory .stamp
-  saw-bounded n j p k c (inD _ r swapD) x h = h .read .0 .bounded
-  saw-bounded n j p k c (inD _ r (slotD i)) x h = h .read .0 .bounded
-  saw-bounded n j p k c (inD _ r (state i)) x h = h .read .0 .bounded
+  slot-bounded :
+      (n j p : ℕ) (k : Task) (c : Cells) (pc : PC) → HasSlotD n j pc → ReadFacts s pc c p k
+      → k .reads .directory .stamp ≤ c .directory .stamp
+  slot-bounded n j p k c (inD _ r swapD) x h = h .read .0 .bounded
+  slot-bounded n j p k c (inD _ r (slotD i)) x h = h .read .0 .bounded
+  slot-bounded n j p k c (inD _ r (state i)) x h = h .read .0 .bounded
 
-  past-bounded : (n j p : ℕ) (k : Task) (c : Cells) (pc : PC) → Past n j pc → ReadFacts s pc c p k → k .reads .directory .stamp ≤ c .directory .stamp
-  past-bounded n j p k c (inD _ r swapD) x h = h .read .0 .bounded
-  past-bounded n j p k c (inD _ r (state i)) x h = h .read .0 .bounded
+  past-state-bounded :
+      (n j p : ℕ) (k : Task) (c : Cells) (pc : PC) → PastState n j pc → ReadFacts s pc c p k
+      → k .reads .directory .stamp ≤ c .directory .stamp
+  past-state-bounded n j p k c (inD _ r swapD) x h = h .read .0 .bounded
+  past-state-bounded n j p k c (inD _ r (state i)) x h = h .read .0 .bounded
 
   -- ---- all cells
 
-  module _ (c c′ : Cells) (mv : Moved c c′) where
+  module _ (c c′ : Cells) (mv : CellsChanged c c′) where
     -- a closed update stays closed
     pub closed-moved : (j : ℕ) (x : Slot) → ClosedSlot s c j x → ClosedSlot s c′ j x
     closed-moved j empty h = tt
     closed-moved j (announced u t) h = closed-on j t (mv .evolves (account u)) h
 
-    shut-moved : (j : ℕ) (k : Task) → Shut s c j k → Shut s c′ j k
-    shut-moved j k h = closed-on j (k .ticket) (mv .evolves (target k)) h
+    own-closed-moved : (j : ℕ) (k : Task) → OwnClosed s c j k → OwnClosed s c′ j k
+    own-closed-moved j k h = closed-on j (k .ticket) (mv .evolves (target k)) h
 
     -- ---- the directory
 
     stamp-up : c .directory .stamp ≤ c′ .directory .stamp
-    stamp-up = elim (mv .turn) [ still e ↦ rw e (omega arith) | turned l ↦ omega arith ]
+    stamp-up = elim (mv .directory-evolves) [ same-directory e ↦ rw e (omega arith) | later-directory l ↦ omega arith ]
 
     -- to a worker whose stamp is the new one the directory is as it was
-    fresh-still : (k : Task) → k .reads .directory .stamp ≤ c .directory .stamp → DirectoryFresh c′ k → c′ .directory ≡ c .directory
-    fresh-still k l e = elim (mv .turn) [ still f ↦ f | turned g ↦ absurd (omega arith) ]
+    fresh-same : (k : Task) → k .reads .directory .stamp ≤ c .directory .stamp → DirectoryFresh c′ k → c′ .directory ≡ c .directory
+    fresh-same k l e = elim (mv .directory-evolves) [ same-directory f ↦ f | later-directory g ↦ absurd (omega arith) ]
 
     seen-directory-move : (k : Task) → SeenDirectory s c k → SeenDirectory s c′ k
     seen-directory-move k h = record {
       bounded = omega (arith, stamp-up);
-      same = λ e. let q = fresh-still k (h .bounded) e in rw q (h .same (rw q at e));
+      same = λ e. let q = fresh-same k (h .bounded) e in rw q (h .same (rw q at e));
       coherent = h .coherent;
     }
 
-    worked-move : (k : Task) (a : ℕ) → c′ .directory ≡ c .directory → Worked s c k a → Worked s c′ k a
-    worked-move k a q h = go (mv .evolves a) h
+    kept-or-resolved-move : (k : Task) (a : ℕ) → c′ .directory ≡ c .directory → KeptOrResolved s c k a → KeptOrResolved s c′ k a
+    kept-or-resolved-move k a q h = go (mv .evolves a) h
       where
         leaf-same : leaf c′ a ≡ leaf c a
         leaf-same = rw q
 
-        go : Leads c c′ a → Worked s c k a → Worked s c′ k a
+        go : LeafEvolves c c′ a → KeptOrResolved s c k a → KeptOrResolved s c′ k a
         go v (inl z) = inl (rw q z)
-        go (stay e f g) (inr z) =
+        go (same-bucket e f g) (inr z) =
             let b : leafBody c′ a ≡ leafBody c a = g (splits-full (leaf c a .depth) (leafBody c a) (z .splits)) in
-            inr (subst (λ x. Grown s (k .reads .slots) x (leafBody c′ a) a (leafOf (k .reads .copy) a)) (sym e) (rw b z))
-        go (grow l m d f) (inr z) = absurd (omega (arith, ap (λ x. x .depth) leaf-same))
+            inr (subst (λ x. ResolvedTo s (k .reads .slots) x (leafBody c′ a) a (leafOf (k .reads .copy) a)) (sym e) (rw b z))
+        go (deeper-bucket l m d f) (inr z) = absurd (omega (arith, ap (λ x. x .depth) leaf-same))
 
     depth-up : (a : ℕ) → leaf c a .depth ≤ leaf c′ a .depth
-    depth-up a = elim (mv .evolves a) [ stay e f g ↦ rw e (omega arith) | grow l m d f ↦ omega arith ]
+    depth-up a = elim (mv .evolves a) [ same-bucket e f g ↦ rw e (omega arith) | deeper-bucket l m d f ↦ omega arith ]
 
     -- ---- worker j with task k
 
@@ -185,7 +198,8 @@ module _ (s : Settings) where
 
         slot-facts-move : (pc : PC) → SlotFacts s pc c j k → SlotFacts s pc c′ j k
         slot-facts-move idle h = (h .0, closed-slot-move (h .1))
-        slot-facts-move announce h = record { wanted = h .wanted; asks = h .asks; closed = closed-slot-move (h .closed); newer = rw slot (h .newer) }
+        slot-facts-move announce h =
+            record { wanted = h .wanted; asks = h .asks; closed = closed-slot-move (h .closed); newer = rw slot (h .newer) }
         slot-facts-move look₁ h = looking-move h
         slot-facts-move look₂ h = looking-move h
         slot-facts-move over h = absurd h
@@ -198,65 +212,70 @@ module _ (s : Settings) where
 
       -- ---- its bucket
 
-      abbrev GoneIn : Cells → Type 0
-      GoneIn d = Gone s j (k .ticket) (body d (held k)) (leafBody d (target k))
+      abbrev SupersededIn : Cells → Type 0
+      SupersededIn d = Superseded s j (k .ticket) (body d (held k)) (leafBody d (target k))
 
-      hold-move : {pc : PC} → ticketOf (c .slots j) ≤ k .ticket → Kept c c′ j k pc → Hold s c j k → Hold s c′ j k
+      hold-move : {pc : PC} → ticketOf (c .slots j) ≤ k .ticket → OwnKept c c′ j k pc → Hold s c j k → Hold s c′ j k
       hold-move l b h = record { named = h .named; depth = omega (arith, depth-up (target k)); is = go (mv .evolves (target k)) (h .is) }
         where
-          gone : {T : Type 0} → Fate (leafBody c (target k)) (leafBody c′ (target k)) (c .slots j) T j → GoneIn c → GoneIn c′
-          gone f g = gone-on l f (b .unchanged (g .full)) g
+          superseded :
+              {T : Type 0} → SettledChange (leafBody c (target k)) (leafBody c′ (target k)) (c .slots j) T j → SupersededIn c
+              → SupersededIn c′
+          superseded f g = superseded-on l f (b .unchanged (g .full)) g
 
-          go : Leads c c′ (target k) → HeldOrGone s c j k → HeldOrGone s c′ j k
-          go (stay e f g) (inl z) = inl (z ∙ sym e)
-          go (stay e f g) (inr z) = inr (gone (f j) z)
-          go (grow e m d f) (inl z) = inr (gone (f j) (rw z (record { full = m; settled = λ l. refl })))
-          go (grow e m d f) (inr z) = inr (gone (f j) z)
+          go : LeafEvolves c c′ (target k) → HeldOrSuperseded s c j k → HeldOrSuperseded s c′ j k
+          go (same-bucket e f g) (inl z) = inl (z ∙ sym e)
+          go (same-bucket e f g) (inr z) = inr (superseded (f j) z)
+          go (deeper-bucket e m d f) (inl z) = inr (superseded (f j) (rw z (record { full = m; settled = λ l. refl })))
+          go (deeper-bucket e m d f) (inr z) = inr (superseded (f j) z)
 
       -- if its account's bucket was split, its update is closed
-      module _ (shut : leaf c (target k) .depth < leaf c′ (target k) .depth → Shut s c′ j k) where
+      module _ (own-closed : leaf c (target k) .depth < leaf c′ (target k) .depth → OwnClosed s c′ j k) where
         -- it is closed, or what holds of a bucket that stays holds
         unless-split :
             {A A′ : Type 0}
-            → (leaf c′ (target k) ≡ leaf c (target k) → (full s (leafBody c (target k)) ≡ true → leafBody c′ (target k) ≡ leafBody c (target k))
+            → (leaf c′ (target k) ≡ leaf c (target k)
+            → (full s (leafBody c (target k)) ≡ true → leafBody c′ (target k) ≡ leafBody c (target k))
             → A → A′)
-            → A ⊎ Shut s c j k → A′ ⊎ Shut s c′ j k
-        unless-split {A} {A′} h (inr z) = inr (shut-moved j k z)
-        unless-split {A} {A′} h (inl z) = elim (mv .evolves (target k)) [ stay e f g ↦ inl (h e g z) | grow l m d f ↦ inr (shut l) ]
+            → A ⊎ OwnClosed s c j k → A′ ⊎ OwnClosed s c′ j k
+        unless-split {A} {A′} h (inr z) = inr (own-closed-moved j k z)
+        unless-split {A} {A′} h (inl z) =
+            elim (mv .evolves (target k)) [ same-bucket e f g ↦ inl (h e g z) | deeper-bucket l m d f ↦ inr (own-closed l) ]
 
-        leaf-move : HeldOrShut s c j k → HeldOrShut s c′ j k
+        leaf-move : HeldOrClosed s c j k → HeldOrClosed s c′ j k
         leaf-move = unless-split (λ e g z. z ∙ sym e)
 
-        full-move : FullOrShut s c j k → FullOrShut s c′ j k
+        full-move : FullOrClosed s c j k → FullOrClosed s c′ j k
         full-move = unless-split (λ e g z. ap (full s) (g z) ∙ z)
 
       -- ---- its rounds
 
-      seen-state-move : {pc : PC} (r : Two) → (IsTwo r → Second pc) → Kept c c′ j k pc → SeenState s r c j k → SeenState s r c′ j k
+      seen-state-move : {pc : PC} (r : Two) → (IsTwo r → Second pc) → OwnKept c c′ j k pc → SeenState s r c j k → SeenState s r c′ j k
       seen-state-move r h b o = record {
         bounded = omega (arith, b .later);
         same = λ e. let y : Fresh c k = omega (arith, b .later) in o .same y ∙ sym (b .same (sym e ∙ y));
         second = λ t. b .second (h t) (o .second t);
       }
 
-      seen-at-move : (p r : Two) (x : BStep) → Kept c c′ j k (inB p r x) → SeenAt s r x c j k → SeenAt s r x c′ j k
+      seen-at-move : (p r : Two) (x : BStep) → OwnKept c c′ j k (inB p r x) → SeenAt s r x c j k → SeenAt s r x c′ j k
       seen-at-move p r readS b o = tt
       seen-at-move p r readT b o = seen-state-move r (λ t. (t, tt)) b o
       seen-at-move p r swap b o = seen-state-move r (λ t. (t, tt)) b o
       seen-at-move p r (slotB i) b o = seen-state-move r (λ t. (t, tt)) b o
 
-      all-worked-move :
-          SeenDirectory s c k × (DirectoryFresh c k → (a : ℕ) → Worked s c k a)
-          → SeenDirectory s c′ k × (DirectoryFresh c′ k → (a : ℕ) → Worked s c′ k a)
-      all-worked-move h = (seen-directory-move k (h .0), λ e a. let q = fresh-still k (h .0 .bounded) e in worked-move k a q (h .1 (rw q at e) a))
+      all-kept-or-resolved-move :
+          SeenDirectory s c k × (DirectoryFresh c k → (a : ℕ) → KeptOrResolved s c k a)
+          → SeenDirectory s c′ k × (DirectoryFresh c′ k → (a : ℕ) → KeptOrResolved s c′ k a)
+      all-kept-or-resolved-move h =
+          (seen-directory-move k (h .0), λ e a. let q = fresh-same k (h .0 .bounded) e in kept-or-resolved-move k a q (h .1 (rw q at e) a))
 
       read-at-move : (x : DStep) → ReadAt s x c k → ReadAt s x c′ k
       read-at-move copyD h = tt
-      read-at-move swapD h = all-worked-move h
+      read-at-move swapD h = all-kept-or-resolved-move h
       read-at-move (slotD i) h = (seen-directory-move k (h .0), h .1)
-      read-at-move (state i) h = all-worked-move h
+      read-at-move (state i) h = all-kept-or-resolved-move h
 
-      round-at-move : (p r : Two) (x : DStep) → Swaps c c′ j k (inD p r x) → RoundAt s p r x c j k → RoundAt s p r x c′ j k
+      round-at-move : (p r : Two) (x : DStep) → SwapCloses c c′ j k (inD p r x) → RoundAt s p r x c j k → RoundAt s p r x c′ j k
       round-at-move p r copyD last h = tt
       round-at-move p r swapD last h = λ b. last (b, tt) (h b)
       round-at-move p r (slotD i) last h = λ b. last (b, tt) (h b)
@@ -265,29 +284,31 @@ module _ (s : Settings) where
       -- ---- what it has read
 
       read-facts-move :
-          (pc : PC) → ticketOf (c .slots j) ≤ k .ticket → Keeps c c′ j k pc → Splits c c′ j k pc → Swaps c c′ j k pc → ReadFacts s pc c j k
+          (pc : PC) → ticketOf (c .slots j) ≤ k .ticket → HeldKept c c′ j k pc → SplitCloses c c′ j k pc → SwapCloses c c′ j k pc
+          → ReadFacts s pc c j k
           → ReadFacts s pc c′ j k
-      read-facts-move idle l kept shut last h = tt
-      read-facts-move announce l kept shut last h = tt
-      read-facts-move look₁ l kept shut last h = tt
-      read-facts-move look₂ l kept shut last h = hold-move l (kept tt) h
-      read-facts-move over l kept shut last h = absurd h
-      read-facts-move (readD p) l kept shut last h = tt
-      read-facts-move (flip p) l kept shut last h = (hold-move l (kept tt) (h .0), λ t. leaf-move (shut t) (h .1 t))
-      read-facts-move (checkD one x) l kept shut last h = tt
-      read-facts-move (checkD two one) l kept shut last h = full-move (shut tt) h
-      read-facts-move (checkD two two) l kept shut last h = shut-moved j k h
-      read-facts-move (checkS one x) l kept shut last h = (hold-move l (kept tt) (h .0), tt)
-      read-facts-move (checkS two one) l kept shut last h = (hold-move l (kept tt) (h .0), full-move (shut tt) (h .1))
-      read-facts-move (checkS two two) l kept shut last h = (hold-move l (kept tt) (h .0), closed-kept (kept tt .unchanged) (kept tt .settled) (h .1))
-      read-facts-move (inB p r x) l kept shut last h = record {
+      read-facts-move idle l kept own-closed last h = tt
+      read-facts-move announce l kept own-closed last h = tt
+      read-facts-move look₁ l kept own-closed last h = tt
+      read-facts-move look₂ l kept own-closed last h = hold-move l (kept tt) h
+      read-facts-move over l kept own-closed last h = absurd h
+      read-facts-move (readD p) l kept own-closed last h = tt
+      read-facts-move (flip p) l kept own-closed last h = (hold-move l (kept tt) (h .0), λ t. leaf-move (own-closed t) (h .1 t))
+      read-facts-move (checkD one x) l kept own-closed last h = tt
+      read-facts-move (checkD two one) l kept own-closed last h = full-move (own-closed tt) h
+      read-facts-move (checkD two two) l kept own-closed last h = own-closed-moved j k h
+      read-facts-move (checkS one x) l kept own-closed last h = (hold-move l (kept tt) (h .0), tt)
+      read-facts-move (checkS two one) l kept own-closed last h = (hold-move l (kept tt) (h .0), full-move (own-closed tt) (h .1))
+      read-facts-move (checkS two two) l kept own-closed last h =
+          (hold-move l (kept tt) (h .0), closed-kept (kept tt .unchanged) (kept tt .settled) (h .1))
+      read-facts-move (inB p r x) l kept own-closed last h = record {
         hold = hold-move l (kept tt) (h .hold);
-        pass = λ t. leaf-move (shut t) (h .pass t);
+        pass = λ t. leaf-move (own-closed t) (h .pass t);
         applied = kept tt .applied tt (h .applied);
         seen = seen-at-move p r x (kept tt) (h .seen);
       }
-      read-facts-move (inD p r x) l kept shut last h = record {
-        full = λ t. full-move (shut (known-two p r _ _ x t)) (h .full t);
+      read-facts-move (inD p r x) l kept own-closed last h = record {
+        full = λ t. full-move (own-closed (update-seen-two p r _ _ x t)) (h .full t);
         read = read-at-move x (h .read);
         round = round-at-move p r x last (h .round);
       }
@@ -295,66 +316,71 @@ module _ (s : Settings) where
     -- what worker j knows it still knows, if its slot is as it was
     pub own-moved :
         (j : ℕ) (k : Task) → c′ .slots j ≡ c .slots j → Own s c j k
-        → Keeps c c′ j k (k .pc) → Splits c c′ j k (k .pc) → Swaps c c′ j k (k .pc) → Own s c′ j k
-    own-moved j k slot o kept shut last = record {
+        → HeldKept c c′ j k (k .pc) → SplitCloses c c′ j k (k .pc) → SwapCloses c c′ j k (k .pc) → Own s c′ j k
+    own-moved j k slot o kept own-closed last = record {
       ticket = rw slot (o .ticket);
       slot = slot-facts-move j k slot (k .pc) (o .slot);
-      read = read-facts-move j k (k .pc) (o .ticket) kept shut last (o .read);
+      read = read-facts-move j k (k .pc) (o .ticket) kept own-closed last (o .read);
     }
 
   -- ---- the slots left
 
-  module _ (c c′ : Cells) (ch : Changed c c′) where
-    moved : Moved c c′
-    moved = record { turn = ch .turn; evolves = ch .evolves }
+  module _ (c c′ : Cells) (ch : BucketsChanged c c′) where
+    cells-changed : CellsChanged c c′
+    cells-changed = record { directory-evolves = ch .directory-evolves; evolves = ch .evolves }
 
     -- a closed update stays closed
     pub closed-move : (j : ℕ) (x : Slot) → ClosedSlot s c j x → ClosedSlot s c′ j x
-    closed-move = closed-moved c c′ moved
+    closed-move = closed-moved c c′ cells-changed
 
-    pub shut-move : (j : ℕ) (k : Task) → Shut s c j k → Shut s c′ j k
-    shut-move = shut-moved c c′ moved
+    pub own-closed-move : (j : ℕ) (k : Task) → OwnClosed s c j k → OwnClosed s c′ j k
+    own-closed-move = own-closed-moved c c′ cells-changed
 
     -- what worker j knows it still knows
-    pub own-move : (j : ℕ) (k : Task) → Own s c j k → Keeps c c′ j k (k .pc) → Splits c c′ j k (k .pc) → Swaps c c′ j k (k .pc) → Own s c′ j k
-    own-move j k = own-moved c c′ moved j k (ap (λ f. f j) (ch .slots))
+    pub own-move :
+        (j : ℕ) (k : Task) → Own s c j k → HeldKept c c′ j k (k .pc) → SplitCloses c c′ j k (k .pc) → SwapCloses c c′ j k (k .pc)
+        → Own s c′ j k
+    own-move j k = own-moved c c′ cells-changed j k (ap (λ f. f j) (ch .slots))
 
-    pub old-move : (j : ℕ) (x : Slot) → Old s c j x → Old s c′ j x
+    pub old-move : (j : ℕ) (x : Slot) → OldSlot s c j x → OldSlot s c′ j x
     old-move j x (inl e) = inl (rw (ch .slots) e)
     old-move j x (inr h) = inr (closed-move j x h)
 
     -- the directory left
-    pub still-swaps : c′ .directory ≡ c .directory → (j : ℕ) (k : Task) (pc : PC) → Swaps c c′ j k pc
-    still-swaps e j k pc l (inl h) = inl (rw e h)
-    still-swaps e j k pc l (inr h) = inr (shut-move j k h)
+    pub same-swap-closes : c′ .directory ≡ c .directory → (j : ℕ) (k : Task) (pc : PC) → SwapCloses c c′ j k pc
+    same-swap-closes e j k pc l (inl h) = inl (rw e h)
+    same-swap-closes e j k pc l (inr h) = inr (own-closed-move j k h)
 
     -- no ticket is settled before it is announced
     pub tickets-move :
-        ((a j : ℕ) → leafBody c a .settled j .ticket ≤ ticketOf (c .slots j)) → (a j : ℕ) → leafBody c′ a .settled j .ticket ≤ ticketOf (c′ .slots j)
-    tickets-move h a j = rw (ch .slots) (elim (ch .evolves a) [ stay e f g ↦ bound (f j) | grow l m d f ↦ bound (f j) ])
+        ((a j : ℕ) → leafBody c a .settled j .ticket ≤ ticketOf (c .slots j)) → (a j : ℕ)
+        → leafBody c′ a .settled j .ticket ≤ ticketOf (c′ .slots j)
+    tickets-move h a j = rw (ch .slots) (elim (ch .evolves a) [ same-bucket e f g ↦ bound (f j) | deeper-bucket l m d f ↦ bound (f j) ])
       where
-        bound : Fate (leafBody c a) (leafBody c′ a) (c .slots j) (Unit {0}) j → leafBody c′ a .settled j .ticket ≤ ticketOf (c .slots j)
-        bound (stays e) = rw e (h a j)
-        bound (gets t l e) = omega arith
+        bound :
+            SettledChange (leafBody c a) (leafBody c′ a) (c .slots j) (Unit {0}) j
+            → leafBody c′ a .settled j .ticket ≤ ticketOf (c .slots j)
+        bound (settled-same e) = rw e (h a j)
+        bound (settled-new t l e) = omega arith
 
     -- ---- the directory's part of a pair: worker j with task k, and q, which is worker p's
 
     pub seen-move :
         (j p : ℕ) (k q : Task) → Own s c p q → Pair s j c k q
-        → Known (k .reads .directory .stamp) (c′ .directory .stamp) (k .pc) → SawThere (s .workers) j (q .pc) → DirectoryFresh c′ q
+        → UpdateSeen (k .reads .directory .stamp) (c′ .directory .stamp) (k .pc) → HasSlotD (s .workers) j (q .pc) → DirectoryFresh c′ q
         → q .reads .slots j ≡ c′ .slots j
     seen-move j p k q o h l x e =
-        let z = fresh-still c c′ moved q (saw-bounded (s .workers) j p q c (q .pc) x (o .read)) e in
+        let z = fresh-same c c′ cells-changed q (slot-bounded (s .workers) j p q c (q .pc) x (o .read)) e in
         rw (ch .slots) (h .seen (rw z at l) x (rw z at e))
 
-    covers-move :
+    splits-bucket-move :
         (j p : ℕ) (k q : Task) → Own s c p q → Pair s j c k q
-        → Covered (k .reads .directory .stamp) (c′ .directory .stamp) (k .pc) → Past (s .workers) j (q .pc) → DirectoryFresh c′ q
-        → IsMade (leafOf (q .reads .copy) (target k)) ⊎ Shut s c′ j k
-    covers-move j p k q o h l x e =
-        let z = fresh-still c c′ moved q (past-bounded (s .workers) j p q c (q .pc) x (o .read)) e in
-        ⊎-elim inl (λ y. inr (shut-move j k y)) (h .covers (rw z at l) x (rw z at e))
+        → BucketSplit (k .reads .directory .stamp) (c′ .directory .stamp) (k .pc) → PastState (s .workers) j (q .pc) → DirectoryFresh c′ q
+        → IsMade (leafOf (q .reads .copy) (target k)) ⊎ OwnClosed s c′ j k
+    splits-bucket-move j p k q o h l x e =
+        let z = fresh-same c c′ cells-changed q (past-state-bounded (s .workers) j p q c (q .pc) x (o .read)) e in
+        ⊎-elim inl (λ y. inr (own-closed-move j k y)) (h .splits-bucket (rw z at l) x (rw z at e))
 
-    -- and what is still owed at one bucket
-    pub pair-move : (j p : ℕ) (k q : Task) → Own s c p q → Pair s j c k q → Rush c′ j k q → Pair s j c′ k q
-    pair-move j p k q o h r = record { rush = r; seen = seen-move j p k q o h; covers = covers-move j p k q o h }
+    -- and what is still to be guaranteed at one bucket
+    pub pair-move : (j p : ℕ) (k q : Task) → Own s c p q → Pair s j c k q → SeesFlip c′ j k q → Pair s j c′ k q
+    pair-move j p k q o h r = record { sees-flip = r; seen = seen-move j p k q o h; splits-bucket = splits-bucket-move j p k q o h }

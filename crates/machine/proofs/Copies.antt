@@ -1,4 +1,4 @@
--- Working copies by account: what planting, splitting and taking updates do to the leaf of each account, and what they keep.
+-- Working copies by account: what replacing a leaf, splitting and taking updates do to the leaf of each account, and what they keep.
 -- Rests on the laws of tests and of an account's first bits.
 use Prim.Native.Nat.{ℕ, zero, suc, _+_, _-_, _*_, _/_, _^_, _≤_, _<_}
 use native.Mathlib.Omega.{arith}
@@ -14,7 +14,7 @@ use Rattle.machine.specs.Choice.{if_then_else_, _and_}
 use Rattle.machine.specs.Sequential.{Update, account, firstBits}
 use Rattle.machine.specs.Records.{Name, same, Body, Directory, bucketOf, Leaf, kept, made, Copy, Slot, empty, announced, firstDirectory}
 use Rattle.machine.specs.BucketPass.{holdsBack, splittable, settledAt, carryOut}
-use Rattle.machine.specs.DirectoryPass.{copyOf, leafOf, nameOf, plant, doubled, deepened, child, half, plantHalf, split, splitLeaf, splitWhile}
+use Rattle.machine.specs.DirectoryPass.{copyOf, leafOf, nameOf, replaceLeaf, doubled, deepened, child, half, replaceHalf, split, splitLeaf, splitWhile}
 use Rattle.machine.specs.DirectoryPass.{carryLeaf, takeUpdate, takeSlot, takeSlots, directoryOf, bodyIf, bodyMade}
 use Rattle.machine.proofs.Base.{if-elim, if-true, if-eq, if-ne, eq-elim, and-parts, none-some, if-elim₂}
 use Rattle.machine.proofs.Cells.{same-true, eq-same, name-path}
@@ -25,22 +25,22 @@ abbrev pub nameAt : ℕ → ℕ → Name
 nameAt d a = record { depth = d; prefix = firstBits d a }
 
 -- account a is of bucket x: its first bits are the prefix
-abbrev pub Inside : Name → ℕ → Type 0
-Inside x a = firstBits (x .depth) a ≡ x .prefix
+abbrev pub InBucket : Name → ℕ → Type 0
+InBucket x a = firstBits (x .depth) a ≡ x .prefix
 
-abbrev pub Outside : Name → ℕ → Type 0
-Outside x a = firstBits (x .depth) a ≢ x .prefix
+abbrev pub NotInBucket : Name → ℕ → Type 0
+NotInBucket x a = firstBits (x .depth) a ≢ x .prefix
 
 abbrev pub depthAt : Copy → ℕ → ℕ
 depthAt c a = nameOf (leafOf c a) .depth
 
 -- ---- leaves by account
 
-pub leaf-plant :
+pub leaf-replaced :
     (x : Name) (l : Leaf) (c : Copy) (a : ℕ) → x .depth ≤ c .depth → c .depth ≤ 32
-    → leafOf (plant x l c) a ≡ if eqb (firstBits (x .depth) a) (x .prefix) then l else leafOf c a
-unfolding leafOf plant
-leaf-plant x l c a h m = rw (bits-shorter (x .depth) (c .depth) a h m)
+    → leafOf (replaceLeaf x l c) a ≡ if eqb (firstBits (x .depth) a) (x .prefix) then l else leafOf c a
+unfolding leafOf replaceLeaf
+leaf-replaced x l c a h m = rw (bits-shorter (x .depth) (c .depth) a h m)
 
 pub leaf-doubled : (c : Copy) (a : ℕ) → c .depth < 32 → leafOf (doubled c) a ≡ leafOf c a
 unfolding leafOf doubled
@@ -73,8 +73,8 @@ deepened-is d c =
     (λ e. inr (omega (arith, ltb-true (c .depth) d e))) (λ e. inl (omega arith))
 
 -- the half of bucket x's body b that an account belongs to after a split
-abbrev pub halfAt : Name → Body → ℕ → Leaf
-halfAt x b a = made (nameAt (suc (x .depth)) a) (half (nameAt (suc (x .depth)) a) b)
+abbrev pub halfLeaf : Name → Body → ℕ → Leaf
+halfLeaf x b a = made (nameAt (suc (x .depth)) a) (half (nameAt (suc (x .depth)) a) b)
 
 -- the number r is one of q's two children where its half p is q, and neither where it is not
 children : {A : Type 0} (g : ℕ → A) (y : A) (r p q : ℕ) → r / 2 ≡ p
@@ -91,18 +91,18 @@ children {A} g y r p q h =
 
 pub leaf-split :
     (x : Name) (b : Body) (c : Copy) (a : ℕ) → x .depth ≤ c .depth → c .depth ≤ 32 → x .depth < 32
-    → leafOf (split x b c) a ≡ if eqb (firstBits (x .depth) a) (x .prefix) then halfAt x b a else leafOf c a
-unfolding split plantHalf plant child
+    → leafOf (split x b c) a ≡ if eqb (firstBits (x .depth) a) (x .prefix) then halfLeaf x b a else leafOf c a
+unfolding split replaceHalf replaceLeaf child
 leaf-split x b c a h m l =
     let w : Copy = deepened (suc (x .depth)) c in
     let low : suc (x .depth) ≤ w .depth = deepened-to (suc (x .depth)) c (omega arith) in
     let high : w .depth ≤ 32 = deepened-below (suc (x .depth)) 32 c m l in
     let r : ℕ = firstBits (suc (x .depth)) a in
     let q : ℕ = 2 * x .prefix + 1 in
-    leaf-plant (child x 1) _ _ a low high
-    ∙ ap (λ (y : Leaf). if eqb r q then part q else y) (leaf-plant (child x 0) _ w a low high)
+    leaf-replaced (child x 1) _ _ a low high
+    ∙ ap (λ (y : Leaf). if eqb r q then part q else y) (leaf-replaced (child x 0) _ w a low high)
     ∙ children part (leafOf w a) r (firstBits (x .depth) a) (x .prefix) (bits-half (x .depth) a l)
-    ∙ ap (λ (y : Leaf). if eqb (firstBits (x .depth) a) (x .prefix) then halfAt x b a else y) (leaf-deepened (suc (x .depth)) c a l)
+    ∙ ap (λ (y : Leaf). if eqb (firstBits (x .depth) a) (x .prefix) then halfLeaf x b a else y) (leaf-deepened (suc (x .depth)) c a l)
   where
     part : ℕ → Leaf
     part q = made (record { depth = suc (x .depth); prefix = q }) (half (record { depth = suc (x .depth); prefix = q }) b)
@@ -118,8 +118,8 @@ Shallow c = (e : ℕ) → nameOf (c .leaves e) .depth ≤ c .depth
 pub record Coherent (k : ℕ) (c : Copy) : Type 0 where
   pub bound : c .depth ≤ k
   pub shallow : Shallow c
-  pub named : (a : ℕ) → Inside (nameOf (leafOf c a)) a
-  pub shared : (a e : ℕ) → Inside (nameOf (leafOf c a)) e → leafOf c e ≡ leafOf c a
+  pub named : (a : ℕ) → InBucket (nameOf (leafOf c a)) a
+  pub shared : (a e : ℕ) → InBucket (nameOf (leafOf c a)) e → leafOf c e ≡ leafOf c a
   pub reached : (a : ℕ) × (c .depth ≤ depthAt c a)
 
 -- the leaf was made in this round, and is no less deep than x
@@ -127,39 +127,39 @@ abbrev pub MadeIn : Name → Leaf → Type 0
 MadeIn x (kept y) = ⊥
 MadeIn x (made y b) = x .depth ≤ y .depth
 
--- c′ has come from c by making leaves in place of bucket x: only inside x do leaves change, and they only get deeper.
+-- c′ has come from c by making leaves instead of bucket x: only inside x do leaves change, and they only get deeper.
 pub record Refined (k : ℕ) (x : Name) (c c′ : Copy) : Type 0 where
   pub coherent : Coherent k c′
   pub deeper : c .depth ≤ c′ .depth
   pub grows : (e : ℕ) → depthAt c e ≤ depthAt c′ e
-  pub outside : (e : ℕ) → Outside x e → leafOf c′ e ≡ leafOf c e
-  pub inside : (e : ℕ) → Inside x e → MadeIn x (leafOf c′ e)
+  pub outside : (e : ℕ) → NotInBucket x e → leafOf c′ e ≡ leafOf c e
+  pub inside : (e : ℕ) → InBucket x e → MadeIn x (leafOf c′ e)
 
 -- In c′ the leaves at bucket x of c have become those that g says.
-record Graft (k : ℕ) (c c′ : Copy) (x : Name) (g : ℕ → Leaf) : Type 0 where
+record Replacement (k : ℕ) (c c′ : Copy) (x : Name) (g : ℕ → Leaf) : Type 0 where
   bound : c′ .depth ≤ k
   deeper : c .depth ≤ c′ .depth
   shallow : Shallow c′
   leaf : (e : ℕ) → leafOf c′ e ≡ if eqb (firstBits (x .depth) e) (x .prefix) then g e else leafOf c e
   low : (e : ℕ) → MadeIn x (g e)
-  named : (e : ℕ) → Inside x e → Inside (nameOf (g e)) e
-  shared : (e f : ℕ) → Inside (nameOf (g e)) f → g f ≡ g e
+  named : (e : ℕ) → InBucket x e → InBucket (nameOf (g e)) e
+  shared : (e f : ℕ) → InBucket (nameOf (g e)) f → g f ≡ g e
   reached : (c′ .depth ≤ c .depth) ⊎ ((e : ℕ) → c′ .depth ≤ nameOf (g e) .depth)
 
 shallow-leaf : (c : Copy) → Shallow c → (a : ℕ) → depthAt c a ≤ c .depth
 unfolding leafOf
 shallow-leaf c f a = f (firstBits (c .depth) a)
 
-shallow-plant : (x : Name) (l : Leaf) (c : Copy) → Shallow c → nameOf l .depth ≤ c .depth → Shallow (plant x l c)
-unfolding plant
-shallow-plant x l c f n e = if-elim (λ (y : Leaf). nameOf y .depth ≤ c .depth) _ l (c .leaves e) (λ p. n) (λ p. f e)
+shallow-replaced : (x : Name) (l : Leaf) (c : Copy) → Shallow c → nameOf l .depth ≤ c .depth → Shallow (replaceLeaf x l c)
+unfolding replaceLeaf
+shallow-replaced x l c f n e = if-elim (λ (y : Leaf). nameOf y .depth ≤ c .depth) _ l (c .leaves e) (λ p. n) (λ p. f e)
 
 shallow-deepened : (d : ℕ) (c : Copy) → Shallow c → Shallow (deepened d c)
 unfolding deepened doubled
 shallow-deepened d c f = if-elim Shallow (ltb (c .depth) d) (doubled c) c (λ p e. omega (arith, f (e / 2))) (λ p. f)
 
-pub within : {k : ℕ} {c : Copy} → Coherent k c → (a : ℕ) → depthAt c a ≤ c .depth
-within {c = c} h a = shallow-leaf c (h .shallow) a
+pub depthAt-le : {k : ℕ} {c : Copy} → Coherent k c → (a : ℕ) → depthAt c a ≤ c .depth
+depthAt-le {c = c} h a = shallow-leaf c (h .shallow) a
 
 pub name-at : {k : ℕ} {c : Copy} → Coherent k c → (a : ℕ) → nameOf (leafOf c a) ≡ nameAt (depthAt c a) a
 name-at {c = c} h a = λ i. record { depth = depthAt c a; prefix = sym (h .named a) i }
@@ -171,73 +171,75 @@ made-depth x (made y b) m = m
 -- the bucket x where account a is
 module _ {k : ℕ} {c : Copy} (h : Coherent k c) (a : ℕ) (x : Name) (at : nameOf (leafOf c a) ≡ x) where
   pub depth-x : x .depth ≤ c .depth
-  depth-x = subst (λ (y : Name). y .depth ≤ c .depth) at (within h a)
+  depth-x = subst (λ (y : Name). y .depth ≤ c .depth) at (depthAt-le h a)
 
   -- the bucket is one leaf
-  pub same-leaf : (e : ℕ) → Inside x e → leafOf c e ≡ leafOf c a
+  pub same-leaf : (e : ℕ) → InBucket x e → leafOf c e ≡ leafOf c a
   same-leaf e i = h .shared a e (rw at i)
 
   -- a leaf of the bucket's name is the bucket's
-  pub own-leaf : (e : ℕ) → nameOf (leafOf c e) ≡ x → Inside x e
-  own-leaf e q = subst (λ (y : Name). Inside y e) q (h .named e)
+  pub own-leaf : (e : ℕ) → nameOf (leafOf c e) ≡ x → InBucket x e
+  own-leaf e q = subst (λ (y : Name). InBucket y e) q (h .named e)
 
   module _ (small : k ≤ 32) where
-    module _ {c′ : Copy} {g : ℕ → Leaf} (r : Graft k c c′ x g) where
-      graft-elim : (P : Leaf → Type 0) (e : ℕ) → (Inside x e → P (g e)) → (Outside x e → P (leafOf c e)) → P (leafOf c′ e)
-      graft-elim P e i o = rw (r .leaf e) (eq-elim P (firstBits (x .depth) e) (x .prefix) (g e) (leafOf c e) i o)
+    module _ {c′ : Copy} {g : ℕ → Leaf} (r : Replacement k c c′ x g) where
+      replacement-elim : (P : Leaf → Type 0) (e : ℕ) → (InBucket x e → P (g e)) → (NotInBucket x e → P (leafOf c e)) → P (leafOf c′ e)
+      replacement-elim P e i o = rw (r .leaf e) (eq-elim P (firstBits (x .depth) e) (x .prefix) (g e) (leafOf c e) i o)
 
-      grows-graft : (e : ℕ) → depthAt c e ≤ depthAt c′ e
-      grows-graft e = graft-elim (λ (l : Leaf). depthAt c e ≤ nameOf l .depth) e
-          (λ i. omega (arith, ap (λ (y : Name). y .depth) (ap nameOf (same-leaf e i) ∙ at), made-depth x (g e) (r .low e))) (λ o. omega arith)
+      grows-replacement : (e : ℕ) → depthAt c e ≤ depthAt c′ e
+      grows-replacement e = replacement-elim (λ (l : Leaf). depthAt c e ≤ nameOf l .depth) e
+          (λ i. omega (arith, ap (λ (y : Name). y .depth) (ap nameOf (same-leaf e i) ∙ at), made-depth x (g e) (r .low e)))
+          (λ o. omega arith)
 
-      coherent-graft : Coherent k c′
-      coherent-graft = record {
+      coherent-replacement : Coherent k c′
+      coherent-replacement = record {
         bound = r .bound;
         shallow = r .shallow;
-        named = λ e. graft-elim (λ (l : Leaf). Inside (nameOf l) e) e (r .named e) (λ o. h .named e);
-        shared = λ e f. graft-elim (λ (l : Leaf). Inside (nameOf l) f → leafOf c′ f ≡ l) e (new e f) (old e f);
+        named = λ e. replacement-elim (λ (l : Leaf). InBucket (nameOf l) e) e (r .named e) (λ o. h .named e);
+        shared = λ e f. replacement-elim (λ (l : Leaf). InBucket (nameOf l) f → leafOf c′ f ≡ l) e (new e f) (old e f);
         reached = elim (r .reached) [
-          | inl l ↦ (h .reached .0, omega (arith, h .reached .1, grows-graft (h .reached .0)))
+          | inl l ↦ (h .reached .0, omega (arith, h .reached .1, grows-replacement (h .reached .0)))
           | inr l ↦ (a, subst (λ (y : Leaf). c′ .depth ≤ nameOf y .depth) (sym (leaf-in a (own-leaf a at))) (l a))
         ];
       }
         where
-          leaf-in : (e : ℕ) → Inside x e → leafOf c′ e ≡ g e
+          leaf-in : (e : ℕ) → InBucket x e → leafOf c′ e ≡ g e
           leaf-in e i = r .leaf e ∙ if-eq (firstBits (x .depth) e) (x .prefix) (g e) (leafOf c e) i
 
           -- what is of a new bucket is of x
-          new : (e f : ℕ) → Inside x e → Inside (nameOf (g e)) f → leafOf c′ f ≡ g e
+          new : (e f : ℕ) → InBucket x e → InBucket (nameOf (g e)) f → leafOf c′ f ≡ g e
           new e f i s =
               let y : Name = nameOf (g e) in
-              let l : y .depth ≤ c′ .depth = subst (λ (v : Leaf). nameOf v .depth ≤ c′ .depth) (leaf-in e i) (shallow-leaf c′ (r .shallow) e) in
+              let l : y .depth ≤ c′ .depth = subst (λ (v : Leaf). nameOf v .depth ≤ c′ .depth) (leaf-in e i)
+              (shallow-leaf c′ (r .shallow) e) in
               let m : x .depth ≤ y .depth = made-depth x (g e) (r .low e) in
-              let z : Inside x f = bits-mono (x .depth) (y .depth) f e m (omega (arith, r .bound)) (s ∙ sym (r .named e i)) ∙ i in
+              let z : InBucket x f = bits-mono (x .depth) (y .depth) f e m (omega (arith, r .bound)) (s ∙ sym (r .named e i)) ∙ i in
               leaf-in f z ∙ r .shared e f s
 
           -- what is of another bucket is not of x
-          old : (e f : ℕ) → Outside x e → Inside (nameOf (leafOf c e)) f → leafOf c′ f ≡ leafOf c e
+          old : (e f : ℕ) → NotInBucket x e → InBucket (nameOf (leafOf c e)) f → leafOf c′ f ≡ leafOf c e
           old e f o s =
-              graft-elim (λ (l : Leaf). l ≡ leafOf c e) f
+              replacement-elim (λ (l : Leaf). l ≡ leafOf c e) f
               (λ i. absurd (o (own-leaf e (ap nameOf (sym (h .shared e f s) ∙ same-leaf f i) ∙ at))))
               (λ n. h .shared e f s)
 
-      refined-graft : Refined k x c c′
-      refined-graft = record {
-        coherent = coherent-graft;
+      refined-replacement : Refined k x c c′
+      refined-replacement = record {
+        coherent = coherent-replacement;
         deeper = r .deeper;
-        grows = grows-graft;
+        grows = grows-replacement;
         outside = λ e o. r .leaf e ∙ if-ne (firstBits (x .depth) e) (x .prefix) (g e) (leafOf c e) o;
         inside = λ e i. rw (r .leaf e ∙ if-eq (firstBits (x .depth) e) (x .prefix) (g e) (leafOf c e) i) (r .low e);
       }
 
-    -- a body put in the bucket's place
-    pub refined-plant : (b : Body) → Refined k x c (plant x (made x b) c)
-    unfolding plant
-    refined-plant b = refined-graft (record {
+    -- the bucket with another body
+    pub refined-replaced : (b : Body) → Refined k x c (replaceLeaf x (made x b) c)
+    unfolding replaceLeaf
+    refined-replaced b = refined-replacement (record {
       bound = h .bound;
       deeper = omega arith;
-      shallow = shallow-plant x (made x b) c (h .shallow) depth-x;
-      leaf = λ e. leaf-plant x (made x b) c e depth-x (omega (arith, h .bound));
+      shallow = shallow-replaced x (made x b) c (h .shallow) depth-x;
+      leaf = λ e. leaf-replaced x (made x b) c e depth-x (omega (arith, h .bound));
       low = λ e. omega arith;
       named = λ e i. i;
       shared = λ e f i. refl;
@@ -245,11 +247,12 @@ module _ {k : ℕ} {c : Copy} (h : Coherent k c) (a : ℕ) (x : Name) (at : name
     })
 
     pub refined-split : (b : Body) → x .depth < k → Refined k x c (split x b c)
-    unfolding split plantHalf plant child
-    refined-split b l = refined-graft (record {
+    unfolding split replaceHalf replaceLeaf child
+    refined-split b l = refined-replacement (record {
       bound = deepened-below (suc (x .depth)) k c (h .bound) l;
       deeper = deepened-from (suc (x .depth)) c;
-      shallow = shallow-plant (child x 1) _ _ (shallow-plant (child x 0) _ _ (shallow-deepened (suc (x .depth)) c (h .shallow)) low) low;
+      shallow =
+          shallow-replaced (child x 1) _ _ (shallow-replaced (child x 0) _ _ (shallow-deepened (suc (x .depth)) c (h .shallow)) low) low;
       leaf = λ e. leaf-split x b c e depth-x (omega (arith, h .bound)) (omega arith);
       low = λ e. omega arith;
       named = λ e i. refl;
@@ -264,9 +267,9 @@ made-below : (x y : Name) (l : Leaf) → x .depth ≤ y .depth → MadeIn y l �
 made-below x y (kept z) h m = m
 made-below x y (made z b) h m = omega arith
 
--- To refine a bucket y that was made in place of x is to refine x.
+-- To refine a bucket y that was made instead of x is to refine x.
 pub refined-within :
-    {k : ℕ} {x y : Name} {c c′ c″ : Copy} → k ≤ 32 → Refined k x c c′ → (a : ℕ) → Inside x a → (b : Body) → leafOf c′ a ≡ made y b
+    {k : ℕ} {x y : Name} {c c′ c″ : Copy} → k ≤ 32 → Refined k x c c′ → (a : ℕ) → InBucket x a → (b : Body) → leafOf c′ a ≡ made y b
     → Refined k y c′ c″ → Refined k x c c″
 refined-within {k} {x} {y} {c} {c′} {c″} small p a i b at q = record {
   coherent = q .coherent;
@@ -285,16 +288,16 @@ refined-within {k} {x} {y} {c} {c′} {c″} small p a i b at q = record {
     high : y .depth ≤ 32
     high = omega (arith, depth-x (p .coherent) a y name, p .coherent .bound)
 
-    part : (e : ℕ) → Inside y e → Inside x e
+    part : (e : ℕ) → InBucket y e → InBucket x e
     part e z = bits-mono (x .depth) (y .depth) e a low high (z ∙ sym (own-leaf (p .coherent) a y name a name)) ∙ i
 
-    inner : (e : ℕ) → Inside x e → Dec (Inside y e) → MadeIn x (leafOf c″ e)
+    inner : (e : ℕ) → InBucket x e → Dec (InBucket y e) → MadeIn x (leafOf c″ e)
     inner e z (yes j) = made-below x y (leafOf c″ e) low (q .inside e j)
     inner e z (no j) = rw (q .outside e j) (p .inside e z)
 
 -- ---- what taking updates keeps
 
--- what outlives one split of account a's bucket outlives any number
+-- what one split of account a's bucket keeps, any number keeps
 pub splitWhile-keeps :
     (s : Settings) (P : Copy → Type 0) (a : ℕ)
     → ((c : Copy) (y : Name) (b : Body) → leafOf c a ≡ made y b → splittable s (y .depth) b ≡ true → P c → P (split y b c))
@@ -307,20 +310,20 @@ splitWhile-keeps s P a h (suc f) c p = splitWhile-keeps s P a h f (splitLeaf s c
     once (kept y) at = p
     once (made y b) at = if-elim P (splittable s (y .depth) b) (split y b c) c (λ e. h c y b at e p) (λ e. p)
 
--- P outlives the changes that taking an update makes: worker j's update u with ticket t, of those that U admits.
-pub record Closed (s : Settings) (U : ℕ → Update → ℕ → Type 0) (P : Copy → Type 0) : Type 0 where
+-- P is kept by the changes that taking an update makes: worker j's update u with ticket t, of those that U admits.
+pub record Preserved (s : Settings) (U : ℕ → Update → ℕ → Type 0) (P : Copy → Type 0) : Type 0 where
   pub splits :
       (j : ℕ) (u : Update) (t : ℕ) → U j u t → (c : Copy) (y : Name) (b : Body) → leafOf c (account u) ≡ made y b
       → splittable s (y .depth) b ≡ true → P c → P (split y b c)
   pub carries :
       (j : ℕ) (u : Update) (t : ℕ) → U j u t → (c : Copy) (y : Name) (b : Body) → leafOf c (account u) ≡ made y b
-      → holdsBack s b ≡ false → P c → P (plant y (made y (carryOut j u t b)) c)
+      → holdsBack s (y .depth) b ≡ false → P c → P (replaceLeaf y (made y (carryOut j u t b)) c)
 
 -- worker j, below n, has announced update u with ticket t, which is of bucket x and not settled in its body b
 pub record Due (x : Name) (b : Body) (slots : ℕ → Slot) (n : ℕ) (j : ℕ) (u : Update) (t : ℕ) : Type 0 where
   pub below : j < n
   pub slot : slots j ≡ announced u t
-  pub inside : Inside x (account u)
+  pub inside : InBucket x (account u)
   pub unsettled : settledAt b j t ≡ false
 
 -- worker i's announced update belongs to bucket x, and is not settled in its body b
@@ -330,7 +333,8 @@ due x b i (announced u t) = eqb (firstBits (x .depth) (account u)) (x .prefix) a
 
 -- worker j's slot, taken or not, in two copies
 pub slot-elim :
-    (s : Settings) (x : Name) (b : Body) (slots : ℕ → Slot) (R : Copy → Copy → Type 0) (c c′ : Copy) (j : ℕ) (w : Slot) → slots j ≡ w → R c c′
+    (s : Settings) (x : Name) (b : Body) (slots : ℕ → Slot) (R : Copy → Copy → Type 0) (c c′ : Copy) (j : ℕ) (w : Slot) → slots j ≡ w
+    → R c c′
     → ((u : Update) (t : ℕ) → Due x b slots (suc j) j u t → R (takeUpdate s j u t c) (takeUpdate s j u t c′))
     → R (takeSlot s x b j w c) (takeSlot s x b j w c′)
 unfolding takeSlot
@@ -346,35 +350,36 @@ slot-elim s x b slots R c c′ j (announced u t) at p f =
     (λ e. p)
 
 -- the test of resize
-abbrev pub resizes : Settings → ℕ → ℕ → Name → Body → Bool
-resizes s i t x b = splittable s (x .depth) b and not (settledAt b i t)
+abbrev pub resizeTest : Settings → ℕ → ℕ → Name → Body → Bool
+resizeTest s i t x b = splittable s (x .depth) b and not (settledAt b i t)
 
-module _ {s : Settings} {U : ℕ → Update → ℕ → Type 0} {P : Copy → Type 0} (z : Closed s U P) where
+module _ {s : Settings} {U : ℕ → Update → ℕ → Type 0} {P : Copy → Type 0} (z : Preserved s U P) where
   module _ (j : ℕ) (u : Update) (t : ℕ) (taken : U j u t) where
-    closed-splitWhile : (f : ℕ) (c : Copy) → P c → P (splitWhile s f (account u) c)
-    closed-splitWhile = splitWhile-keeps s P (account u) (z .splits j u t taken)
+    preserved-splitWhile : (f : ℕ) (c : Copy) → P c → P (splitWhile s f (account u) c)
+    preserved-splitWhile = splitWhile-keeps s P (account u) (z .splits j u t taken)
 
-    closed-carryLeaf : (c : Copy) (l : Leaf) → leafOf c (account u) ≡ l → P c → P (carryLeaf s j u t c l)
+    preserved-carryLeaf : (c : Copy) (l : Leaf) → leafOf c (account u) ≡ l → P c → P (carryLeaf s j u t c l)
     unfolding carryLeaf
-    closed-carryLeaf c (kept y) at p = p
-    closed-carryLeaf c (made y b) at p =
-        if-elim P (holdsBack s b) c (plant y (made y (carryOut j u t b)) c) (λ e. p) (λ e. z .carries j u t taken c y b at e p)
+    preserved-carryLeaf c (kept y) at p = p
+    preserved-carryLeaf c (made y b) at p =
+        if-elim P (holdsBack s (y .depth) b) c (replaceLeaf y (made y (carryOut j u t b)) c) (λ e. p)
+        (λ e. z .carries j u t taken c y b at e p)
 
-    pub closed-takeUpdate : (c : Copy) → P c → P (takeUpdate s j u t c)
+    pub preserved-takeUpdate : (c : Copy) → P c → P (takeUpdate s j u t c)
     unfolding takeUpdate
-    closed-takeUpdate c p =
+    preserved-takeUpdate c p =
         let c′ : Copy = splitWhile s (s .depth) (account u) c in
-        closed-carryLeaf c′ (leafOf c′ (account u)) refl (closed-splitWhile (s .depth) c p)
+        preserved-carryLeaf c′ (leafOf c′ (account u)) refl (preserved-splitWhile (s .depth) c p)
 
-  pub closed-takeSlots :
+  pub preserved-takeSlots :
       (x : Name) (b : Body) (slots : ℕ → Slot) (n : ℕ) → ((j : ℕ) (u : Update) (t : ℕ) → Due x b slots n j u t → U j u t)
       → (c : Copy) → P c → P (takeSlots s x b slots n c)
   unfolding takeSlots
-  closed-takeSlots x b slots zero due c p = p
-  closed-takeSlots x b slots (suc n) due c p =
+  preserved-takeSlots x b slots zero due c p = p
+  preserved-takeSlots x b slots (suc n) due c p =
       let before : Copy = takeSlots s x b slots n c in
-      let q : P before = closed-takeSlots x b slots n (λ j u t d. due j u t (earlier d)) c p in
-      slot-elim s x b slots (λ d d′. P d) before before n (slots n) refl q (λ u t d. closed-takeUpdate n u t (due n u t d) before q)
+      let q : P before = preserved-takeSlots x b slots n (λ j u t d. due j u t (earlier d)) c p in
+      slot-elim s x b slots (λ d d′. P d) before before n (slots n) refl q (λ u t d. preserved-takeUpdate n u t (due n u t d) before q)
     where
       earlier : {j : ℕ} {u : Update} {t : ℕ} → Due x b slots n j u t → Due x b slots (suc n) j u t
       earlier d = record { below = omega (arith, d .below); slot = d .slot; inside = d .inside; unsettled = d .unsettled }
@@ -383,20 +388,21 @@ pub splittable-below : (s : Settings) (d : ℕ) (b : Body) → splittable s d b 
 unfolding splittable
 splittable-below s d b e = ltb-true d (s .depth) (and-parts _ _ e .1)
 
-module _ {k : ℕ} (small : k ≤ 32) (s : Settings) (within : s .depth ≤ k) where
-  pub refined-closed : (x : Name) (c : Copy) → Closed s (λ j u t. Inside x (account u)) (Refined k x c)
-  refined-closed x c = record {
+module _ {k : ℕ} (small : k ≤ 32) (s : Settings) (limit : s .depth ≤ k) where
+  pub refined-preserved : (x : Name) (c : Copy) → Preserved s (λ j u t. InBucket x (account u)) (Refined k x c)
+  refined-preserved x c = record {
     splits = λ j u t i c′ y b at e p. refined-within small p (account u) i b at
         (refined-split (p .coherent) (account u) y (ap nameOf at) small b (omega (arith, splittable-below s (y .depth) b e)));
     carries = λ j u t i c′ y b at e p. refined-within small p (account u) i b at
-        (refined-plant (p .coherent) (account u) y (ap nameOf at) small (carryOut j u t b));
+        (refined-replaced (p .coherent) (account u) y (ap nameOf at) small (carryOut j u t b));
   }
 
   -- the bucket x with body b that account a is in, resized
   module _ {c : Copy} (h : Coherent k c) (a : ℕ) (x : Name) (at : leafOf c a ≡ kept x) (b : Body) (slots : ℕ → Slot) where
-    pub refined-takeSlots : (n : ℕ) → Refined k x c (takeSlots s x b slots n (plant x (made x b) c))
+    pub refined-takeSlots : (n : ℕ) → Refined k x c (takeSlots s x b slots n (replaceLeaf x (made x b) c))
     refined-takeSlots n =
-        closed-takeSlots (refined-closed x c) x b slots n (λ j u t d. d .inside) (plant x (made x b) c) (refined-plant h a x (ap nameOf at) small b)
+        preserved-takeSlots (refined-preserved x c) x b slots n (λ j u t d. d .inside) (replaceLeaf x (made x b) c)
+        (refined-replaced h a x (ap nameOf at) small b)
 
 -- ---- the swap
 
@@ -408,8 +414,8 @@ bodyIf-some x (made y v) b =
 
 module _ {k : ℕ} (small : k ≤ 32) {c : Copy} (h : Coherent k c) where
   -- the first entry of a bucket is the entry of an account of the bucket
-  first-leaf : (x : Name) (a : ℕ) → Inside x a → x .depth ≤ c .depth
-      → (r : ℕ) × (Inside x r) × (c .leaves (x .prefix * 2 ^ (c .depth - x .depth)) ≡ leafOf c r)
+  first-leaf : (x : Name) (a : ℕ) → InBucket x a → x .depth ≤ c .depth
+      → (r : ℕ) × (InBucket x r) × (c .leaves (x .prefix * 2 ^ (c .depth - x .depth)) ≡ leafOf c r)
   unfolding leafOf
   first-leaf x a i l =
       let m : x .depth ≤ 32 = omega (arith, h .bound) in
@@ -432,7 +438,7 @@ module _ {k : ℕ} (small : k ≤ 32) {c : Copy} (h : Coherent k c) where
   bodyMade-kept a x at = body-at a x (ap nameOf at) ∙ ap (bodyIf x) at
 
   -- a name that has a body is that of the leaf of all its accounts
-  pub bodyMade-some : (x : Name) (b : Body) → bodyMade c x ≡ some b → (a : ℕ) → Inside x a → leafOf c a ≡ made x b
+  pub bodyMade-some : (x : Name) (b : Body) → bodyMade c x ≡ some b → (a : ℕ) → InBucket x a → leafOf c a ≡ made x b
   unfolding bodyMade
   bodyMade-some x b e a i =
       let l : c .leaves (x .prefix * 2 ^ (c .depth - x .depth)) ≡ made x b = bodyIf-some x _ b e in
@@ -452,18 +458,22 @@ unfolding leafOf directoryOf bucketOf
 bucketOf-directoryOf c a = refl
 
 -- each account's bucket has the account, and is one for all that it has
-pub record Grove (k : ℕ) (names : ℕ → Name) : Type 0 where
+pub record Partition (k : ℕ) (names : ℕ → Name) : Type 0 where
   pub bound : (a : ℕ) → names a .depth ≤ k
-  pub named : (a : ℕ) → Inside (names a) a
-  pub shared : (a e : ℕ) → Inside (names a) e → names e ≡ names a
+  pub named : (a : ℕ) → InBucket (names a) a
+  pub shared : (a e : ℕ) → InBucket (names a) e → names e ≡ names a
 
-pub grove-name : {k : ℕ} {names : ℕ → Name} → Grove k names → (a : ℕ) → names a ≡ nameAt (names a .depth) a
-grove-name g a = name-path refl (sym (g .named a))
+pub partition-name : {k : ℕ} {names : ℕ → Name} → Partition k names → (a : ℕ) → names a ≡ nameAt (names a .depth) a
+partition-name g a = name-path refl (sym (g .named a))
 
 -- the buckets of a directory
-pub grove-of : {k : ℕ} (d : Directory) → Coherent k (copyOf d) → Grove k (bucketOf d)
+pub partition-of : {k : ℕ} (d : Directory) → Coherent k (copyOf d) → Partition k (bucketOf d)
 unfolding leafOf copyOf bucketOf
-grove-of d h = record { bound = λ a. omega (arith, within h a, h .bound); named = h .named; shared = λ a e i. ap nameOf (h .shared a e i) }
+partition-of d h = record {
+  bound = λ a. omega (arith, depthAt-le h a, h .bound);
+  named = h .named;
+  shared = λ a e i. ap nameOf (h .shared a e i);
+}
 
 -- what becomes current is coherent
 pub coherent-directoryOf : {k : ℕ} (c : Copy) → Coherent k c → Coherent k (copyOf (directoryOf c))

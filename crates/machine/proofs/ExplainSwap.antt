@@ -15,18 +15,18 @@ use Rattle.machine.specs.BucketPass.{full, holdsBack, carryOut, pending,
 use Rattle.machine.specs.Steps.{assignBucket, assignState}
 use Rattle.machine.proofs.Base.{no-both, if-elim, if-true, and-parts}
 use Rattle.machine.proofs.Cells.{eq-same, same-elim}
-use Rattle.machine.proofs.Copies.{Grove, grove-of}
-use Rattle.machine.proofs.Counter.{Two, swap, inB, afterB, by-place}
-use Rattle.machine.proofs.Whereabouts.{Rounds, under-afterB, rounds-under, rounds-holds}
-use Rattle.machine.proofs.Inv.{Task, about, target, leaf, body, leafBody, held, own, Fresh, HeldOrGone, Hold, InRound, ReadFacts, Announced}
+use Rattle.machine.proofs.Copies.{Partition, partition-of}
+use Rattle.machine.proofs.Counter.{Two, swap, inB, afterB, by-counter}
+use Rattle.machine.proofs.CounterFacts.{Rounds, under-afterB, rounds-under, rounds-holds}
+use Rattle.machine.proofs.Inv.{Task, about, target, leaf, body, leafBody, held, own, Fresh, HeldOrSuperseded, Hold, InRound, ReadFacts, Announced}
 use Rattle.machine.proofs.Inv.{Inv}
-use Rattle.machine.proofs.Keeping.{goes, under-announced, holds-hold}
+use Rattle.machine.proofs.Preservation.{goes, under-announced, holds-hold}
 use Rattle.machine.proofs.Resolve.{helped-ok}
 use Rattle.machine.proofs.Transitions.{swappedCells}
-use Rattle.machine.proofs.SwapBucket.{called-flip, roundBody, swapped-elim, SeenFlip, real, there, kept-bucket}
+use Rattle.machine.proofs.SwapBucket.{called-flip, roundBody, swapped-elim, ReadPending, slot-current, in-rounds-here, kept-bucket}
 use Rattle.machine.proofs.Explain.{Parts, statusAt, lookupStatus, ExplainedStep}
-use Rattle.machine.proofs.Statuses.{Waits, waits-status, told-later, explained-goes, Told, told-none, told-same, told-carry, told-parts}
-use Rattle.machine.proofs.Statuses.{told-gained, told-others}
+use Rattle.machine.proofs.Statuses.{UnsettledUpdate, unsettled-status, linearized-later, explained-goes, Linearized, linearized-none, linearized-same, linearized-carry, linearized-parts}
+use Rattle.machine.proofs.Statuses.{linearized-gained, linearized-others}
 
 -- ---- a round that has got part of the way
 
@@ -57,29 +57,29 @@ module _ (s : Settings) (small : s .depth ≤ 32) (w : ℕ) (wn : w < s .workers
 
   -- the round's copy once the workers below j have been helped
   abbrev copy : ℕ → Body
-  copy j = helped s was (k .reads .toggle) (k .reads .slots) j
+  copy j = helped s (x .depth) was (k .reads .toggle) (k .reads .slots) j
 
   -- the workers below j have been helped, by which the bucket's body has become v
   abbrev At : Body → ℕ → Type 0
-  At v j = Told s c tasks t (λ a. made (leaf c a) (bodyWith c x v a)) j
+  At v j = Linearized s c tasks t (λ a. made (leaf c a) (bodyWith c x v a)) j
 
-  grove : Grove (s .depth) (leaf c)
-  grove = grove-of _ (i .directory)
+  partition : Partition (s .depth) (leaf c)
+  partition = partition-of _ (i .directory)
 
   -- worker j's update is pending, and the copy has room for it
   module _ (j : ℕ) (jn : j < s .workers) (u : Update) (tk : ℕ) (e : k .reads .slots j ≡ announced u tk)
-      (h : pending was (k .reads .toggle) j tk ≡ true) (room : holdsBack s (copy j) ≡ false) where
-    flip : SeenFlip c k j
-    flip = called-flip was (k .reads .toggle) j (announced u tk) h
+      (h : pending was (k .reads .toggle) j tk ≡ true) (room : holdsBack s (x .depth) (copy j) ≡ false) where
+    seen-pending : ReadPending c k j
+    seen-pending = called-flip was (k .reads .toggle) j (announced u tk) h
 
     stands : Rounds (tasks j .pc) × (held (tasks j) ≡ x)
-    stands = there s w wn c tasks i p r here fresh j jn flip
+    stands = in-rounds-here s w wn c tasks i p r here fresh j jn seen-pending
 
     ann : Announced s c j (tasks j)
     ann = under-announced s c j (tasks j) (tasks j .pc) (rounds-under (tasks j .pc) (stands .0)) (i .own j jn .slot)
 
     slot : announced u tk ≡ announced (ann .wanted) (tasks j .ticket)
-    slot = sym e ∙ real s w wn c tasks i p r here fresh j jn flip ∙ ann .slot
+    slot = sym e ∙ slot-current s w wn c tasks i p r here fresh j jn seen-pending ∙ ann .slot
 
     ticket : tk ≡ tasks j .ticket
     ticket = cc slot
@@ -88,45 +88,50 @@ module _ (s : Settings) (small : s .depth ≤ 32) (w : ℕ) (wn : w < s .workers
     asks = let z : ann .wanted ≡ u = cc slot in ann .asks ∙ ap (λ v. some (update v)) z
 
     -- with room, its bucket is its account's
-    home : leaf c (account u) ≡ x
+    own-bucket : leaf c (account u) ≡ x
     unfolding holdsBack
-    home = go (holds-hold s c j (tasks j) (tasks j .pc) (rounds-holds (tasks j .pc) (stands .0)) (i .own j jn .read) .is)
+    own-bucket = go (holds-hold s c j (tasks j) (tasks j .pc) (rounds-holds (tasks j .pc) (stands .0)) (i .own j jn .read) .is)
       where
-        go : HeldOrGone s c j (tasks j) → leaf c (account u) ≡ x
+        go : HeldOrSuperseded s c j (tasks j) → leaf c (account u) ≡ x
         go (inl y) = ap (λ o. leaf c (about o)) (sym asks) ∙ sym y ∙ stands .1
         go (inr y) =
             let f : full s (was .body) ≡ true = rw (stands .1) at (y .full) in
-            absurd (no-both (ap (full s) (helped-ok s was (k .reads .toggle) (k .reads .slots) j .unchanged f) ∙ f) room)
+            absurd (no-both (ap (full s) (helped-ok s (x .depth) was (k .reads .toggle) (k .reads .slots) j .unchanged f) ∙ f) room)
 
-    waits : Waits s c tasks j
+    update-unsettled : UnsettledUpdate s c tasks j
     unfolding pending
-    waits = record {
+    update-unsettled = record {
       below = jn;
       under = rounds-under (tasks j .pc) (stands .0);
       wanted = u;
       asks = asks;
-      unsettled = rw (home, ← ticket) (not-true _ (and-parts _ _ h .1));
+      unsettled = rw (own-bucket, ← ticket) (not-true _ (and-parts _ _ h .1));
     }
 
     carried : At (copy j) j → At (carryOut j u tk (copy j)) (suc j)
-    unfolding holdsBack waits
-    carried = told-carry s c tasks small grove waits (rw (with-in c x (copy j) (account u) home) room) (λ a. refl)
-        (λ a y. let z : leaf c a ≡ x = y ∙ home in rw (with-in c x (carryOut j u tk (copy j)) a z, with-in c x (copy j) a z, ticket))
-        (λ a n. let z : leaf c a ≢ x = λ y. n (y ∙ sym home) in rw (with-out c x (carryOut j u tk (copy j)) a z, with-out c x (copy j) a z))
+    unfolding holdsBack update-unsettled
+    carried =
+        linearized-carry s c tasks small partition update-unsettled (rw (with-in c x (copy j) (account u) own-bucket) room) (λ a. refl)
+        (λ a y. let z : leaf c a ≡ x = y ∙ own-bucket in rw (with-in c x (carryOut j u tk (copy j)) a z, with-in c x (copy j) a z, ticket))
+        (λ a n. let z : leaf c a ≢ x = λ y. n (y ∙ sym own-bucket) in
+        rw (with-out c x (carryOut j u tk (copy j)) a z, with-out c x (copy j) a z))
 
-  step : (j : ℕ) → j < s .workers → (y : Slot) → k .reads .slots j ≡ y → At (copy j) j → At (help s was (k .reads .toggle) j y (copy j)) (suc j)
+  worker-step :
+      (j : ℕ) → j < s .workers → (y : Slot) → k .reads .slots j ≡ y → At (copy j) j
+      → At (help s (x .depth) was (k .reads .toggle) j y (copy j)) (suc j)
   unfolding help
-  step j jn empty e g = told-later s c tasks g
-  step j jn (announced u tk) e g = if-elim (λ v. At v (suc j)) _ (carryOut j u tk (copy j)) (copy j)
+  worker-step j jn empty e g = linearized-later s c tasks g
+  worker-step j jn (announced u tk) e g = if-elim (λ v. At v (suc j)) _ (carryOut j u tk (copy j)) (copy j)
       (λ h. let q = and-parts _ _ h in carried j jn u tk e (q .0) (not-true _ (q .1)) g)
-      (λ h. told-later s c tasks g)
+      (λ h. linearized-later s c tasks g)
 
   stages : (j : ℕ) → j ≤ s .workers → At (copy j) j
   unfolding helped
-  stages zero l = told-same s c tasks
-      (λ a. ap (made (leaf c a)) (same-elim (λ b. b ≡ leafBody c a) (leaf c a) x (was .body) (leafBody c a) (λ e. ap (body c) (sym e)) (λ e. refl)))
-      (told-none s c tasks t parts)
-  stages (suc j) l = step j (omega arith) (k .reads .slots j) refl (stages j (omega arith))
+  stages zero l = linearized-same s c tasks
+      (λ a. ap (made (leaf c a))
+      (same-elim (λ b. b ≡ leafBody c a) (leaf c a) x (was .body) (leafBody c a) (λ e. ap (body c) (sym e)) (λ e. refl)))
+      (linearized-none s c tasks t parts)
+  stages (suc j) l = worker-step j (omega arith) (k .reads .slots j) refl (stages j (omega arith))
 
   -- the whole round, from what the worker has read
   last : At (roundBody s k) (s .workers)
@@ -140,13 +145,14 @@ module _ (s : Settings) (small : s .depth ≤ 32) (w : ℕ) (wn : w < s .workers
       (λ e. sym (with-in c x (roundBody s k) a e)) (λ e. sym (with-out c x (roundBody s k) a e))
 
   -- a lookup that holds its account's bucket still does, and another bucket that is held is full
-  looks : (j : ℕ) → j < s .workers → Hold s c j (tasks j) → lookupStatus c′ (tasks j) ≡ lookupStatus c (tasks j)
+  lookup-kept : (j : ℕ) → j < s .workers → Hold s c j (tasks j) → lookupStatus c′ (tasks j) ≡ lookupStatus c (tasks j)
   unfolding assignState assignBucket
-  looks j jn h = go (h .is)
+  lookup-kept j jn h = go (h .is)
     where
-      go : HeldOrGone s c j (tasks j) → lookupStatus c′ (tasks j) ≡ lookupStatus c (tasks j)
+      go : HeldOrSuperseded s c j (tasks j) → lookupStatus c′ (tasks j) ≡ lookupStatus c (tasks j)
       go (inl e) = let z = eq-same (held (tasks j)) (leaf c (target (tasks j))) e in if-true none _ z ∙ sym (if-true none _ z)
-      go (inr g) = ap (λ b. if same (held (tasks j)) (leaf c (target (tasks j))) then none else some (looked (find (b .items) (target (tasks j)))))
+      go (inr g) =
+          ap (λ b. if same (held (tasks j)) (leaf c (target (tasks j))) then none else some (looked (find (b .items) (target (tasks j)))))
           (kept-bucket s w wn c tasks i p r here fresh j jn .unchanged (g .full))
 
   pub explained-swap : ExplainedStep s w c tasks t (swappedCells s c (tasks w)) (goes (tasks w) (afterB p r) (tasks w .reads)) none
@@ -154,10 +160,10 @@ module _ (s : Settings) (small : s .depth ≤ 32) (w : ℕ) (wn : w < s .workers
   explained-swap = explained-goes s w (afterB p r) (k .reads) (rw here tt) (under-afterB p r) (record {
     effects = last .effects;
     distinct = last .distinct;
-    waiting = λ j m. waits-status s c tasks (last .waits j m);
-    parts = told-parts s c tasks last c′ holds (λ a. refl);
-    gained = told-gained s c tasks last c′ holds;
-    others = λ j jn n. by-place (λ pc. ReadFacts s pc c j (tasks j) → statusAt pc c′ j (tasks j) ≡ statusAt pc c j (tasks j))
-        (λ f. refl) (λ f. refl) (λ f. refl) (looks j jn) (λ f. refl)
-        (λ pc u f. told-others s c tasks last c′ holds j pc u n) (tasks j .pc) (i .own j jn .read);
+    waiting = λ j m. unsettled-status s c tasks (last .unsettled j m);
+    parts = linearized-parts s c tasks last c′ holds (λ a. refl);
+    gained = linearized-gained s c tasks last c′ holds;
+    others = λ j jn n. by-counter (λ pc. ReadFacts s pc c j (tasks j) → statusAt pc c′ j (tasks j) ≡ statusAt pc c j (tasks j))
+        (λ f. refl) (λ f. refl) (λ f. refl) (lookup-kept j jn) (λ f. refl)
+        (λ pc u f. linearized-others s c tasks last c′ holds j pc u n) (tasks j .pc) (i .own j jn .read);
   })

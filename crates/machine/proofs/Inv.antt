@@ -1,5 +1,5 @@
--- The invariant of the machine (no histories in it): what each worker knows, what one worker has seen of another, and what any two
--- workers owe each other. Rests on where a worker stands and on working copies by account.
+-- The invariant of the machine (no histories in it): what each worker knows, what one worker has seen of another, and what
+-- holds between any two. Rests on the facts of the program counter and on working copies by account.
 use Prim.Native.Nat.{ℕ, _≤_, _<_}
 use mathlib.Core.Path.{_≡_}
 use mathlib.Core.Logic.{_⊎_}
@@ -9,11 +9,11 @@ use Rattle.interface.specs.declared.Settings.{Settings}
 use Rattle.machine.specs.Sequential.{Update, account, Operation, update, lookup}
 use Rattle.machine.specs.Records.{Name, Body, Bucket, bucketOf, Leaf, kept, made, Copy, Slot, empty, announced, Cells, Reads}
 use Rattle.machine.specs.BucketPass.{full, splittable}
-use Rattle.machine.specs.DirectoryPass.{copyOf, leafOf, nameOf, plant, takeSlots}
+use Rattle.machine.specs.DirectoryPass.{copyOf, leafOf, nameOf, replaceLeaf, takeSlots}
 use Rattle.machine.proofs.Copies.{nameAt, Coherent}
 use Rattle.machine.proofs.Counter.{Two, one, two, BStep, DStep, copyD, swapD, slotD, state, PC, idle, announce, look₁, look₂, over, readD}
-use Rattle.machine.proofs.Counter.{flip, checkD, checkS, inB, inD, by-place}
-use Rattle.machine.proofs.Whereabouts.{IsTwo, BothTwo, sinceState, sinceCopy, Rounds, HasToggle, Saw, SawThere, Past, Late, Known, Covered}
+use Rattle.machine.proofs.Counter.{flip, checkD, checkS, inB, inD, by-counter}
+use Rattle.machine.proofs.CounterFacts.{IsTwo, BothTwo, sinceState, sinceCopy, Rounds, HasToggle, HasSlotB, HasSlotD, PastState, FlipSeen, UpdateSeen, BucketSplit}
 
 -- A worker as the proof sees it: the step to come, its operation, its last ticket and what it has read.
 pub record Task : Type 0 where
@@ -39,7 +39,7 @@ uniform d = record { depth = d; leaves = λ e. kept (record { depth = d; prefix 
 
 -- what a round makes of bucket x, whose body is b, for the slots of the workers below j, apart from all other buckets
 unfoldable pub resolved : Settings → Name → Body → (ℕ → Slot) → ℕ → Copy
-resolved s x b slots j = takeSlots s x b slots j (plant x (made x b) (uniform (x .depth)))
+resolved s x b slots j = takeSlots s x b slots j (replaceLeaf x (made x b) (uniform (x .depth)))
 
 -- ---- cells and tasks
 
@@ -68,11 +68,11 @@ abbrev pub DirectoryFresh : Cells → Task → Type 0
 DirectoryFresh c k = k .reads .directory .stamp ≡ c .directory .stamp
 
 -- worker j's bit at a bucket: taken up into the applied bits, or still to be
-abbrev pub Agree : Bucket → ℕ → Type 0
-Agree x j = x .toggle j ≡ x .state .value .applied j
+abbrev pub Applied : Bucket → ℕ → Type 0
+Applied x j = x .toggle j ≡ x .state .value .applied j
 
-abbrev pub Differ : Bucket → ℕ → Type 0
-Differ x j = x .toggle j ≡ not (x .state .value .applied j)
+abbrev pub Pending : Bucket → ℕ → Type 0
+Pending x j = x .toggle j ≡ not (x .state .value .applied j)
 
 abbrev pub ticketOf : Slot → ℕ
 ticketOf empty = 0
@@ -83,10 +83,10 @@ abbrev pub IsMade : Leaf → Type 0
 IsMade (kept x) = ⊥
 IsMade (made x b) = Unit {0}
 
--- what the task q owes worker j with the task k at one bucket: whoever can still swap there has seen its flip
-abbrev pub Rush : Cells → ℕ → Task → Task → Type 0
-Rush c j k q =
-    Late (k .reads .state .stamp) (own c k .state .stamp) (k .pc) → Differ (own c k) j
+-- what worker j, with the task k, can rely on of the task q at one bucket: whoever can still swap there has seen its flip
+abbrev pub SeesFlip : Cells → ℕ → Task → Task → Type 0
+SeesFlip c j k q =
+    FlipSeen (k .reads .state .stamp) (own c k .state .stamp) (k .pc) → Pending (own c k) j
     → held q ≡ held k → HasToggle (q .pc) → Fresh c q → q .reads .toggle j ≡ own c k .toggle j
 
 module _ (s : Settings) where
@@ -102,48 +102,48 @@ module _ (s : Settings) where
   ClosedSlot c j (announced u t) = ClosedIn c j t (account u)
 
   -- the task's own update is closed
-  abbrev pub Shut : Cells → ℕ → Task → Type 0
-  Shut c j k = ClosedIn c j (k .ticket) (target k)
+  abbrev pub OwnClosed : Cells → ℕ → Task → Type 0
+  OwnClosed c j k = ClosedIn c j (k .ticket) (target k)
 
   -- worker j's slot, once read as x, is still that, or its update is closed
-  abbrev pub Old : Cells → ℕ → Slot → Type 0
-  Old c j x = (x ≡ c .slots j) ⊎ ClosedSlot c j x
+  abbrev pub OldSlot : Cells → ℕ → Slot → Type 0
+  OldSlot c j x = (x ≡ c .slots j) ⊎ ClosedSlot c j x
 
   -- worker j's ticket t is settled in the body b, or the bucket is full
   abbrev pub SettledOrFull : ℕ → ℕ → Body → Type 0
   SettledOrFull j t b = (t ≤ b .settled j .ticket) ⊎ (full s b ≡ true)
 
-  -- A bucket of body b stood where one of body b′ stands now.
-  pub record Gone (j t : ℕ) (b b′ : Body) : Type 0 where
+  -- A bucket of body b has been superseded by one of body b′.
+  pub record Superseded (j t : ℕ) (b b′ : Body) : Type 0 where
     pub full : full s b ≡ true
     pub settled : t ≤ b .settled j .ticket → b′ .settled j ≡ b .settled j
 
-  abbrev pub HeldOrGone : Cells → ℕ → Task → Type 0
-  HeldOrGone c j k = (held k ≡ leaf c (target k)) ⊎ Gone j (k .ticket) (body c (held k)) (leafBody c (target k))
+  abbrev pub HeldOrSuperseded : Cells → ℕ → Task → Type 0
+  HeldOrSuperseded c j k = (held k ≡ leaf c (target k)) ⊎ Superseded j (k .ticket) (body c (held k)) (leafBody c (target k))
 
-  -- The bucket held is the account's, or one that is gone.
+  -- The bucket held is the account's, or a superseded one.
   pub record Hold (c : Cells) (j : ℕ) (k : Task) : Type 0 where
     pub named : held k ≡ nameAt (held k .depth) (target k)
     pub depth : held k .depth ≤ leaf c (target k) .depth
-    pub is : HeldOrGone c j k
+    pub is : HeldOrSuperseded c j k
 
   -- The update is closed, or the account's bucket is held; or it is full; or the directory that was read is current.
-  abbrev pub HeldOrShut : Cells → ℕ → Task → Type 0
-  HeldOrShut c j k = (held k ≡ leaf c (target k)) ⊎ Shut c j k
+  abbrev pub HeldOrClosed : Cells → ℕ → Task → Type 0
+  HeldOrClosed c j k = (held k ≡ leaf c (target k)) ⊎ OwnClosed c j k
 
-  abbrev pub FullOrShut : Cells → ℕ → Task → Type 0
-  FullOrShut c j k = (full s (leafBody c (target k)) ≡ true) ⊎ Shut c j k
+  abbrev pub FullOrClosed : Cells → ℕ → Task → Type 0
+  FullOrClosed c j k = (full s (leafBody c (target k)) ≡ true) ⊎ OwnClosed c j k
 
-  abbrev pub FreshOrShut : Cells → ℕ → Task → Type 0
-  FreshOrShut c j k = DirectoryFresh c k ⊎ Shut c j k
+  abbrev pub FreshOrClosed : Cells → ℕ → Task → Type 0
+  FreshOrClosed c j k = DirectoryFresh c k ⊎ OwnClosed c j k
 
   -- in pass two
   abbrev pub HoldsLeaf : Two → Cells → ℕ → Task → Type 0
-  HoldsLeaf p c j k = IsTwo p → HeldOrShut c j k
+  HoldsLeaf p c j k = IsTwo p → HeldOrClosed c j k
 
   -- past pass two's bucket pass
   abbrev pub FullLeaf : Two → Cells → ℕ → Task → Type 0
-  FullLeaf p c j k = IsTwo p → FullOrShut c j k
+  FullLeaf p c j k = IsTwo p → FullOrClosed c j k
 
   -- ---- the bucket pass
 
@@ -151,7 +151,7 @@ module _ (s : Settings) where
   pub record SeenState (r : Two) (c : Cells) (j : ℕ) (k : Task) : Type 0 where
     pub bounded : k .reads .state .stamp ≤ own c k .state .stamp
     pub same : Fresh c k → k .reads .state .value ≡ own c k .state .value
-    pub second : IsTwo r → Differ (own c k) j → Fresh c k
+    pub second : IsTwo r → Pending (own c k) j → Fresh c k
 
   abbrev pub SeenAt : Two → BStep → Cells → ℕ → Task → Type 0
   SeenAt r x c j k = sinceState (Unit {0}) (SeenState r c j k) x
@@ -159,22 +159,22 @@ module _ (s : Settings) where
   pub record InRound (p r : Two) (x : BStep) (c : Cells) (j : ℕ) (k : Task) : Type 0 where
     pub hold : Hold c j k
     pub pass : HoldsLeaf p c j k
-    pub applied : Agree (own c k) j → SettledOrFull j (k .ticket) (body c (held k))
+    pub applied : Applied (own c k) j → SettledOrFull j (k .ticket) (body c (held k))
     pub seen : SeenAt r x c j k
 
   -- ---- the directory pass
 
   -- Bucket x, whose body is b, was found full below M, and resolved into leaf l of account a.
-  pub record Grown (slots : ℕ → Slot) (x : Name) (b : Body) (a : ℕ) (l : Leaf) : Type 0 where
+  pub record ResolvedTo (slots : ℕ → Slot) (x : Name) (b : Body) (a : ℕ) (l : Leaf) : Type 0 where
     pub splits : splittable s (x .depth) b ≡ true
     pub is : l ≡ leafOf (resolved s x b slots (s .workers)) a
     pub deeper : x .depth < nameOf l .depth
 
   -- what the working copy has for account a: the current bucket, or what it was resolved into
-  abbrev pub Worked : Cells → Task → ℕ → Type 0
-  Worked c k a =
+  abbrev pub KeptOrResolved : Cells → Task → ℕ → Type 0
+  KeptOrResolved c k a =
       (leafOf (k .reads .copy) a ≡ kept (leaf c a))
-      ⊎ Grown (k .reads .slots) (leaf c a) (leafBody c a) a (leafOf (k .reads .copy) a)
+      ⊎ ResolvedTo (k .reads .slots) (leaf c a) (leafBody c a) a (leafOf (k .reads .copy) a)
 
   pub record SeenDirectory (c : Cells) (k : Task) : Type 0 where
     pub bounded : k .reads .directory .stamp ≤ c .directory .stamp
@@ -184,11 +184,11 @@ module _ (s : Settings) where
   abbrev pub ReadAt : DStep → Cells → Task → Type 0
   ReadAt copyD c k = Unit {0}
   ReadAt (slotD i) c k = SeenDirectory c k × (k .reads .copy ≡ copyOf (k .reads .directory .value))
-  ReadAt (state i) c k = SeenDirectory c k × (DirectoryFresh c k → (a : ℕ) → Worked c k a)
-  ReadAt swapD c k = SeenDirectory c k × (DirectoryFresh c k → (a : ℕ) → Worked c k a)
+  ReadAt (state i) c k = SeenDirectory c k × (DirectoryFresh c k → (a : ℕ) → KeptOrResolved c k a)
+  ReadAt swapD c k = SeenDirectory c k × (DirectoryFresh c k → (a : ℕ) → KeptOrResolved c k a)
 
   abbrev pub RoundAt : Two → Two → DStep → Cells → ℕ → Task → Type 0
-  RoundAt p r x c j k = sinceCopy (Unit {0}) (BothTwo p r → FreshOrShut c j k) x
+  RoundAt p r x c j k = sinceCopy (Unit {0}) (BothTwo p r → FreshOrClosed c j k) x
 
   pub record InDirectory (p r : Two) (x : DStep) (c : Cells) (j : ℕ) (k : Task) : Type 0 where
     pub full : FullLeaf p c j k
@@ -198,20 +198,20 @@ module _ (s : Settings) where
   -- ---- the checks
 
   -- before the check of pass p's bucket pass (one) or directory pass (two)
-  abbrev pub Due : Two → Two → Cells → ℕ → Task → Type 0
-  Due one x c j k = Unit {0}
-  Due two one c j k = FullOrShut c j k
-  Due two two c j k = Shut c j k
+  abbrev pub CheckFacts : Two → Two → Cells → ℕ → Task → Type 0
+  CheckFacts one x c j k = Unit {0}
+  CheckFacts two one c j k = FullOrClosed c j k
+  CheckFacts two two c j k = OwnClosed c j k
 
   -- in it, the bucket held
-  abbrev pub DueHere : Two → Two → Cells → ℕ → Task → Type 0
-  DueHere one x c j k = Unit {0}
-  DueHere two one c j k = FullOrShut c j k
-  DueHere two two c j k = Closed j (k .ticket) (held k .depth) (body c (held k))
+  abbrev pub CheckFactsHere : Two → Two → Cells → ℕ → Task → Type 0
+  CheckFactsHere one x c j k = Unit {0}
+  CheckFactsHere two one c j k = FullOrClosed c j k
+  CheckFactsHere two two c j k = Closed j (k .ticket) (held k .depth) (body c (held k))
 
   -- ---- what worker j knows
 
-  -- its announced update stands in its slot
+  -- its slot holds its announced update
   pub record Announced (c : Cells) (j : ℕ) (k : Task) : Type 0 where
     pub wanted : Update
     pub asks : k .operation ≡ some (update wanted)
@@ -232,7 +232,7 @@ module _ (s : Settings) where
 
   -- of its slot
   abbrev pub SlotFacts : PC → Cells → ℕ → Task → Type 0
-  SlotFacts pc c j k = by-place (λ x. Type 0)
+  SlotFacts pc c j k = by-counter (λ x. Type 0)
       ((k .operation ≡ none) × ClosedSlot c j (c .slots j)) (Calling c j k) (Looking c j k) (Looking c j k) ⊥ (λ x u. Announced c j k) pc
 
   -- of the bucket or the directory that it has read
@@ -244,8 +244,8 @@ module _ (s : Settings) where
   ReadFacts over c j k = ⊥
   ReadFacts (readD p) c j k = Unit {0}
   ReadFacts (flip p) c j k = Hold c j k × HoldsLeaf p c j k
-  ReadFacts (checkD p x) c j k = Due p x c j k
-  ReadFacts (checkS p x) c j k = Hold c j k × DueHere p x c j k
+  ReadFacts (checkD p x) c j k = CheckFacts p x c j k
+  ReadFacts (checkS p x) c j k = Hold c j k × CheckFactsHere p x c j k
   ReadFacts (inB p r x) c j k = InRound p r x c j k
   ReadFacts (inD p r x) c j k = InDirectory p r x c j k
 
@@ -258,35 +258,37 @@ module _ (s : Settings) where
 
   pub record View (j : ℕ) (c : Cells) (k : Task) : Type 0 where
     -- a bit that agrees with the applied one was seen as it is
-    pub bit : HasToggle (k .pc) → Fresh c k → Agree (own c k) j → k .reads .toggle j ≡ own c k .toggle j
+    pub bit : HasToggle (k .pc) → Fresh c k → Applied (own c k) j → k .reads .toggle j ≡ own c k .toggle j
     -- the slot of a bit seen to differ was read as it is
-    pub slot : Saw (s .workers) j (k .pc) → Fresh c k → Differ (own c k) j → k .reads .toggle j ≡ own c k .toggle j → k .reads .slots j ≡ c .slots j
+    pub slot :
+        HasSlotB (s .workers) j (k .pc) → Fresh c k → Pending (own c k) j → k .reads .toggle j ≡ own c k .toggle j
+        → k .reads .slots j ≡ c .slots j
     -- a slot that was read is the slot, or its update is closed
-    pub old : Old c j (k .reads .slots j)
+    pub old : OldSlot c j (k .reads .slots j)
 
-  -- ---- what a worker with task q owes worker j with task k
+  -- ---- what worker j with task k can rely on of a worker with task q
 
   pub record Pair (j : ℕ) (c : Cells) (k q : Task) : Type 0 where
-    pub rush : Rush c j k q
+    pub sees-flip : SeesFlip c j k q
     -- whoever can still swap the directory has read j's update
     pub seen :
-        Known (k .reads .directory .stamp) (c .directory .stamp) (k .pc)
-        → SawThere (s .workers) j (q .pc) → DirectoryFresh c q → q .reads .slots j ≡ c .slots j
+        UpdateSeen (k .reads .directory .stamp) (c .directory .stamp) (k .pc)
+        → HasSlotD (s .workers) j (q .pc) → DirectoryFresh c q → q .reads .slots j ≡ c .slots j
     -- and splits its bucket, or the update is closed
-    pub covers :
-        Covered (k .reads .directory .stamp) (c .directory .stamp) (k .pc)
-        → Past (s .workers) j (q .pc) → DirectoryFresh c q → IsMade (leafOf (q .reads .copy) (target k)) ⊎ Shut c j k
+    pub splits-bucket :
+        BucketSplit (k .reads .directory .stamp) (c .directory .stamp) (k .pc)
+        → PastState (s .workers) j (q .pc) → DirectoryFresh c q → IsMade (leafOf (q .reads .copy) (target k)) ⊎ OwnClosed c j k
 
   -- ---- the invariant
 
   -- a bit is taken up, or its worker is in its rounds at the bucket
-  abbrev pub Calm : ℕ → Cells → Task → Name → Type 0
-  Calm j c k x = Agree (c .buckets x) j ⊎ (Rounds (k .pc) × (held k ≡ x))
+  abbrev pub AppliedOrRounds : ℕ → Cells → Task → Name → Type 0
+  AppliedOrRounds j c k x = Applied (c .buckets x) j ⊎ (Rounds (k .pc) × (held k ≡ x))
 
   pub record Inv (c : Cells) (tasks : ℕ → Task) : Type 0 where
     pub directory : Coherent (s .depth) (copyOf (c .directory .value))
     pub tickets : (a j : ℕ) → leafBody c a .settled j .ticket ≤ ticketOf (c .slots j)
-    pub calm : (x : Name) (j : ℕ) → j < s .workers → Calm j c (tasks j) x
+    pub bits-applied : (x : Name) (j : ℕ) → j < s .workers → AppliedOrRounds j c (tasks j) x
     pub own : (j : ℕ) → j < s .workers → Own c j (tasks j)
     pub view : (j p : ℕ) → j < s .workers → p < s .workers → View j c (tasks p)
     pub pair : (j p : ℕ) → j < s .workers → p < s .workers → Pair j c (tasks j) (tasks p)

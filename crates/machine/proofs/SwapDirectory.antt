@@ -15,16 +15,16 @@ use Rattle.machine.specs.BucketPass.{full, splittable, settledAt}
 use Rattle.machine.specs.DirectoryPass.{leafOf, nameOf, bodyMade}
 use Rattle.machine.specs.Steps.{created, direct}
 use Rattle.machine.proofs.Base.{no-both, and-true, and-parts}
-use Rattle.machine.proofs.Copies.{nameAt, depthAt, Coherent, splittable-below, Grove, grove-name, grove-of, bodyMade-made, bodyMade-kept}
+use Rattle.machine.proofs.Copies.{nameAt, depthAt, Coherent, splittable-below, Partition, partition-name, partition-of, bodyMade-made, bodyMade-kept}
 use Rattle.machine.proofs.Copies.{bodyMade-some, bucketOf-directoryOf, coherent-directoryOf}
 use Rattle.machine.proofs.Counter.{Two, swapD, state, inD, afterD}
-use Rattle.machine.proofs.Whereabouts.{Rounds, HasToggle, SawThere, Past, Known, Holds, saw-toggle, late-rounds, toggle-rounds, rounds-holds}
-use Rattle.machine.proofs.Whereabouts.{known-under, last-covered}
-use Rattle.machine.proofs.Inv.{Task, about, target, resolved, leaf, body, leafBody, held, own, DirectoryFresh, Agree, IsMade, Closed, ClosedIn}
-use Rattle.machine.proofs.Inv.{ClosedSlot, Shut, Grown, Worked, InDirectory, ReadFacts, Own, View, Pair, Calm, Inv}
-use Rattle.machine.proofs.Keeping.{goes, Reading, reading, under-announced, holds-hold}
-use Rattle.machine.proofs.Resolve.{Fate, stays, gets, due, bodyAt, Made, resolved-ok}
-use Rattle.machine.proofs.Change.{turned, stay, grow, Leads, Changed, Keeps, Splits, Swaps, kept-same, closed-move, shut-move, own-move}
+use Rattle.machine.proofs.CounterFacts.{Rounds, HasToggle, HasSlotD, PastState, UpdateSeen, HoldsBucket, slot-toggle, flip-seen-rounds, toggle-rounds, rounds-holds}
+use Rattle.machine.proofs.CounterFacts.{update-seen-under, last-bucket-split}
+use Rattle.machine.proofs.Inv.{Task, about, target, resolved, leaf, body, leafBody, held, own, DirectoryFresh, Applied, IsMade, Closed, ClosedIn}
+use Rattle.machine.proofs.Inv.{ClosedSlot, OwnClosed, ResolvedTo, KeptOrResolved, InDirectory, ReadFacts, Own, View, Pair, AppliedOrRounds, Inv}
+use Rattle.machine.proofs.Preservation.{goes, Reading, reading, under-announced, holds-hold}
+use Rattle.machine.proofs.Resolve.{SettledChange, settled-same, settled-new, due, bodyAt, Made, resolved-ok}
+use Rattle.machine.proofs.Change.{later-directory, same-bucket, deeper-bucket, LeafEvolves, BucketsChanged, HeldKept, SplitCloses, SwapCloses, kept-same, closed-move, own-closed-move, own-move}
 use Rattle.machine.proofs.Change.{pair-move, old-move, tickets-move}
 use Rattle.machine.proofs.Transitions.{redirectedCells}
 use Rattle.machine.proofs.DirectorySteps.{missedD-ok}
@@ -54,18 +54,19 @@ module _
     pub copy-coherent : Coherent (s .depth) (tasks w .reads .copy)
     copy-coherent = mine .read .0 .coherent
 
-    pub worked : (a : ℕ) → Worked s c k a
-    worked = mine .read .1 fresh
+    pub kept-or-resolved : (a : ℕ) → KeptOrResolved s c k a
+    kept-or-resolved = mine .read .1 fresh
 
     -- account a's bucket is split
     abbrev Split : ℕ → Type 0
-    Split a = Grown s (k .reads .slots) (leaf c a) (leafBody c a) a (leafOf copy a)
+    Split a = ResolvedTo s (k .reads .slots) (leaf c a) (leafBody c a) a (leafOf copy a)
 
-    grove : Grove (s .depth) (leaf c)
-    grove = grove-of _ (i .directory)
+    partition : Partition (s .depth) (leaf c)
+    partition = partition-of _ (i .directory)
 
     pub remade-ok : (a : ℕ) → Made s (leaf c a) (leafBody c a) (k .reads .slots) (s .workers) (remade s c k a)
-    remade-ok a = resolved-ok s small (leaf c a) a (grove-name grove a) (grove .bound a) (leafBody c a) (k .reads .slots) (s .workers)
+    remade-ok a =
+        resolved-ok s small (leaf c a) a (partition-name partition a) (partition .bound a) (leafBody c a) (k .reads .slots) (s .workers)
 
     -- ---- the buckets afterwards
 
@@ -81,13 +82,13 @@ module _
     untouched : (d a : ℕ) → d ≤ leaf c a .depth → c′ .buckets (nameAt d a) ≡ c .buckets (nameAt d a)
     untouched d a l = bucket-is (nameAt d a) ∙ go (bodyMade copy (nameAt d a)) refl
       where
-        no-body : (b : Body) → leafOf copy a ≡ made (nameAt d a) b → Worked s c k a → ⊥
+        no-body : (b : Body) → leafOf copy a ≡ made (nameAt d a) b → KeptOrResolved s c k a → ⊥
         no-body b e (inl f) = subst IsMade (sym e ∙ f) tt
         no-body b e (inr g) = omega (arith, g .deeper, ap (λ (y : Leaf). nameOf y .depth) e)
 
         go : (o : Option Body) → bodyMade copy (nameAt d a) ≡ o → created (c .buckets (nameAt d a)) o ≡ c .buckets (nameAt d a)
         go none e = refl
-        go (some b) e = absurd (no-body b (bodyMade-some small copy-coherent (nameAt d a) b e a refl) (worked a))
+        go (some b) e = absurd (no-body b (bodyMade-some small copy-coherent (nameAt d a) b e a refl) (kept-or-resolved a))
 
     -- an account's bucket that is not split
     pub leaf-old : (a : ℕ) → leafOf copy a ≡ kept (leaf c a) → (leaf c′ a ≡ leaf c a) × (leafBody c′ a ≡ leafBody c a)
@@ -101,7 +102,7 @@ module _
     unfolding newBucket
     leaf-new a g =
         let x : Name = nameAt (depthAt (remade s c k a) a) a in
-        let l : leafOf copy a ≡ made x (bodyAt (remade s c k a) a) = g .is ∙ remade-ok a .stands a (grove .named a) in
+        let l : leafOf copy a ≡ made x (bodyAt (remade s c k a) a) = g .is ∙ remade-ok a .stands a (partition .named a) in
         let b = bucket-is x ∙ ap (created (c .buckets x)) (bodyMade-made small copy-coherent a x _ l) in
         (leaf-is a ∙ ap nameOf (g .is), ap (body c′) (leaf-is a ∙ ap nameOf l) ∙ ap (λ (y : Bucket). y .state .value .body) b)
 
@@ -112,41 +113,43 @@ module _
     unfolding settledAt
     due-open a j l empty e h = no-both e refl
     due-open a j l (announced u t) e h =
-        let y : leaf c (account u) ≡ leaf c a = grove .shared a (account u) (eqb-true _ _ (and-parts _ _ e .0)) in
-        ⊎-elim (λ z. omega (arith, leb-false t (leafBody c a .settled j .ticket) (not-true _ (and-parts _ _ e .1)))) (λ z. omega (arith, z .1))
+        let y : leaf c (account u) ≡ leaf c a = partition .shared a (account u) (eqb-true _ _ (and-parts _ _ e .0)) in
+        ⊎-elim (λ z. omega (arith, leb-false t (leafBody c a .settled j .ticket) (not-true _ (and-parts _ _ e .1))))
+        (λ z. omega (arith, z .1))
         (subst (λ x. Closed s j t (x .depth) (body c x)) y h)
 
-    -- what is taken into a bucket that is split is what stands in the slot
+    -- what is taken into a bucket that is split is what the slot holds
     pub taken-real :
         (a j : ℕ) → leaf c a .depth < s .depth → j < s .workers → due (leaf c a) (leafBody c a) j (k .reads .slots j) ≡ true
         → k .reads .slots j ≡ c .slots j
     taken-real a j l jn d = ⊎-elim (λ e. e) (λ h. absurd (due-open a j l (k .reads .slots j) d h)) (i .view j w jn wn .old)
 
-    evolves : (a : ℕ) → Leads s c c′ a
+    evolves : (a : ℕ) → LeafEvolves s c c′ a
     unfolding splittable
-    evolves a = go (worked a)
+    evolves a = go (kept-or-resolved a)
       where
         real :
             leaf c a .depth < s .depth → (b : Body) (j : ℕ)
-            → Fate (leafBody c a) b (k .reads .slots j) ((j < s .workers) × (due (leaf c a) (leafBody c a) j (k .reads .slots j) ≡ true)) j
-            → Fate (leafBody c a) b (c .slots j) (Unit {0}) j
-        real d b j (stays e) = stays e
-        real d b j (gets h l e) = let z = taken-real a j d (h .0) (h .1) in gets tt (rw z at l) (rw z at e)
+            → SettledChange (leafBody c a) b (k .reads .slots j) ((j < s .workers)
+            × (due (leaf c a) (leafBody c a) j (k .reads .slots j) ≡ true)) j
+            → SettledChange (leafBody c a) b (c .slots j) (Unit {0}) j
+        real d b j (settled-same e) = settled-same e
+        real d b j (settled-new h l e) = let z = taken-real a j d (h .0) (h .1) in settled-new tt (rw z at l) (rw z at e)
 
-        go : Worked s c k a → Leads s c c′ a
-        go (inl e) = let z = leaf-old a e in stay (z .0) (λ j. stays (ap (λ (b : Body). b .settled j) (z .1))) (λ h. z .1)
+        go : KeptOrResolved s c k a → LeafEvolves s c c′ a
+        go (inl e) = let z = leaf-old a e in same-bucket (z .0) (λ j. settled-same (ap (λ (b : Body). b .settled j) (z .1))) (λ h. z .1)
         go (inr g) =
             let d = splittable-below s (leaf c a .depth) (leafBody c a) (g .splits) in
-            grow (rw (leaf-is a) (g .deeper)) (and-parts _ _ (g .splits) .0) d
-            (λ j. rw (leaf-new a g .1) (real d _ j (remade-ok a .fate a j (grove .named a))))
+            deeper-bucket (rw (leaf-is a) (g .deeper)) (and-parts _ _ (g .splits) .0) d
+            (λ j. rw (leaf-new a g .1) (real d _ j (remade-ok a .settled-change a j (partition .named a))))
 
     later : c .directory .stamp < c′ .directory .stamp
     unfolding direct
     later = omega arith
 
-    pub changed : Changed s c c′
+    pub buckets-changed : BucketsChanged s c c′
     unfolding direct
-    changed = record { slots = refl; turn = turned later; evolves = evolves }
+    buckets-changed = record { slots = refl; directory-evolves = later-directory later; evolves = evolves }
 
     -- ---- the workers
 
@@ -157,65 +160,70 @@ module _
       where
         served :
             (bodyAt (remade s c k (account u)) (account u) .settled j .ticket ≡ t)
-            ⊎ ((full s (bodyAt (remade s c k (account u)) (account u)) ≡ true) × (depthAt (remade s c k (account u)) (account u) ≡ s .depth))
+            ⊎ ((full s (bodyAt (remade s c k (account u)) (account u)) ≡ true)
+            × (depthAt (remade s c k (account u)) (account u) ≡ s .depth))
             → ClosedIn s c′ j t (account u)
         served (inl h) = inl (rw (leaf-new (account u) g .1) (omega arith))
         served (inr h) = inr (rw (leaf-new (account u) g .1) (h .0), rw (leaf-new (account u) g .0) (h .1))
 
         go : (v : Bool) → settledAt (leafBody c (account u)) j t ≡ v → ClosedIn s c′ j t (account u)
-        go true h = closed-move s c c′ changed j (announced u t) (inl (leb-true t _ h))
-        go false h = served (remade-ok (account u) .served j t u jn e (rw e (and-true (eq-eqb _ _ (grove .named (account u))) (ap not h))))
+        go true h = closed-move s c c′ buckets-changed j (announced u t) (inl (leb-true t _ h))
+        go false h =
+            served (remade-ok (account u) .served j t u jn e (rw e (and-true (eq-eqb _ _ (partition .named (account u))) (ap not h))))
 
     module _ (j : ℕ) (jn : j < s .workers) where
       abbrev q : Task
       q = tasks j
 
-      abbrev KnownNow : Type 0
-      KnownNow = Known (q .reads .directory .stamp) (c .directory .stamp) (q .pc)
+      abbrev UpdateSeenNow : Type 0
+      UpdateSeenNow = UpdateSeen (q .reads .directory .stamp) (c .directory .stamp) (q .pc)
 
       -- the bucket that a worker holds is not touched
-      pub own-same : Holds (q .pc) → own c′ q ≡ own c q
+      pub own-same : HoldsBucket (q .pc) → own c′ q ≡ own c q
       own-same h =
           let o = holds-hold s c j q (q .pc) h (i .own j jn .read) in
           subst (λ x. c′ .buckets x ≡ c .buckets x) (sym (o .named)) (untouched (held q .depth) (target q) (o .depth))
 
       -- a worker whose update everybody has read, and whose bucket is split, is served
-      shut-split : KnownNow → Split (target q) → Shut s c′ j q
-      shut-split l g =
-          let a = under-announced s c j q (q .pc) (known-under _ _ (q .pc) l) (i .own j jn .slot) in
+      own-closed-split : UpdateSeenNow → Split (target q) → OwnClosed s c′ j q
+      own-closed-split l g =
+          let a = under-announced s c j q (q .pc) (update-seen-under _ _ (q .pc) l) (i .own j jn .slot) in
           let e : target q ≡ account (a .wanted) = ap about (a .asks) in
-          let x = i .pair j w jn wn .seen l (subst (SawThere (s .workers) j) (sym here) jn) fresh in
+          let x = i .pair j w jn wn .seen l (subst (HasSlotD (s .workers) j) (sym here) jn) fresh in
           subst (ClosedIn s c′ j (q .ticket)) (sym e) (serves j (q .ticket) (a .wanted) jn (x ∙ a .slot) (subst Split e g))
 
       own-kept : Own s c′ j q
-      own-kept = own-move s c c′ changed j q (i .own j jn) kept shut last
+      own-kept = own-move s c c′ buckets-changed j q (i .own j jn) kept own-closed last
         where
-          kept : Keeps s c c′ j q (q .pc)
+          kept : HeldKept s c c′ j q (q .pc)
           kept h = let e = own-same h in kept-same s (ap (λ (x : Bucket). x .state) e) (λ f. ap (λ (x : Bucket). x .toggle j) e)
 
-          split : KnownNow → leaf c (target q) .depth < leaf c′ (target q) .depth → Worked s c k (target q) → Shut s c′ j q
+          split :
+              UpdateSeenNow → leaf c (target q) .depth < leaf c′ (target q) .depth → KeptOrResolved s c k (target q) → OwnClosed s c′ j q
           split l d (inl e) = absurd (omega (arith, ap (λ (x : Name). x .depth) (leaf-old (target q) e .0)))
-          split l d (inr g) = shut-split l g
+          split l d (inr g) = own-closed-split l g
 
-          shut : Splits s c c′ j q (q .pc)
-          shut l d = split l d (worked (target q))
+          own-closed : SplitCloses s c c′ j q (q .pc)
+          own-closed l d = split l d (kept-or-resolved (target q))
 
-          covered : KnownNow → IsMade (leafOf copy (target q)) ⊎ Shut s c j q → Worked s c k (target q) → Shut s c′ j q
-          covered l (inl y) (inl e) = absurd (subst IsMade e y)
-          covered l (inl y) (inr g) = shut-split l g
-          covered l (inr y) f = shut-move s c c′ changed j q y
+          bucket-split :
+              UpdateSeenNow → IsMade (leafOf copy (target q)) ⊎ OwnClosed s c j q → KeptOrResolved s c k (target q) → OwnClosed s c′ j q
+          bucket-split l (inl y) (inl e) = absurd (subst IsMade e y)
+          bucket-split l (inl y) (inr g) = own-closed-split l g
+          bucket-split l (inr y) f = own-closed-move s c c′ buckets-changed j q y
 
-          last : Swaps s c c′ j q (q .pc)
+          last : SwapCloses s c c′ j q (q .pc)
           last h f =
-              let v = last-covered (q .reads .directory .stamp) (c .directory .stamp) (q .pc) h in
-              inr (covered (v .1) (i .pair j w jn wn .covers (v .0) (subst (Past (s .workers) j) (sym here) jn) fresh) (worked (target q)))
+              let v = last-bucket-split (q .reads .directory .stamp) (c .directory .stamp) (q .pc) h in
+              inr (bucket-split (v .1) (i .pair j w jn wn .splits-bucket (v .0) (subst (PastState (s .workers) j) (sym here) jn) fresh)
+              (kept-or-resolved (target q)))
 
-      calm-kept : (x : Name) → Calm s j c′ q x
+      bits-applied-kept : (x : Name) → AppliedOrRounds s j c′ q x
       unfolding newBucket
-      calm-kept x = rw (bucket-is x) (go (bodyMade copy x))
+      bits-applied-kept x = rw (bucket-is x) (go (bodyMade copy x))
         where
-          go : (o : Option Body) → Agree (created (c .buckets x) o) j ⊎ (Rounds (q .pc) × (held q ≡ x))
-          go none = i .calm x j jn
+          go : (o : Option Body) → Applied (created (c .buckets x) o) j ⊎ (Rounds (q .pc) × (held q ≡ x))
+          go none = i .bits-applied x j jn
           go (some b) = inl refl
 
     module _ (j m : ℕ) (jn : j < s .workers) (mn : m < s .workers) where
@@ -228,25 +236,25 @@ module _
           let v = i .view j m jn mn in
           record {
             bit = λ h. let e = toggle-same h in rw e (v .bit h);
-            slot = λ h. let e = toggle-same (saw-toggle (s .workers) j (tasks m .pc) h) in rw e (v .slot h);
-            old = old-move s c c′ changed j (tasks m .reads .slots j) (v .old);
+            slot = λ h. let e = toggle-same (slot-toggle (s .workers) j (tasks m .pc) h) in rw e (v .slot h);
+            old = old-move s c c′ buckets-changed j (tasks m .reads .slots j) (v .old);
           }
 
       pair-kept : Pair s j c′ (tasks j) (tasks m)
       pair-kept =
           let o = i .pair j m jn mn in
-          pair-move s c c′ changed j m (tasks j) (tasks m) (i .own m mn) o (λ l d e h f.
-          let x = own-same j jn (rounds-holds (tasks j .pc) (late-rounds _ (own c′ (tasks j) .state .stamp) (tasks j .pc) l)) in
+          pair-move s c c′ buckets-changed j m (tasks j) (tasks m) (i .own m mn) o (λ l d e h f.
+          let x = own-same j jn (rounds-holds (tasks j .pc) (flip-seen-rounds _ (own c′ (tasks j) .state .stamp) (tasks j .pc) l)) in
           let y = toggle-same h in
-          rw x (o .rush (rw x at l) (rw x at d) e h (rw y at f)))
+          rw x (o .sees-flip (rw x at l) (rw x at d) e h (rw y at f)))
 
     -- the cells changed, nobody moved
     pub redirect-kept : Inv s c′ tasks
     unfolding direct
     redirect-kept = record {
       directory = coherent-directoryOf copy copy-coherent;
-      tickets = tickets-move s c c′ changed (i .tickets);
-      calm = λ x j jn. calm-kept j jn x;
+      tickets = tickets-move s c c′ buckets-changed (i .tickets);
+      bits-applied = λ x j jn. bits-applied-kept j jn x;
       own = own-kept;
       view = view-kept;
       pair = pair-kept;

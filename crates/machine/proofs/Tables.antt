@@ -32,7 +32,8 @@ put-elim P e t a v below at above =
     (λ q. below (ltb-true a (e .0) q))
     (λ q. eq-elim P a (e .0) ((a, v) ∷ t) (e ∷ put t a v) at (λ n. above (omega (arith, ltb-false a (e .0) q))))
 
-remove-elim : (P : Table → Type 0) (e : ℕ × ℤ) (t : Table) (a : ℕ) → (e .0 ≡ a → P t) → (e .0 ≢ a → P (e ∷ remove t a)) → P (remove (e ∷ t) a)
+remove-elim :
+    (P : Table → Type 0) (e : ℕ × ℤ) (t : Table) (a : ℕ) → (e .0 ≡ a → P t) → (e .0 ≢ a → P (e ∷ remove t a)) → P (remove (e ∷ t) a)
 unfolding remove
 remove-elim P e t a at other = eq-elim P (e .0) a t (e ∷ remove t a) at other
 
@@ -56,22 +57,22 @@ find-cons e t t′ a h = ap (λ (x : Option ℤ). if eqb (e .0) a then some (e .
 -- ---- ascending tables
 
 -- every account of the table is above x
-abbrev pub Above : ℕ → Table → Type 0
-Above x [] = Unit {0}
-Above x (e ∷ t) = (x < e .0) × Above x t
+abbrev pub AccountsAbove : ℕ → Table → Type 0
+AccountsAbove x [] = Unit {0}
+AccountsAbove x (e ∷ t) = (x < e .0) × AccountsAbove x t
 
 abbrev pub Ascending : Table → Type 0
 Ascending [] = Unit {0}
-Ascending (e ∷ t) = Above (e .0) t × Ascending t
+Ascending (e ∷ t) = AccountsAbove (e .0) t × Ascending t
 
-above-less : (x y : ℕ) (t : Table) → x ≤ y → Above y t → Above x t
+above-less : (x y : ℕ) (t : Table) → x ≤ y → AccountsAbove y t → AccountsAbove x t
 above-less x y [] l h = tt
 above-less x y (e ∷ t) l h = (omega (arith, h .0), above-less x y t l (h .1))
 
-above-put : (x : ℕ) (t : Table) (a : ℕ) (v : ℤ) → x < a → Above x t → Above x (put t a v)
+above-put : (x : ℕ) (t : Table) (a : ℕ) (v : ℤ) → x < a → AccountsAbove x t → AccountsAbove x (put t a v)
 unfolding put
 above-put x [] a v l h = (l, tt)
-above-put x (e ∷ t) a v l h = put-elim (Above x) e t a v (λ q. (l, h)) (λ q. (l, h .1)) (λ q. (h .0, above-put x t a v l (h .1)))
+above-put x (e ∷ t) a v l h = put-elim (AccountsAbove x) e t a v (λ q. (l, h)) (λ q. (l, h .1)) (λ q. (h .0, above-put x t a v l (h .1)))
 
 pub ascending-put : (t : Table) (a : ℕ) (v : ℤ) → Ascending t → Ascending (put t a v)
 unfolding put
@@ -81,20 +82,21 @@ ascending-put (e ∷ t) a v h = put-elim Ascending e t a v
     (λ q. (above-less a (e .0) t (omega arith) (h .0), h .1))
     (λ q. (above-put (e .0) t a v q (h .0), ascending-put t a v (h .1)))
 
-above-remove : (x : ℕ) (t : Table) (a : ℕ) → Above x t → Above x (remove t a)
+above-remove : (x : ℕ) (t : Table) (a : ℕ) → AccountsAbove x t → AccountsAbove x (remove t a)
 unfolding remove
 above-remove x [] a h = tt
-above-remove x (e ∷ t) a h = remove-elim (Above x) e t a (λ q. h .1) (λ q. (h .0, above-remove x t a (h .1)))
+above-remove x (e ∷ t) a h = remove-elim (AccountsAbove x) e t a (λ q. h .1) (λ q. (h .0, above-remove x t a (h .1)))
 
 pub ascending-remove : (t : Table) (a : ℕ) → Ascending t → Ascending (remove t a)
 unfolding remove
 ascending-remove [] a h = tt
 ascending-remove (e ∷ t) a h = remove-elim Ascending e t a (λ q. h .1) (λ q. (above-remove (e .0) t a (h .0), ascending-remove t a (h .1)))
 
-above-having : (x d q : ℕ) (t : Table) → Above x t → Above x (having d q t)
+above-having : (x d q : ℕ) (t : Table) → AccountsAbove x t → AccountsAbove x (having d q t)
 unfolding having
 above-having x d q [] h = tt
-above-having x d q (e ∷ t) h = having-elim (Above x) d q e t (λ g. (h .0, above-having x d q t (h .1))) (λ g. above-having x d q t (h .1))
+above-having x d q (e ∷ t) h =
+    having-elim (AccountsAbove x) d q e t (λ g. (h .0, above-having x d q t (h .1))) (λ g. above-having x d q t (h .1))
 
 pub ascending-having : (d q : ℕ) (t : Table) → Ascending t → Ascending (having d q t)
 unfolding having
@@ -110,7 +112,7 @@ ascending-changed (delete a) t h = ascending-remove t a h
 
 -- ---- what is found
 
-find-above : (x : ℕ) (t : Table) (a : ℕ) → a ≤ x → Above x t → find t a ≡ none
+find-above : (x : ℕ) (t : Table) (a : ℕ) → a ≤ x → AccountsAbove x t → find t a ≡ none
 unfolding find
 find-above x [] a l h = refl
 find-above x (e ∷ t) a l h = find-tail e t a (λ q. omega (arith, h .0)) ∙ find-above x t a l (h .1)
@@ -160,11 +162,11 @@ find-having-out d q (e ∷ t) a h = having-elim (λ (l : Table). find l a ≡ no
     (λ g. find-having-out d q t a h)
 
 -- what an update leaves at its account
-abbrev pub left : Update → Option ℤ
-left (insert a v) = some v
-left (delete a) = none
+abbrev pub totalAfter : Update → Option ℤ
+totalAfter (insert a v) = some v
+totalAfter (delete a) = none
 
-pub find-changed-at : (u : Update) (t : Table) → Ascending t → find (changed u t) (account u) ≡ left u
+pub find-changed-at : (u : Update) (t : Table) → Ascending t → find (changed u t) (account u) ≡ totalAfter u
 unfolding changed
 find-changed-at (insert a v) t h = find-put-at t a v
 find-changed-at (delete a) t h = find-remove-at t a h
@@ -206,7 +208,8 @@ table-ext (e ∷ t) (f ∷ t′) s r h = ap (λ (x : ℕ × ℤ). x ∷ t) heads
 
 -- ---- parts
 
-pub having-having : (d e a : ℕ) (t : Table) → d ≤ e → e ≤ 32 → having e (firstBits e a) (having d (firstBits d a) t) ≡ having e (firstBits e a) t
+pub having-having :
+    (d e a : ℕ) (t : Table) → d ≤ e → e ≤ 32 → having e (firstBits e a) (having d (firstBits d a) t) ≡ having e (firstBits e a) t
 unfolding having
 having-having d e a [] l b = refl
 having-having d e a (x ∷ t) l b = let again = having-having d e a t l b in
@@ -251,7 +254,8 @@ having-changed d u t s =
     go c (yes e) = rw e (find-having-in d q (changed u t) (account u) refl ∙ find-changed-at u t s ∙ sym (find-changed-at u part asc))
     go c (no n) = part-elsewhere d q u t c n ∙ sym (find-changed-other u part c n)
 
-pub having-changed-other : (d q : ℕ) (u : Update) (t : Table) → Ascending t → q ≢ firstBits d (account u) → having d q (changed u t) ≡ having d q t
+pub having-changed-other :
+    (d q : ℕ) (u : Update) (t : Table) → Ascending t → q ≢ firstBits d (account u) → having d q (changed u t) ≡ having d q t
 having-changed-other d q u t s n =
     table-ext (having d q (changed u t)) (having d q t)
     (ascending-having d q (changed u t) (ascending-changed u t s)) (ascending-having d q t s) (λ c. go c (ℕ-discrete c (account u)))
@@ -278,6 +282,7 @@ pub serve-crowded : (b M : ℕ) (u : Update) (t : Table) → crowds b M (account
 unfolding serve
 serve-crowded b M u t h = if-true (Crowded, t) (result u t, changed u t) h
 
-pub serve-update : (b M : ℕ) (u : Update) (t : Table) → crowds b M (account u) t ≡ false → serve b M (update u) t ≡ (result u t, changed u t)
+pub serve-update :
+    (b M : ℕ) (u : Update) (t : Table) → crowds b M (account u) t ≡ false → serve b M (update u) t ≡ (result u t, changed u t)
 unfolding serve
 serve-update b M u t h = if-false (Crowded, t) (result u t, changed u t) h

@@ -1,4 +1,4 @@
--- A machine's step as a transition of its worker's task: the kinds of step by place, with the cells and the task they leave.
+-- A machine's step as a transition of its worker's task: the kinds of step by counter, with the cells and the task they leave.
 -- Rests on the program counter.
 use Prim.Native.Nat.{ℕ, zero, suc, _≤_, _<_}
 use mathlib.Core.Path.{_≡_}
@@ -15,30 +15,30 @@ use Rattle.machine.specs.Steps.{withDirectory, withState, withToggle, wi
 use Rattle.machine.proofs.Counter.{Two, one, readS, readT, swap, slotB, copyD, swapD, slotD, state, PC, idle, announce, look₁, look₂, over}
 use Rattle.machine.proofs.Counter.{readD, flip, checkD, checkS, inB, inD, counter, afterB, afterC, afterD}
 use Rattle.machine.proofs.Inv.{Task, target, body, held, own, Fresh, DirectoryFresh}
-use Rattle.machine.proofs.Keeping.{goes}
+use Rattle.machine.proofs.Preservation.{goes}
 
 -- ---- tasks
 
--- the place of a lookup that has made k steps
-abbrev pub lookupPlace : ℕ → PC
-lookupPlace zero = look₁
-lookupPlace (suc zero) = look₂
-lookupPlace (suc (suc k)) = over
+-- the counter of a lookup that has made k steps
+abbrev pub lookupCounter : ℕ → PC
+lookupCounter zero = look₁
+lookupCounter (suc zero) = look₂
+lookupCounter (suc (suc k)) = over
 
-abbrev pub placeOf : ℕ → Option Operation → ℕ → PC
-placeOf n none k = idle
-placeOf n (some (lookup a)) k = lookupPlace k
-placeOf n (some (update u)) k = counter n k
+abbrev pub counterOf : ℕ → Option Operation → ℕ → PC
+counterOf n none k = idle
+counterOf n (some (lookup a)) k = lookupCounter k
+counterOf n (some (update u)) k = counter n k
 
 abbrev pub taskOf : ℕ → Worker → Task
-taskOf n w = record { pc = placeOf n (w .operation) (w .steps); operation = w .operation; ticket = w .last; reads = w .reads }
+taskOf n w = record { pc = counterOf n (w .operation) (w .steps); operation = w .operation; ticket = w .last; reads = w .reads }
 
 abbrev pub tasksOf : Settings → Machine → ℕ → Task
 tasksOf s m j = taskOf (s .workers) (m .workers j)
 
 -- an operation ended
-abbrev pub ended : Task → Reads → Task
-ended k r = record { pc = idle; operation = none; ticket = k .ticket; reads = r }
+abbrev pub endedTask : Task → Reads → Task
+endedTask k r = record { pc = idle; operation = none; ticket = k .ticket; reads = r }
 
 -- ---- the cells after a step that changes them
 
@@ -49,7 +49,8 @@ flippedCells w c k = assignToggle c (held k) (assign (own c k .toggle) w (not (o
 abbrev pub swappedCells : Settings → Cells → Task → Cells
 swappedCells s c k =
     let r = k .reads in
-    assignState c (held k) (record { stamp = suc (own c k .state .stamp); value = nextState s (r .state .value) (r .toggle) (r .slots) })
+    assignState c (held k)
+    (record { stamp = suc (own c k .state .stamp); value = nextState s (held k .depth) (r .state .value) (r .toggle) (r .slots) })
 
 abbrev pub redirectedCells : Cells → Task → Cells
 redirectedCells c k =
@@ -59,8 +60,8 @@ redirectedCells c k =
 -- ---- what has been read after a step of the directory pass
 
 -- when the directory is copied
-abbrev pub copied : Cells → Reads → Reads
-copied c r = withCopy (withDirectory r (c .directory)) (copyOf (c .directory .value))
+abbrev pub copiedDirectory : Cells → Reads → Reads
+copiedDirectory c r = withCopy (withDirectory r (c .directory)) (copyOf (c .directory .value))
 
 -- the working copy after worker i's state step, by the leaf of its announced update, and by its slot
 abbrev pub copyLeaf : Settings → Cells → ℕ → ℕ → Reads → Leaf → Copy
@@ -80,13 +81,14 @@ resizedFor s c i r = withCopy r (copySlot s c i r (r .slots i))
 -- worker w with task k, at cells c: the cells, the task and the answer that its step leaves
 pub data Transition (s : Settings) (w : ℕ) (c : Cells) (k : Task) : Cells → Task → Option Answer → Type 0 where
   looks : k .pc ≡ look₁ → Transition s w c k c (goes k look₂ (withDirectory (k .reads) (c .directory))) none
-  finds : k .pc ≡ look₂ → Transition s w c k c (ended k (k .reads)) (some (looked (find (body c (held k) .items) (target k))))
+  finds : k .pc ≡ look₂ → Transition s w c k c (endedTask k (k .reads)) (some (looked (find (body c (held k) .items) (target k))))
   announces : (u : Update) → k .pc ≡ announce → k .operation ≡ some (update u)
       → Transition s w c k (assignSlot c w (announced u (k .ticket))) (goes k (readD one) (k .reads)) none
   readsD : (p : Two) → k .pc ≡ readD p → Transition s w c k c (goes k (flip p) (withDirectory (k .reads) (c .directory))) none
   flips : (p : Two) → k .pc ≡ flip p → Transition s w c k (flippedCells w c k) (goes k (inB p one readS) (k .reads)) none
   readsS : (p r : Two) → k .pc ≡ inB p r readS → Transition s w c k c (goes k (inB p r readT) (withState (k .reads) (own c k .state))) none
-  readsT : (p r : Two) → k .pc ≡ inB p r readT → Transition s w c k c (goes k (inB p r (slotB 0)) (withToggle (k .reads) (own c k .toggle))) none
+  readsT :
+      (p r : Two) → k .pc ≡ inB p r readT → Transition s w c k c (goes k (inB p r (slotB 0)) (withToggle (k .reads) (own c k .toggle))) none
   slotsB : (p r : Two) (i : ℕ) → k .pc ≡ inB p r (slotB i) → suc i < s .workers
       → Transition s w c k c (goes k (inB p r (slotB (suc i))) (withSlot (k .reads) i (c .slots i))) none
   lastB : (p r : Two) (i : ℕ) → k .pc ≡ inB p r (slotB i) → s .workers ≤ suc i
@@ -95,10 +97,10 @@ pub data Transition (s : Settings) (w : ℕ) (c : Cells) (k : Task) : Cells → 
   misses : (p r : Two) → k .pc ≡ inB p r swap → (Fresh c k → ⊥) → Transition s w c k c (goes k (afterB p r) (k .reads)) none
   checksD : (p x : Two) → k .pc ≡ checkD p x → Transition s w c k c (goes k (checkS p x) (withDirectory (k .reads) (c .directory))) none
   answers : (p x : Two) (a : Answer) → k .pc ≡ checkS p x → checked s w (k .ticket) (held k .depth) (body c (held k)) ≡ some a
-      → Transition s w c k c (ended k (k .reads)) (some a)
+      → Transition s w c k c (endedTask k (k .reads)) (some a)
   passes : (p x : Two) → k .pc ≡ checkS p x → checked s w (k .ticket) (held k .depth) (body c (held k)) ≡ none
       → Transition s w c k c (goes k (afterC p x) (k .reads)) none
-  copies : (p r : Two) → k .pc ≡ inD p r copyD → Transition s w c k c (goes k (inD p r (slotD 0)) (copied c (k .reads))) none
+  copies : (p r : Two) → k .pc ≡ inD p r copyD → Transition s w c k c (goes k (inD p r (slotD 0)) (copiedDirectory c (k .reads))) none
   slotsD : (p r : Two) (i : ℕ) → k .pc ≡ inD p r (slotD i) → suc i < s .workers
       → Transition s w c k c (goes k (inD p r (slotD (suc i))) (withSlot (k .reads) i (c .slots i))) none
   lastD : (p r : Two) (i : ℕ) → k .pc ≡ inD p r (slotD i) → s .workers ≤ suc i

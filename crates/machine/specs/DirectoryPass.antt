@@ -25,8 +25,8 @@ nameOf (made x b) = x
 -- ---- a split
 
 -- "It stands at exactly the entries whose first d bits are its prefix": the leaf l of bucket x put at these.
-unfoldable pub plant : Name → Leaf → Copy → Copy
-plant x l c =
+unfoldable pub replaceLeaf : Name → Leaf → Copy → Copy
+replaceLeaf x l c =
     record {
       depth = c .depth;
       leaves = λ e. if eqb (e / 2 ^ (c .depth - x .depth)) (x .prefix) then l else c .leaves e;
@@ -48,12 +48,12 @@ child x i = record { depth = suc (x .depth); prefix = 2 * x .prefix + i }
 unfoldable pub half : Name → Body → Body
 half x b = record { items = having (x .depth) (x .prefix) (b .items); settled = b .settled }
 
-unfoldable pub plantHalf : Name → Body → Copy → Copy
-plantHalf x b c = plant x (made x (half x b)) c
+unfoldable pub replaceHalf : Name → Body → Copy → Copy
+replaceHalf x b c = replaceLeaf x (made x (half x b)) c
 
 -- "A split gives two buckets of depth d+1"
 unfoldable pub split : Name → Body → Copy → Copy
-split x b c = plantHalf (child x 1) b (plantHalf (child x 0) b (deepened (suc (x .depth)) c))
+split x b c = replaceHalf (child x 1) b (replaceHalf (child x 0) b (deepened (suc (x .depth)) c))
 
 -- a bucket made in this round is split where it is full and below depth M
 unfoldable pub splitLeaf : Settings → Copy → Leaf → Copy
@@ -70,7 +70,7 @@ splitWhile s (suc f) a c = splitWhile s f a (splitLeaf s c (leafOf c a))
 -- "the update is carried out if the bucket is then not full"
 unfoldable pub carryLeaf : Settings → ℕ → Update → ℕ → Copy → Leaf → Copy
 carryLeaf s j u t c (kept x) = c
-carryLeaf s j u t c (made x b) = if holdsBack s b then c else plant x (made x (carryOut j u t b)) c
+carryLeaf s j u t c (made x b) = if holdsBack s (x .depth) b then c else replaceLeaf x (made x (carryOut j u t b)) c
 
 unfoldable pub takeUpdate : Settings → ℕ → Update → ℕ → Copy → Copy
 takeUpdate s j u t c =
@@ -88,11 +88,13 @@ unfoldable pub takeSlots : Settings → Name → Body → (ℕ → Slot) → ℕ
 takeSlots s x b slots zero c = c
 takeSlots s x b slots (suc j) c = takeSlot s x b j (slots j) (takeSlots s x b slots j c)
 
--- What step i of the round does with the state of bucket x that it reads, where t is the ticket of worker i's announced update:
--- "If that bucket is full, below depth M, and the ticket there is unsettled, every unsettled announced update .. is taken"
+-- What step i of the round does with the state of bucket x that it reads, where t is the ticket of worker i's announced
+-- update: "If that bucket is full, below depth M, and the ticket there is unsettled, every unsettled announced update
+-- .. is taken"
 unfoldable pub resize : Settings → (ℕ → Slot) → ℕ → ℕ → Name → Body → Copy → Copy
 resize s slots i t x b c =
-    if splittable s (x .depth) b and not (settledAt b i t) then takeSlots s x b slots (s .workers) (plant x (made x b) c) else c
+    if splittable s (x .depth) b and not (settledAt b i t)
+    then takeSlots s x b slots (s .workers) (replaceLeaf x (made x b) c) else c
 
 -- ---- the swap
 

@@ -7,7 +7,7 @@ use lib.Dec.{ltb, leb, eqb}
 use lib.ListN.{length}
 use lib.IntN.{ℤ}
 use Rattle.interface.specs.declared.Answer.{Answer}
-use Rattle.interface.specs.declared.Answer.the-variants.{Added, Replaced, Removed, Absent, Found, Missing, Crowded}
+use Rattle.interface.specs.declared.Answer.the-variants.{Added, Replaced, Removed, Absent, Found, None, Crowded}
 use Rattle.machine.specs.Choice.{if_then_else_}
 
 -- ---- operations
@@ -83,7 +83,7 @@ changed (delete a) t = remove t a
 -- "Lookup answers found with the account's total, or none where the account isn't there."
 unfoldable pub looked : Option ℤ → Answer
 looked (some v) = Found v
-looked none = Missing
+looked none = None
 
 -- "the table holds b accounts that agree with its account in the first M bits"
 unfoldable pub crowds : ℕ → ℕ → ℕ → Table → Bool

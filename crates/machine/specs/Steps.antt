@@ -1,5 +1,6 @@
--- One step of a worker. What the worker has read says which shared cell its next step touches and what it does there, so that
--- "one step reads or changes at most one shared cell" holds by construction. Rests on the two passes and the plan.
+-- One step of a worker. What the worker has read says which shared cell its next step touches and what it does there,
+-- so that "one step reads or changes at most one shared cell" holds by construction. Rests on the two passes and the
+-- plan.
 use Prim.Native.Nat.{ℕ, zero, suc}
 use mathlib.Core.Bool.{Bool, not}
 use mathlib.Core.Option.{Option, none, some}
@@ -56,7 +57,13 @@ unfoldable pub withToggle : Reads → (ℕ → Bool) → Reads
 withToggle r t = record { directory = r .directory; state = r .state; toggle = t; slots = r .slots; copy = r .copy }
 
 unfoldable pub withSlot : Reads → ℕ → Slot → Reads
-withSlot r i x = record { directory = r .directory; state = r .state; toggle = r .toggle; slots = assign (r .slots) i x; copy = r .copy }
+withSlot r i x = record {
+  directory = r .directory;
+  state = r .state;
+  toggle = r .toggle;
+  slots = assign (r .slots) i x;
+  copy = r .copy;
+}
 
 unfoldable pub withCopy : Reads → Copy → Reads
 withCopy r c = record { directory = r .directory; state = r .state; toggle = r .toggle; slots = r .slots; copy = c }
@@ -64,8 +71,8 @@ withCopy r c = record { directory = r .directory; state = r .state; toggle = r .
 -- ---- the steps of an update: worker j, what it has read r, its update u with ticket t
 
 -- the bucket of the update, by the directory that was read
-abbrev pub own : Reads → ℕ → Name
-own r a = bucketOf (r .directory .value) a
+abbrev pub ownName : Reads → ℕ → Name
+ownName r a = bucketOf (r .directory .value) a
 
 unfoldable pub announcing : ℕ → Reads → Update → ℕ → Access
 announcing j r u t = slotCell j (λ old. leaving (announced u t) r)
@@ -75,30 +82,32 @@ directoryReading r = directoryCell (λ d. leaving (unchanged d) (withDirectory r
 
 -- "flip the own toggle bit"
 unfoldable pub flipping : ℕ → Reads → ℕ → Access
-flipping j r a = toggleCell (own r a) (λ bits. leaving (assign bits j (not (bits j))) r)
+flipping j r a = toggleCell (ownName r a) (λ bits. leaving (assign bits j (not (bits j))) r)
 
 unfoldable pub stateReading : Reads → ℕ → Access
-stateReading r a = stateCell (own r a) (λ x. leaving x (withState r x))
+stateReading r a = stateCell (ownName r a) (λ x. leaving x (withState r x))
 
 unfoldable pub toggleReading : Reads → ℕ → Access
-toggleReading r a = toggleCell (own r a) (λ bits. leaving bits (withToggle r bits))
+toggleReading r a = toggleCell (ownName r a) (λ bits. leaving bits (withToggle r bits))
 
 unfoldable pub slotReading : Reads → ℕ → Access
 slotReading r i = slotCell i (λ x. leaving x (withSlot r i x))
 
 -- "The swap makes the copy current only if the bucket's state is still the one that was read."
-unfoldable pub swapped : Settings → Reads → Stamped State → Stamped State
-swapped s r x =
+-- The number is the bucket's depth.
+unfoldable pub swapped : Settings → ℕ → Reads → Stamped State → Stamped State
+swapped s d r x =
     if eqb (x .stamp) (r .state .stamp)
-    then record { stamp = suc (x .stamp); value = nextState s (r .state .value) (r .toggle) (r .slots) }
+    then record { stamp = suc (x .stamp); value = nextState s d (r .state .value) (r .toggle) (r .slots) }
     else x
 
 unfoldable pub stateSwapping : Settings → Reads → ℕ → Access
-stateSwapping s r a = stateCell (own r a) (λ x. leaving (swapped s r x) r)
+stateSwapping s r a = stateCell (ownName r a) (λ x. leaving (swapped s (ownName r a .depth) r x) r)
 
 unfoldable pub stateChecking : Settings → ℕ → Reads → ℕ → ℕ → Access
 stateChecking s j r a t =
-    stateCell (own r a) (λ x. record { contents = x; reads = r; answer = checked s j t (own r a .depth) (x .value .body) })
+    stateCell (ownName r a)
+    (λ x. record { contents = x; reads = r; answer = checked s j t (ownName r a .depth) (x .value .body) })
 
 -- a round of the directory pass begins: the directory that is read is the working copy
 unfoldable pub directoryCopying : Reads → Access
@@ -119,7 +128,10 @@ resizing s r i (announced u t) = leafReading s r i t (leafOf (r .copy) (account 
 unfoldable pub redirected : Reads → Stamped Directory → Directed
 redirected r d =
     if eqb (d .stamp) (r .directory .stamp)
-    then record { directory = record { stamp = suc (d .stamp); value = directoryOf (r .copy) }; created = bodyMade (r .copy) }
+    then record {
+      directory = record { stamp = suc (d .stamp); value = directoryOf (r .copy) };
+      created = bodyMade (r .copy);
+    }
     else unchanged d
 
 unfoldable pub directorySwapping : Reads → Access
@@ -144,7 +156,8 @@ updateAccess s j r u t swapDirectory = directorySwapping r
 unfoldable pub lookupAccess : Reads → ℕ → ℕ → Access
 lookupAccess r a zero = directoryReading r
 lookupAccess r a (suc k) =
-    stateCell (own r a) (λ x. record { contents = x; reads = r; answer = some (looked (find (x .value .body .items) a)) })
+    stateCell (ownName r a)
+    (λ x. record { contents = x; reads = r; answer = some (looked (find (x .value .body .items) a)) })
 
 -- worker j's next step, from what it keeps itself
 unfoldable pub access : Settings → ℕ → Worker → Operation → Access
@@ -192,14 +205,16 @@ unfoldable pub counted : Worker → Reads → Option Answer → Worker
 counted w r none = record { last = w .last; operation = w .operation; steps = suc (w .steps); reads = r }
 counted w r (some a) = record { last = w .last; operation = none; steps = 0; reads = r }
 
-unfoldable pub reported : ℕ → Option Answer → Stepped
-reported k none = Stepped.Moved
-reported k (some a) = Stepped.Answered (record { answer = a; steps = k })
+unfoldable pub stepReply : ℕ → Option Answer → Stepped
+stepReply k none = Stepped.Moved
+stepReply k (some a) = Stepped.Answered (record { answer = a; steps = k })
 
 unfoldable pub done : Machine → ℕ → Effect Cells → Machine × Stepped
 done m j e =
-    let w : Worker = m .workers j in
-    (record { cells = e .contents; workers = assign (m .workers) j (counted w (e .reads) (e .answer)) }, reported (suc (w .steps)) (e .answer))
+    let w : Worker = m .workers j in (
+      record { cells = e .contents; workers = assign (m .workers) j (counted w (e .reads) (e .answer)) },
+      stepReply (suc (w .steps)) (e .answer),
+    )
 
 -- a worker without operation is idle
 unfoldable pub stepOf : Settings → Machine → ℕ → Option Operation → Machine × Stepped
@@ -208,4 +223,5 @@ stepOf s m j (some o) = done m j (perform (access s j (m .workers j) o) (m .cell
 
 -- "A step checks 8, 3, 5": the machine and what worker j is answered. 8 is a matter of the memory.
 unfoldable pub step : Settings → Machine → ℕ → Machine × Stepped
-step s m j = if ltb j (s .workers) then stepOf s m j (m .workers j .operation) else (m, Stepped.Refused Refusal.Stranger)
+step s m j =
+    if ltb j (s .workers) then stepOf s m j (m .workers j .operation) else (m, Stepped.Refused Refusal.Stranger)

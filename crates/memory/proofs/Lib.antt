@@ -1,4 +1,3 @@
-pub mod Regions
 pub mod Runs
 pub mod States
 pub mod Totals

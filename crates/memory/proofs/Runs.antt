@@ -9,6 +9,7 @@ use native.Mathlib.Numerals.{add-one}
 use native.Mathlib.Omega.{arith}
 use lib.ListN.{length, take, drop, getD, set, replicate, length-append, length-drop, length-set, length-replicate, replicate-append-replicate}
 use lib.Seq.{length-take-le, take-suc, getD-take, getD-drop, set-append-left, take-set-lt, drop-set-lt, getD-set-same, getD-set-other}
+use Rattle.interface.specs.Limits.{greatestCapacity}
 use Rattle.lists.specs.Parts.{part, overlay}
 use Rattle.memory.specs.Loads.{copied, stored}
 use Rattle.lists.proofs.PartLaws.{overlay-nil, overlay-more, length-overlay, getD-overlay-in, getD-overlay-before, getD-overlay-after}
@@ -35,7 +36,9 @@ pub stored-none : (l : List ℕ) (at : ℕ) (a : List ℕ) → stored l at a 0 �
 unfolding stored
 stored-none l at a = overlay-nil l at
 
-pub stored-more : (w l : List ℕ) (at : ℕ) (a : List ℕ) (i : ℕ) → w ≡ stored l at a i → at + i < length l → i < length a → set w (at + i) (getD a i 0) ≡ stored l at a (i + 1)
+pub stored-more :
+    (w l : List ℕ) (at : ℕ) (a : List ℕ) (i : ℕ) → w ≡ stored l at a i → at + i < length l → i < length a
+    → set w (at + i) (getD a i 0) ≡ stored l at a (i + 1)
 unfolding stored
 stored-more w l at a i e h m =
     let n = length-take-le i a (omega arith) in
@@ -47,7 +50,7 @@ stored-more w l at a i e h m =
 -- what the words w are after that, where m were the words before it
 pub record Run (m w : List ℕ) (at : ℕ) (a : List ℕ) (k : ℕ) : Type 0 where
   pub long : length w ≡ length m
-  pub within : (i : ℕ) → i < k → getD w (at + i) 0 ≡ getD a i 0
+  pub inside : (i : ℕ) → i < k → getD w (at + i) 0 ≡ getD a i 0
   pub elsewhere : (i : ℕ) → (i < at) ⊎ (at + k ≤ i) → getD w i 0 ≡ getD m i 0
 
 pub stored-run : (m : List ℕ) (at : ℕ) (a : List ℕ) (k : ℕ) → at + k ≤ length m → k ≤ length a → Run m (stored m at a k) at a k
@@ -57,8 +60,9 @@ stored-run m at a k h f =
     let fits : at + length (take k a) ≤ length m = omega arith in
     record {
       long = length-overlay m at (take k a) fits;
-      within = λ i p. getD-overlay-in m at (take k a) fits i (omega arith) ∙ getD-take k a i 0 p;
-      elsewhere = λ i p. ⊎-elim (getD-overlay-before m at (take k a) fits i) (λ e. getD-overlay-after m at (take k a) fits i (omega arith)) p;
+      inside = λ i p. getD-overlay-in m at (take k a) fits i (omega arith) ∙ getD-take k a i 0 p;
+      elsewhere = λ i p. ⊎-elim (getD-overlay-before m at (take k a) fits i)
+          (λ e. getD-overlay-after m at (take k a) fits i (omega arith)) p;
     }
 
 -- ---- words copied into an array
@@ -67,12 +71,12 @@ pub copied-more : (a l : List ℕ) (at i : ℕ) → a ≡ copied l at i → set 
 unfolding copied
 copied-more a l at i e = rw (e, add-one)
 
-pub length-copied : (l : List ℕ) (at k : ℕ) → length (copied l at k) ≡ 16
+pub length-copied : (l : List ℕ) (at k : ℕ) → length (copied l at k) ≡ greatestCapacity
 unfolding copied
 length-copied l at zero = refl
 length-copied l at (suc k) = length-set (copied l at k) k (getD l (at + k) 0) ∙ length-copied l at k
 
-pub getD-copied : (l : List ℕ) (at k i : ℕ) → k ≤ 16 → i < k → getD (copied l at k) i 0 ≡ getD l (at + i) 0
+pub getD-copied : (l : List ℕ) (at k i : ℕ) → k ≤ greatestCapacity → i < k → getD (copied l at k) i 0 ≡ getD l (at + i) 0
 unfolding copied
 getD-copied l at zero i h p = absurd (omega arith)
 getD-copied l at (suc k) i h p =
@@ -91,7 +95,8 @@ copied-same l m at to (suc k) h = rw (copied-same l m at to k (λ i p. h i (omeg
 -- ---- a run copied to another place, and a run of one word
 
 pub copy-more :
-    (w l : List ℕ) (from to k i : ℕ) → w ≡ overlay l to (part l from i) → from + k ≤ length l → to + k ≤ length l → (from + k ≤ to) ⊎ (to ≤ from)
+    (w l : List ℕ) (from to k i : ℕ) → w ≡ overlay l to (part l from i) → from + k ≤ length l → to + k ≤ length l
+    → (from + k ≤ to) ⊎ (to ≤ from)
     → i < k → set w (to + i) (getD w (from + i) 0) ≡ overlay l to (part l from (i + 1))
 unfolding part stored
 copy-more w l from to k i e f g apart h =

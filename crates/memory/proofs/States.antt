@@ -1,15 +1,17 @@
 -- Laws of a bucket's state that is loaded or stored in two loops: two arrays at a time, one item of each at a time.
 -- Rests on the laws of runs.
-use Prim.Native.Nat.{ℕ, _+_, _*_, _≤_, _<_}
+use Prim.Native.Nat.{ℕ, _+_, _≤_, _<_}
 use mathlib.Core.Path.{_≡_, refl, _∙_, ap}
 use mathlib.Core.Bool.{Bool, true, false}
 use mathlib.Core.Logic.{_⊎_, inl, inr}
 use mathlib.Core.List.{List}
-use native.Mathlib.Nat.{add-assoc, add-zero}
+use native.Mathlib.Nat.{add-assoc}
 use native.Mathlib.Omega.{arith}
 use lib.Dec.{ltb}
 use lib.ListN.{length, take, getD, set}
 use borrow.Author.Tests.{ltb-true, ltb-false}
+use Rattle.interface.specs.Limits.{greatestCapacity}
+use Rattle.fields.specs.Fields.{recordCount, recordApplied, recordToggle, recordAccounts, accountsFrom, totalsFrom, settledFrom, answersFrom, recordSize}
 use Rattle.machine.specs.Choice.{if_then_else_}
 use Rattle.bucket.specs.declared.BucketState.{BucketState}
 use Rattle.memory.specs.Loads.{least, copied, stored, loadedState, storedState}
@@ -34,12 +36,12 @@ least-same a b h = go (ltb a b) refl
 pub count-bound : (a b c : ℕ) → c ≡ least a b → c ≤ b
 count-bound a b c e = rw e (least-bound a b)
 
--- the arrays of a state have 16 items each
+-- the arrays of a state have so many items each
 pub record Sized (s : BucketState) : Type 0 where
-  pub accounts : length (s .accounts) ≡ 16
-  pub totals : length (s .totals) ≡ 16
-  pub settled : length (s .settled) ≡ 16
-  pub answers : length (s .answers) ≡ 16
+  pub accounts : length (s .accounts) ≡ greatestCapacity
+  pub totals : length (s .totals) ≡ greatestCapacity
+  pub settled : length (s .settled) ≡ greatestCapacity
+  pub answers : length (s .answers) ≡ greatestCapacity
 
 -- ---- loads
 
@@ -71,10 +73,11 @@ module _ (s : BucketState) (l : List ℕ) (p t u v i j c d : ℕ) (e : s ≡ loa
       } ≡ loading l p t u v i (j + 1) c d
   worker-loaded = rw (e, copied-more _ l u j refl, copied-more _ l v j refl)
 
-pub state-loaded : (s : BucketState) (l : List ℕ) (q b n c : ℕ) → c ≡ least (getD l q 0) b
-    → s ≡ loading l (q + 6) (q + 6 + b) (q + 6 + b + b) (q + 6 + b + b + n) c n c (getD l (q + 1) 0) → s ≡ loadedState l q b n
+pub state-loaded : (s : BucketState) (l : List ℕ) (q b n c : ℕ) → c ≡ least (getD l (q + recordCount) 0) b
+    → s ≡ loading l (accountsFrom q) (totalsFrom q b) (settledFrom q b) (answersFrom q b n) c n c (getD l (q + recordApplied) 0)
+    → s ≡ loadedState l q b n
 unfolding loadedState
-state-loaded s l q b n c e f = f ∙ simp (add-assoc, e)
+state-loaded s l q b n c e f = f ∙ simp e
 
 pub loaded-sized : (l : List ℕ) (q b n : ℕ) → Sized (loadedState l q b n)
 unfolding loadedState
@@ -83,31 +86,34 @@ loaded-sized l q b n =
 
 pub loaded-count : (l : List ℕ) (q b n : ℕ) → loadedState l q b n .count ≤ b
 unfolding loadedState
-loaded-count l q b n = least-bound (getD l q 0) b
+loaded-count l q b n = least-bound (getD l (q + recordCount) 0) b
 
 -- the state depends on the record's words alone, and not on its toggle, depth, prefix and number
 pub loaded-kept :
-    (l m : List ℕ) (q p b n : ℕ) → ((i : ℕ) → i < 2 * b + 2 * n + 6 → (i < 2) ⊎ (6 ≤ i) → getD l (q + i) 0 ≡ getD m (p + i) 0)
+    (l m : List ℕ) (q p b n : ℕ) → ((i : ℕ) → i < recordSize b n → (i < recordToggle) ⊎ (recordAccounts ≤ i)
+    → getD l (q + i) 0 ≡ getD m (p + i) 0)
     → loadedState l q b n ≡ loadedState m p b n
 unfolding loadedState
 loaded-kept l m q p b n h =
-    let e : getD l q 0 ≡ getD m p 0 = rw (add-zero q, add-zero p) at (h 0 (omega arith) (inl (omega arith))) in
-    let c : ℕ = least (getD m p 0) b in
-    let d : c ≤ b = least-bound (getD m p 0) b in
-    let run : (at k : ℕ) → 6 ≤ at → at + k ≤ 2 * b + 2 * n + 6 → copied l (q + at) k ≡ copied m (p + at) k =
-    λ at k o f.
-    copied-same l m (q + at) (p + at) k (λ i g. rw (add-assoc q at i, add-assoc p at i) (h (at + i) (omega arith) (inr (omega arith)))) in
+    let e : getD l (q + recordCount) 0 ≡ getD m (p + recordCount) 0 = h recordCount (omega arith) (inl (omega arith)) in
+    let c : ℕ = least (getD m (p + recordCount) 0) b in
+    let d : c ≤ b = least-bound (getD m (p + recordCount) 0) b in
+    let run : (o u v k : ℕ) → u ≡ q + o → v ≡ p + o → recordAccounts ≤ o → o + k ≤ recordSize b n → copied l u k ≡ copied m v k =
+    λ o u v k f g r w.
+    copied-same l m u v k
+    (λ i x. rw (f, g, add-assoc q o i, add-assoc p o i) (h (o + i) (omega arith) (inr (omega arith)))) in
     rw (
       e,
-      run 6 c (omega arith) (omega arith),
-      run (6 + b) c (omega arith) (omega arith),
-      run (6 + b + b) n (omega arith) (omega arith),
-      run (6 + b + b + n) n (omega arith) (omega arith),
-      h 1 (omega arith) (inl (omega arith)),
+      run recordAccounts (accountsFrom q) (accountsFrom p) c refl refl (omega arith) (omega arith),
+      run (totalsFrom 0 b) (totalsFrom q b) (totalsFrom p b) c (omega arith) (omega arith) (omega arith) (omega arith),
+      run (settledFrom 0 b) (settledFrom q b) (settledFrom p b) n (omega arith) (omega arith) (omega arith) (omega arith),
+      run (answersFrom 0 b n) (answersFrom q b n) (answersFrom p b n) n (omega arith) (omega arith) (omega arith) (omega arith),
+      h recordApplied (omega arith) (inl (omega arith)),
     )
 
 pub loaded-same :
-    (l m : List ℕ) (q p b n : ℕ) → ((i : ℕ) → i < 2 * b + 2 * n + 6 → getD l (q + i) 0 ≡ getD m (p + i) 0) → loadedState l q b n ≡ loadedState m p b n
+    (l m : List ℕ) (q p b n : ℕ) → ((i : ℕ) → i < recordSize b n → getD l (q + i) 0 ≡ getD m (p + i) 0)
+    → loadedState l q b n ≡ loadedState m p b n
 loaded-same l m q p b n h = loaded-kept l m q p b n (λ i g o. h i g)
 
 -- ---- stores
@@ -127,7 +133,8 @@ pair-stored w l p t x y i e h k m n =
 
 pub state-stored :
     (l w z : List ℕ) (q b n c : ℕ) (s : BucketState) → c ≡ least (s .count) b
-    → w ≡ stored (stored (set (set l q c) (q + 1) (s .applied)) (q + 6) (s .accounts) c) (q + 6 + b) (s .totals) c
-    → z ≡ stored (stored w (q + 6 + b + b) (s .settled) n) (q + 6 + b + b + n) (s .answers) n → z ≡ storedState l q b n s
+    → w ≡ stored (stored (set (set l (q + recordCount) c) (q + recordApplied) (s .applied)) (accountsFrom q) (s .accounts) c)
+    (totalsFrom q b) (s .totals) c
+    → z ≡ stored (stored w (settledFrom q b) (s .settled) n) (answersFrom q b n) (s .answers) n → z ≡ storedState l q b n s
 unfolding storedState
-state-stored l w z q b n c s e f g = g ∙ simp (add-assoc, f, e)
+state-stored l w z q b n c s e f g = g ∙ simp (f, e)

@@ -1,14 +1,21 @@
-// Records in lent words: totals in words and back, one word or a run of words read and written, and a bucket's state loaded and stored.
-// Each contract is an equality with a definition of specs/; an index that a `requires` bounds is not tested again.
+// Records in lent words: totals in words and back, one word or a run of words read and written, and a bucket's state
+// loaded and stored. Each contract is an equality with a definition of specs/; an index that a `requires` bounds is
+// not tested again.
 ghost use mathlib.Core.Path.{_≡_};
 ghost use mathlib.Core.Logic.{_⊎_};
 ghost use Prim.Native.Nat.{_+_, _-_, _≤_, _<_};
 ghost use lib.ListN.{length, getD, set, replicate};
 ghost use mir.Syntax.{w64};
 ghost use mir.Val.{ofZ, toZ};
+ghost use Rattle.interface.specs.Limits.{greatestWorkers, greatestCapacity};
 ghost use Rattle.lists.specs.Parts.{part, overlay};
+ghost use Rattle.fields.specs.Fields.{widestRecord};
 ghost use Rattle.memory.specs.Loads.{least, loadedState, storedState};
+use bucket::ARRAY_SIZE;
 use bucket::BucketState;
+use fields::RECORD_ACCOUNTS;
+use fields::RECORD_APPLIED;
+use fields::RECORD_COUNT;
 
 // The word that keeps a total: its bits.
 pub fn word_of(x: i64) -> u64
@@ -59,7 +66,8 @@ pub fn put(words: &mut [u64], i: usize, v: u64)
     words[i] = v;
 }
 
-// The k words at `from`, written at `to` too. The runs are apart, or the run read starts no earlier than the run written.
+// The k words at `from`, written at `to` too. The runs are apart, or the run read starts no earlier than the run
+// written.
 pub fn copy(words: &mut [u64], from: usize, to: usize, k: usize)
     requires { ⌜ (from + k ≤ length (now words)) × ((to + k ≤ length (now words)) × ((from + k ≤ to) ⊎ (to ≤ from))) ⌝ }
     ensures { λ _. ⌜ now (words .exit) ≡ overlay (now (words .entry)) to (part (now (words .entry)) from k) ⌝ }
@@ -95,22 +103,22 @@ pub fn least(count: u64, capacity: usize) -> usize
     }
 }
 
-// The state in the record at q. The largest record has 54 words, so one bound serves every b and n.
+// The state in the record at q. One bound serves every b and n.
 pub fn load_state(words: &[u64], q: usize, b: usize, n: usize) -> BucketState
-    requires { ⌜ (q + 54 ≤ length (now words)) × ((b ≤ 16) × (n ≤ 8)) ⌝ }
+    requires { ⌜ (q + widestRecord ≤ length (now words)) × ((b ≤ greatestCapacity) × (n ≤ greatestWorkers)) ⌝ }
     ensures { λ r. ⌜ r ≡ loadedState (now (words .entry)) q b n ⌝ }
 {
-    let c = least(words[q], b);
-    let zeros = [0u64; 16];
+    let c = least(words[q + RECORD_COUNT], b);
+    let zeros = [0u64; ARRAY_SIZE];
     let mut s = BucketState {
         accounts: zeros,
         totals: zeros,
         settled: zeros,
         answers: zeros,
         count: c as u64,
-        applied: words[q + 1],
+        applied: words[q + RECORD_APPLIED],
     };
-    let accounts = q + 6;
+    let accounts = q + RECORD_ACCOUNTS;
     let totals = accounts + b;
     let mut i: usize = 0;
     while i < c {
@@ -131,13 +139,13 @@ pub fn load_state(words: &[u64], q: usize, b: usize, n: usize) -> BucketState
 
 // The state s, written into the record at q.
 pub fn store_state(words: &mut [u64], q: usize, b: usize, n: usize, s: BucketState)
-    requires { ⌜ (q + 54 ≤ length (now words)) × ((b ≤ 16) × (n ≤ 8)) ⌝ }
+    requires { ⌜ (q + widestRecord ≤ length (now words)) × ((b ≤ greatestCapacity) × (n ≤ greatestWorkers)) ⌝ }
     ensures { λ _. ⌜ now (words .exit) ≡ storedState (now (words .entry)) q b n s ⌝ }
 {
     let c = least(s.count, b);
-    words[q] = c as u64;
-    words[q + 1] = s.applied;
-    let accounts = q + 6;
+    words[q + RECORD_COUNT] = c as u64;
+    words[q + RECORD_APPLIED] = s.applied;
+    let accounts = q + RECORD_ACCOUNTS;
     let totals = accounts + b;
     let mut i: usize = 0;
     while i < c {

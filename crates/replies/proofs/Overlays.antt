@@ -11,6 +11,7 @@ use lib.ListN.{length, take, drop, set, length-append}
 use lib.Seq.{drop-at, length-take-le, set-split, append-snoc, take-set-le, take-length, paste}
 use borrow.Author.Tests.{le-leb, lt-leb, leb-true, leb-false, not-true, not-false}
 use Rattle.machine.specs.Choice.{if_then_else_}
+use Rattle.replies.specs.Ascii.{lineFeed, space, zeroDigit}
 use Rattle.replies.specs.Decimals.{digit, digits}
 use Rattle.lists.specs.Parts.{overlay}
 use Rattle.lists.proofs.PartLaws.{set-overlay, length-overlay, overlay-join}
@@ -39,26 +40,28 @@ byte-then l at b ys h = next l at (b ∷ []) (at + 1) ys (omega arith) (set-over
 
 -- a word, a part behind it and a line feed
 pub word-part-feed : (l : List ℕ) (at : ℕ) (xs ys : List ℕ) (k : ℕ) {m o : List ℕ} → at + (length xs + k + 1) ≤ length l → k ≡ length ys
-    → m ≡ overlay l at xs → o ≡ overlay m (at + length xs) ys → set o (at + length xs + k) 10 ≡ overlay l at (xs ++ ys ++ 10 ∷ [])
+    → m ≡ overlay l at xs → o ≡ overlay m (at + length xs) ys
+    → set o (at + length xs + k) lineFeed ≡ overlay l at (xs ++ ys ++ lineFeed ∷ [])
 word-part-feed l at xs ys k h e p q =
     let n = length-append xs ys in
-    next-byte l at (xs ++ ys) (at + length xs + k) 10 (omega arith) (next l at xs (at + length xs) ys (omega arith) p q refl) (omega arith)
+    next-byte l at (xs ++ ys) (at + length xs + k) lineFeed (omega arith) (next l at xs (at + length xs) ys (omega arith) p q refl)
+    (omega arith)
 
 -- two parts, a space between them, and a line feed
 pub part-space-part-feed : (l : List ℕ) (at : ℕ) (xs ys : List ℕ) (j k : ℕ) {m o : List ℕ} → at + (j + 1 + k + 1) ≤ length l → j ≡ length xs
     → k ≡ length ys
-    → m ≡ overlay l at xs → o ≡ overlay (set m (at + j) 32) (at + j + 1) ys → set o (at + j + 1 + k) 10 ≡ overlay l at
-    (xs ++ 32 ∷ [] ++ ys ++ 10 ∷ [])
+    → m ≡ overlay l at xs → o ≡ overlay (set m (at + j) space) (at + j + 1) ys
+    → set o (at + j + 1 + k) lineFeed ≡ overlay l at (xs ++ space ∷ [] ++ ys ++ lineFeed ∷ [])
 part-space-part-feed l at xs ys j k h e f p q =
-    let n = length-append xs (32 ∷ []) in
-    let r = length-append (xs ++ 32 ∷ []) ys in
-    let w = next-byte l at xs (at + j) 32 (omega arith) p (omega arith) in
-    next-byte l at (xs ++ 32 ∷ [] ++ ys) (at + j + 1 + k) 10 (omega arith)
-    (next l at (xs ++ 32 ∷ []) (at + j + 1) ys (omega arith) w q (omega arith)) (omega arith)
+    let n = length-append xs (space ∷ []) in
+    let r = length-append (xs ++ space ∷ []) ys in
+    let w = next-byte l at xs (at + j) space (omega arith) p (omega arith) in
+    next-byte l at (xs ++ space ∷ [] ++ ys) (at + j + 1 + k) lineFeed (omega arith)
+    (next l at (xs ++ space ∷ []) (at + j + 1) ys (omega arith) w q (omega arith)) (omega arith)
 
 -- ---- digits from the last to the first
 
--- a byte at the place behind a part that is still to be written
+-- a byte behind a part that is still to be written
 last-first : (l : List ℕ) (at : ℕ) (xs : List ℕ) (b k : ℕ) → at + length xs ≡ k → k < length l
     → overlay (set l k b) at xs ≡ overlay l at (xs ++ b ∷ [])
 unfolding overlay
@@ -73,12 +76,12 @@ last-first l at xs b k e h =
     (rw (length-append xs (b ∷ []), ← add-assoc at (length xs) 1, e, add-one, ← append-assoc (take at l) xs (b ∷ []), append-snoc))
 
 pub spelled : (l : List ℕ) (at i n : ℕ) → 0 < i → at + i ≤ length l
-    → overlay (set l (at + (i - 1)) (48 + n % 10)) at (digits (i - 1) (n / 10)) ≡ overlay l at (digits i n)
+    → overlay (set l (at + (i - 1)) (zeroDigit + n % 10)) at (digits (i - 1) (n / 10)) ≡ overlay l at (digits i n)
 unfolding digits digit
 spelled l at zero n h k = absurd (omega arith)
 spelled l at (suc i) n h k =
     let e : suc i - 1 ≡ i = omega arith in
-    rw e (last-first l at (digits i (n / 10)) (48 + n % 10) (at + i) (rw (length-digits i (n / 10))) (omega arith))
+    rw e (last-first l at (digits i (n / 10)) (zeroDigit + n % 10) (at + i) (rw (length-digits i (n / 10))) (omega arith))
 
 -- ---- what a printer leaves
 

@@ -17,6 +17,7 @@ use Rattle.interface.specs.declared.Answer.the-variants.{Found}
 use Rattle.machine.specs.Choice.{if_then_else_}
 use Rattle.machine.proofs.Base.{no-both}
 use Rattle.replies.specs.declared.Decimal.{Decimal}
+use Rattle.replies.specs.Ascii.{lineFeed, space, minusSign}
 use Rattle.replies.specs.Decimals.{decimal, signedDecimal}
 use Rattle.replies.specs.Printed.{signOf, decimalText, pairText, printedLine, totalThen, printedRow, printedAnswer}
 
@@ -61,7 +62,7 @@ above x f e = above-of x f (rw (toZ-ofZ f) at e)
 
 -- ---- the text of a number
 
-pub text-minus : (d : Decimal) → d .minus ≡ true → decimalText d ≡ 45 ∷ decimal (d .size)
+pub text-minus : (d : Decimal) → d .minus ≡ true → decimalText d ≡ minusSign ∷ decimal (d .size)
 unfolding decimalText if_then_else_
 text-minus d e = rw e
 
@@ -75,11 +76,11 @@ pair-length a b = simp length-append
 
 -- ---- a line of two numbers
 
-pair-line : (a b : Decimal) → pairText a b ≡ decimalText a ++ 32 ∷ (decimalText b ++ 10 ∷ [])
+pair-line : (a b : Decimal) → pairText a b ≡ decimalText a ++ space ∷ (decimalText b ++ lineFeed ∷ [])
 unfolding pairText
 pair-line a b = simp append-assoc
 
-numbers : (x y : ℤ) → pairText (signOf x) (signOf y) ≡ signedDecimal x ++ 32 ∷ (signedDecimal y ++ 10 ∷ [])
+numbers : (x y : ℤ) → pairText (signOf x) (signOf y) ≡ signedDecimal x ++ space ∷ (signedDecimal y ++ lineFeed ∷ [])
 numbers x y = pair-line (signOf x) (signOf y) ∙ rw (signed-text x, signed-text y)
 
 pub row-text : (a : ℕ) (t : ℤ) → pairText (signOf (pos a)) (signOf t) ≡ printedRow a t

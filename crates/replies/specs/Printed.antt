@@ -1,5 +1,6 @@
--- What `totals` prints for a reply, and what a printer leaves in a buffer. 01, The driver: "Each line is met with `ok`, `refused` and its
--- number, `moved` and the steps given, or `answered`, .." Rests on specs/Decimals, interface's words and the script's replies.
+-- What `totals` prints for a reply, and what a printer leaves in a buffer. 01, The driver: "Each line is met with `ok`,
+-- `refused` and its number, `moved` and the steps given, or `answered`, .."
+-- Rests on specs/Decimals, interface's words and the script's replies.
 use Prim.Native.Nat.{ℕ, suc, _+_}
 use mathlib.Core.Path.{_≡_}
 use mathlib.Core.Bool.{Bool, true, false}
@@ -17,15 +18,16 @@ use Rattle.lists.specs.Parts.{overlay}
 use Rattle.replies.specs.declared.Decimal.{Decimal}
 use Rattle.replies.specs.declared.Reply.{Reply}
 use Rattle.replies.specs.declared.Reply.the-variants.{Ok, Refused, Moved, Answered, Unread}
+use Rattle.replies.specs.Ascii.{lineFeed, space, minusSign}
 use Rattle.replies.specs.Decimals.{decimal, signedDecimal}
 
 -- ---- text
 
 -- fields one space apart, and a line feed
 unfoldable pub printedLine : List (List ℕ) → List ℕ
-printedLine [] = 10 ∷ []
-printedLine (f ∷ []) = f ++ 10 ∷ []
-printedLine (f ∷ g ∷ fs) = f ++ 32 ∷ printedLine (g ∷ fs)
+printedLine [] = lineFeed ∷ []
+printedLine (f ∷ []) = f ++ lineFeed ∷ []
+printedLine (f ∷ g ∷ fs) = f ++ space ∷ printedLine (g ∷ fs)
 
 -- "its total if found"
 unfoldable pub totalThen : Option ℤ → List (List ℕ) → List (List ℕ)
@@ -73,11 +75,15 @@ signOf (pos n) = record { minus = false; size = n }
 signOf (negsuc n) = record { minus = true; size = suc n }
 
 unfoldable pub decimalText : Decimal → List ℕ
-decimalText d = if d .minus then 45 ∷ decimal (d .size) else decimal (d .size)
+decimalText d = if d .minus then minusSign ∷ decimal (d .size) else decimal (d .size)
+
+-- a word, with the space after it, a number and a line feed
+abbrev pub countedText : List ℕ → ℕ → List ℕ
+countedText word n = word ++ decimal n ++ lineFeed ∷ []
 
 -- two numbers, a space between them, and a line feed
 unfoldable pub pairText : Decimal → Decimal → List ℕ
-pairText a b = decimalText a ++ 32 ∷ [] ++ decimalText b ++ 10 ∷ []
+pairText a b = decimalText a ++ space ∷ [] ++ decimalText b ++ lineFeed ∷ []
 
 -- ---- buffers
 
@@ -85,7 +91,8 @@ pairText a b = decimalText a ++ 32 ∷ [] ++ decimalText b ++ 10 ∷ []
 unfoldable pub fits : List ℕ → ℕ → List ℕ → Bool
 fits l at xs = leb (at + length xs) (length l)
 
--- What a printer answers, and the buffer that it leaves: the whole text and its length, or nothing and 0 where it has no room.
+-- What a printer answers, and the buffer that it leaves: the whole text and its length, or nothing and 0 where it has
+-- no room.
 pub record Wrote (l : List ℕ) (at : ℕ) (xs : List ℕ) (r : ℕ) (after : List ℕ) : Type 0 where
   pub count : r ≡ if fits l at xs then length xs else 0
   pub buffer : after ≡ if fits l at xs then overlay l at xs else l

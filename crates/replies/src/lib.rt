@@ -1,15 +1,14 @@
-// Printing into a caller's buffer, from an index on: the whole text, or nothing where it has no room. Each printer answers how many
-// bytes it wrote. Rests on interface's answers.
+// Printing into a caller's buffer, from an index on: the whole text, or nothing where it has no room.
+// Each printer answers how many bytes it wrote. Rests on interface's answers.
 ghost use Prim.Native.Nat.{_+_, _≤_};
 ghost use mathlib.Core.Path.{_≡_};
-ghost use mathlib.Core.List.{[], _∷_, _++_};
+ghost use mathlib.Core.List.{_++_};
 ghost use lib.Dec.{leb};
 ghost use lib.ListN.{length};
 ghost use lib.IntN.{pos};
-ghost use Rattle.replies.specs.Decimals.{places as placesOf};
-ghost use Rattle.replies.specs.Decimals.{digits, decimal, signedDecimal};
+ghost use Rattle.replies.specs.Decimals.{digits, digitCount, mostDigits};
 ghost use Rattle.lists.specs.Parts.{overlay};
-ghost use Rattle.replies.specs.Printed.{Wrote, printedReply, printedRow, printedEnd, printedAnswer, signOf, decimalText, pairText};
+ghost use Rattle.replies.specs.Printed.{Wrote, printedReply, printedRow, printedEnd, printedAnswer, signOf, decimalText, countedText, pairText};
 use interface::Answer;
 use interface::Completion;
 
@@ -26,20 +25,6 @@ pub enum Reply {
 struct Decimal {
     minus: bool,
     size: u64,
-}
-
-// A number in decimal.
-pub fn print_number(out: &mut [u8], at: usize, n: u64) -> usize
-    ensures { λ r. ⌜ Wrote (now (out .entry)) at (decimal n) r (now (out .exit)) ⌝ }
-{
-    print_decimal(out, at, unsigned(n))
-}
-
-// A signed number in decimal, with a minus where it is below 0.
-pub fn print_signed(out: &mut [u8], at: usize, x: i64) -> usize
-    ensures { λ r. ⌜ Wrote (now (out .entry)) at (signedDecimal x) r (now (out .exit)) ⌝ }
-{
-    print_decimal(out, at, signed(x))
 }
 
 // The line of a reply.
@@ -85,7 +70,7 @@ fn print_answer(out: &mut [u8], at: usize, end: Completion) -> usize
             signed(total),
             unsigned(end.steps),
         ),
-        Answer::Missing => print_counted(out, at, b"answered none ", end.steps),
+        Answer::None => print_counted(out, at, b"answered none ", end.steps),
         Answer::Crowded => print_counted(out, at, b"answered crowded ", end.steps),
     }
 }
@@ -102,23 +87,12 @@ fn print_word(out: &mut [u8], at: usize, word: &[u8]) -> usize
     size
 }
 
-fn print_decimal(out: &mut [u8], at: usize, d: Decimal) -> usize
-    ensures { λ r. ⌜ Wrote (now (out .entry)) at (decimalText d) r (now (out .exit)) ⌝ }
-{
-    let size = width(d);
-    if !room(out.len(), at, size) {
-        return 0;
-    }
-    spell_decimal(out, at, d);
-    size
-}
-
 // A word, with the space after it, a number and a line feed.
 fn print_counted(out: &mut [u8], at: usize, word: &[u8], n: u64) -> usize
-    ensures { λ r. ⌜ Wrote (now (out .entry)) at (now (word .entry) ++ decimal n ++ 10 ∷ []) r (now (out .exit)) ⌝ }
+    ensures { λ r. ⌜ Wrote (now (out .entry)) at (countedText (now (word .entry)) n) r (now (out .exit)) ⌝ }
 {
     let first = word.len();
-    let second = places(n);
+    let second = digit_count(n);
     let size = first + second + 1;
     if !room(out.len(), at, size) {
         return 0;
@@ -164,7 +138,7 @@ fn spell_decimal(out: &mut [u8], at: usize, d: Decimal)
     requires { ⌜ at + length (decimalText d) ≤ length (now out) ⌝ }
     ensures { λ _. ⌜ now (out .exit) ≡ overlay (now (out .entry)) at (decimalText d) ⌝ }
 {
-    let k = places(d.size);
+    let k = digit_count(d.size);
     if d.minus {
         out[at] = b'-';
         spell(out, at + 1, k, d.size);
@@ -210,15 +184,15 @@ fn room(len: usize, at: usize, size: usize) -> bool
 
 // How many bytes a number takes.
 fn width(d: Decimal) -> usize
-    ensures { λ r. ⌜ (r ≡ length (decimalText d)) × (r ≤ 21) ⌝ }
+    ensures { λ r. ⌜ (r ≡ length (decimalText d)) × (r ≤ mostDigits + 1) ⌝ }
 {
-    let k = places(d.size);
+    let k = digit_count(d.size);
     if d.minus { k + 1 } else { k }
 }
 
 // How many digits n has.
-fn places(n: u64) -> usize
-    ensures { λ r. ⌜ (r ≡ placesOf n) × (r ≤ 20) ⌝ }
+fn digit_count(n: u64) -> usize
+    ensures { λ r. ⌜ (r ≡ digitCount n) × (r ≤ mostDigits) ⌝ }
 {
     let mut k = 1;
     let mut rest = n;

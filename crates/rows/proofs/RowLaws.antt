@@ -16,14 +16,15 @@ use borrow.Author.Tests.{lt-ltb, le-ltb, eq-eqb, ne-eqb}
 use Rattle.interface.specs.declared.Settings.{Settings}
 use Rattle.interface.specs.declared.Refusal.{Refusal}
 use Rattle.interface.specs.declared.Listed.{Listed}
+use Rattle.fields.specs.Fields.{recordCount, accountsFrom, widestRecord}
 use Rattle.machine.specs.Choice.{if_then_else_}
 use Rattle.machine.proofs.Base.{if-elim, if-true, if-false}
 use Rattle.lists.specs.Parts.{overlay}
 use Rattle.memory.specs.Loads.{least}
 use Rattle.layout.specs.Shape.{word, strange, shapeOf, Fits}
-use Rattle.layout.specs.Places.{placeOf}
+use Rattle.machine.specs.Sequential.{firstBits}
 use Rattle.rows.specs.Rows.{entryRecord, rowAt, rowsIn, rowsOf, rowsFrom, rows, shown, listingWords}
-use Rattle.layout.proofs.Positions.{within-inside, long, size-limit}
+use Rattle.layout.proofs.Positions.{record-in-inside, long, size-limit}
 use Rattle.lists.proofs.PartLaws.{overlay-nil, overlay-join, overlay-more}
 
 -- ---- the accounts of one record
@@ -31,7 +32,7 @@ use Rattle.lists.proofs.PartLaws.{overlay-nil, overlay-join, overlay-more}
 module _ (l : List ℕ) (s : Settings) (e q : ℕ) where
   -- the row of place i, if it is the entry's
   next : ℕ → List (ℕ × ℤ)
-  next i = if eqb (placeOf (word l (q + 6 + i)) (s .depth)) e then rowAt l s q i ∷ [] else []
+  next i = if eqb (firstBits (s .depth) (word l (accountsFrom q + i))) e then rowAt l s q i ∷ [] else []
 
   behind : (b : Bool) (r : ℕ × ℤ) (x n : List (ℕ × ℤ)) → if b then r ∷ (x ++ n) else x ++ n ≡ (if b then r ∷ x else x) ++ n
   unfolding if_then_else_
@@ -42,7 +43,7 @@ module _ (l : List ℕ) (s : Settings) (e q : ℕ) where
   unfolding rowsIn next
   rows-last i zero = rw add-zero
   rows-last i (suc c) =
-      let t : Bool = eqb (placeOf (word l (q + 6 + i)) (s .depth)) e in
+      let t : Bool = eqb (firstBits (s .depth) (word l (accountsFrom q + i))) e in
       let k : suc i + c ≡ i + suc c = omega arith in
       ap (λ (r : List (ℕ × ℤ)). if t then rowAt l s q i ∷ r else r) (rows-last (suc i) c)
       ∙ behind t (rowAt l s q i) (rowsIn l s e q (suc i) c) (next (suc i + c))
@@ -53,18 +54,20 @@ module _ (l : List ℕ) (s : Settings) (e q : ℕ) where
       let k : 0 + i ≡ i = omega arith in
       rw add-one (rows-last 0 i ∙ ap (λ (n : ℕ). rowsIn l s e q 0 i ++ next n) k)
 
-  rows-more : (i : ℕ) → placeOf (word l (q + 6 + i)) (s .depth) ≡ e → rowsIn l s e q 0 (i + 1) ≡ rowsIn l s e q 0 i ++ rowAt l s q i ∷ []
+  rows-more :
+      (i : ℕ) → firstBits (s .depth) (word l (accountsFrom q + i)) ≡ e → rowsIn l s e q 0 (i + 1) ≡ rowsIn l s e q 0 i ++ rowAt l s q i ∷ []
   unfolding next
   rows-more i h = rows-next i ∙ ap (λ (n : List (ℕ × ℤ)). rowsIn l s e q 0 i ++ n) (if-true _ _ (eq-eqb _ _ h))
 
-  pub rows-same : (i : ℕ) → placeOf (word l (q + 6 + i)) (s .depth) ≢ e → rowsIn l s e q 0 (i + 1) ≡ rowsIn l s e q 0 i
+  pub rows-same : (i : ℕ) → firstBits (s .depth) (word l (accountsFrom q + i)) ≢ e → rowsIn l s e q 0 (i + 1) ≡ rowsIn l s e q 0 i
   unfolding next
   rows-same i h =
       rows-next i
       ∙ ap (λ (n : List (ℕ × ℤ)). rowsIn l s e q 0 i ++ n) (if-false _ _ (ne-eqb _ _ h))
       ∙ append-nil (rowsIn l s e q 0 i)
 
-  pub counted-more : (i : ℕ) → placeOf (word l (q + 6 + i)) (s .depth) ≡ e → length (rowsIn l s e q 0 (i + 1)) ≡ length (rowsIn l s e q 0 i) + 1
+  pub counted-more :
+      (i : ℕ) → firstBits (s .depth) (word l (accountsFrom q + i)) ≡ e → length (rowsIn l s e q 0 (i + 1)) ≡ length (rowsIn l s e q 0 i) + 1
   counted-more i h = ap length (rows-more i h) ∙ length-append (rowsIn l s e q 0 i) (rowAt l s q i ∷ [])
 
   -- no more rows than places, and more places give no fewer rows
@@ -73,7 +76,8 @@ module _ (l : List ℕ) (s : Settings) (e q : ℕ) where
   rows-limit i zero = omega arith
   rows-limit i (suc c) =
       let h = rows-limit (suc i) c in
-      if-elim (λ (r : List (ℕ × ℤ)). length r ≤ suc c) _ (rowAt l s q i ∷ rowsIn l s e q (suc i) c) (rowsIn l s e q (suc i) c) (λ t. omega arith) (λ t. omega arith)
+      if-elim (λ (r : List (ℕ × ℤ)). length r ≤ suc c) _ (rowAt l s q i ∷ rowsIn l s e q (suc i) c) (rowsIn l s e q (suc i) c)
+      (λ t. omega arith) (λ t. omega arith)
 
   rows-grow : (i k : ℕ) → length (rowsIn l s e q 0 i) ≤ length (rowsIn l s e q 0 (i + k))
   rows-grow i zero = rw add-zero (omega arith)
@@ -89,24 +93,30 @@ module _ (l : List ℕ) (s : Settings) (e q : ℕ) where
 
 -- what is known of an entry's record at q and the number c of accounts looked at
 pub record Looked (l : List ℕ) (s : Settings) (e q c : ℕ) : Type 0 where
-  pub inside : q + 54 ≤ length l
+  pub inside : q + widestRecord ≤ length l
   pub few : c ≤ 16
   pub all : rowsIn l s e q 0 c ≡ rowsOf l s e
 
-pub entry-inside : {l : List ℕ} {s : Settings} (e q : ℕ) → Fits l s → q ≡ entryRecord l s e → q + 54 ≤ length l
+pub entry-inside : {l : List ℕ} {s : Settings} (e q : ℕ) → Fits l s → q ≡ entryRecord l s e → q + widestRecord ≤ length l
 unfolding entryRecord
-entry-inside {l} e q f h = rw h (within-inside l _ (long f))
+entry-inside {l} e q f h = rw h (record-in-inside l _ (long f))
 
-pub looked : {l : List ℕ} {s : Settings} (e q c : ℕ) → Fits l s → q ≡ entryRecord l s e → c ≡ least (word l q) (s .capacity) → Looked l s e q c
+pub looked :
+    {l : List ℕ} {s : Settings} (e q c : ℕ) → Fits l s → q ≡ entryRecord l s e → c ≡ least (word l (q + recordCount)) (s .capacity)
+    → Looked l s e q c
 unfolding rowsOf
 looked e q c f h k = record { inside = entry-inside e q f h; few = size-limit c _ f k; all = rw (k, h) }
 
-pub counted-end : {l : List ℕ} {s : Settings} {e q c : ℕ} (i k : ℕ) → Looked l s e q c → k ≡ length (rowsIn l s e q 0 i) → i ≤ c → c ≤ i → k ≡ length (rowsOf l s e)
+pub counted-end :
+    {l : List ℕ} {s : Settings} {e q c : ℕ} (i k : ℕ) → Looked l s e q c → k ≡ length (rowsIn l s e q 0 i) → i ≤ c → c ≤ i
+    → k ≡ length (rowsOf l s e)
 counted-end {l} {s} {e} {q} i k x h n m = h ∙ ap (λ (j : ℕ). length (rowsIn l s e q 0 j)) (le-antisymm n m) ∙ ap length (x .all)
 
--- an account read, and its place in the directory
-pub same-place : (l : List ℕ) (s : Settings) (q i x p : ℕ) → x ≡ word l (q + 6 + i) → p ≡ placeOf x (s .depth) → p ≡ placeOf (word l (q + 6 + i)) (s .depth)
-same-place l s q i x p h k = k ∙ ap (λ (a : ℕ). placeOf a (s .depth)) h
+-- an account read, and its first bits
+pub same-bits :
+    (l : List ℕ) (s : Settings) (q i x p : ℕ) → x ≡ word l (accountsFrom q + i) → p ≡ firstBits (s .depth) x
+    → p ≡ firstBits (s .depth) (word l (accountsFrom q + i))
+same-bits l s q i x p h k = k ∙ ap (firstBits (s .depth)) h
 
 -- ---- rows written
 
@@ -117,8 +127,9 @@ module _ {A B : Type 0} (f : A → B) (a w : List B) (k : ℕ) (xs : List A) (e 
       rw (e, map-append, ← m) (overlay-more a k (map f xs) (f x) (omega arith))
 
 -- the rows of the first i accounts of the record at q are written from place k on, and `at` is the place after them
-pub record Written (l : List ℕ) (s : Settings) (e q k : ℕ) (a : List ℕ) (t : List ℤ) (i : ℕ) (w : List ℕ) (v : List ℤ) (at : ℕ) : Type 0 where
-  pub place : at ≡ k + length (rowsIn l s e q 0 i)
+pub record Written (l :
+    List ℕ) (s : Settings) (e q k : ℕ) (a : List ℕ) (t : List ℤ) (i : ℕ) (w : List ℕ) (v : List ℤ) (at : ℕ) : Type 0 where
+  pub next : at ≡ k + length (rowsIn l s e q 0 i)
   pub accounts : w ≡ overlay a k (map (λ x. x .0) (rowsIn l s e q 0 i))
   pub totals : v ≡ overlay t k (map (λ x. x .1) (rowsIn l s e q 0 i))
   pub long-accounts : length w ≡ length a
@@ -129,7 +140,7 @@ module _ (l : List ℕ) (s : Settings) (e q k : ℕ) (a : List ℕ) (t : List �
   unfolding rowsIn
   written-start =
       record {
-        place = omega arith;
+        next = omega arith;
         accounts = sym (overlay-nil a k);
         totals = sym (overlay-nil t k);
         long-accounts = refl;
@@ -138,32 +149,37 @@ module _ (l : List ℕ) (s : Settings) (e q k : ℕ) (a : List ℕ) (t : List �
 
   module _ (i : ℕ) (w : List ℕ) (v : List ℤ) (at : ℕ) (before : Written l s e q k a t i w v at) where
     -- there is a place for one row more
-    pub written-room : (n c : ℕ) → Looked l s e q c → placeOf (word l (q + 6 + i)) (s .depth) ≡ e → i < c → k + length (rowsOf l s e) ≤ n → at < n
+    pub written-room :
+        (n c : ℕ) → Looked l s e q c → firstBits (s .depth) (word l (accountsFrom q + i)) ≡ e → i < c → k + length (rowsOf l s e) ≤ n
+        → at < n
     written-room n c z h m r =
-        let p = before .place in
+        let p = before .next in
         let a = ap length (z .all) in
         let x = counted-more l s e q i h in
         let y = rows-fewer l s e q (i + 1) c (omega arith) in
         omega arith
 
     pub written-more :
-        (x : ℕ) (y : ℤ) → placeOf (word l (q + 6 + i)) (s .depth) ≡ e → x ≡ rowAt l s q i .0 → y ≡ rowAt l s q i .1 → at < length a → at < length t
+        (x : ℕ) (y : ℤ) → firstBits (s .depth) (word l (accountsFrom q + i)) ≡ e → x ≡ rowAt l s q i .0 → y ≡ rowAt l s q i .1
+        → at < length a → at < length t
         → Written l s e q k a t (i + 1) (set w at x) (set v at y) (at + 1)
     written-more x y h d g p r =
         let n = counted-more l s e q i h in
-        let m = before .place in
+        let m = before .next in
         record {
-          place = omega arith;
-          accounts = rw (d, rows-more l s e q i h) (written-one (λ (z : ℕ × ℤ). z .0) a w k (rowsIn l s e q 0 i) (before .accounts) at (rowAt l s q i) m p);
-          totals = rw (g, rows-more l s e q i h) (written-one (λ (z : ℕ × ℤ). z .1) t v k (rowsIn l s e q 0 i) (before .totals) at (rowAt l s q i) m r);
+          next = omega arith;
+          accounts = rw (d, rows-more l s e q i h)
+              (written-one (λ (z : ℕ × ℤ). z .0) a w k (rowsIn l s e q 0 i) (before .accounts) at (rowAt l s q i) m p);
+          totals = rw (g, rows-more l s e q i h)
+              (written-one (λ (z : ℕ × ℤ). z .1) t v k (rowsIn l s e q 0 i) (before .totals) at (rowAt l s q i) m r);
           long-accounts = length-set w at x ∙ before .long-accounts;
           long-totals = length-set v at y ∙ before .long-totals;
         }
 
-    pub written-same : placeOf (word l (q + 6 + i)) (s .depth) ≢ e → Written l s e q k a t (i + 1) w v at
+    pub written-same : firstBits (s .depth) (word l (accountsFrom q + i)) ≢ e → Written l s e q k a t (i + 1) w v at
     written-same h =
         record {
-          place = rw (rows-same l s e q i h) (before .place);
+          next = rw (rows-same l s e q i h) (before .next);
           accounts = rw (rows-same l s e q i h) (before .accounts);
           totals = rw (rows-same l s e q i h) (before .totals);
           long-accounts = before .long-accounts;
@@ -172,10 +188,11 @@ module _ (l : List ℕ) (s : Settings) (e q k : ℕ) (a : List ℕ) (t : List �
 
     pub written-end :
         (c : ℕ) → Looked l s e q c → i ≤ c → c ≤ i
-        → (at ≡ k + length (rowsOf l s e)) × ((w ≡ overlay a k (map (λ x. x .0) (rowsOf l s e))) × (v ≡ overlay t k (map (λ x. x .1) (rowsOf l s e))))
+        → (at ≡ k + length (rowsOf l s e))
+        × ((w ≡ overlay a k (map (λ x. x .0) (rowsOf l s e))) × (v ≡ overlay t k (map (λ x. x .1) (rowsOf l s e))))
     written-end c z n m =
         let r : rowsIn l s e q 0 i ≡ rowsOf l s e = ap (rowsIn l s e q 0) (le-antisymm n m) ∙ z .all in
-        (rw r at (before .place), (rw r at (before .accounts), rw r at (before .totals)))
+        (rw r at (before .next), (rw r at (before .accounts), rw r at (before .totals)))
 
 -- ---- the entries
 
@@ -183,8 +200,8 @@ module _ (l : List ℕ) (s : Settings) where
   pub entry-limit : (e : ℕ) → Fits l s → length (rowsOf l s e) ≤ 16
   unfolding rowsOf
   entry-limit e f =
-      let h = rows-limit l s e (entryRecord l s e) 0 (least (word l (entryRecord l s e)) (s .capacity)) in
-      let n = size-limit _ (word l (entryRecord l s e)) f refl in
+      let h = rows-limit l s e (entryRecord l s e) 0 (least (word l (entryRecord l s e + recordCount)) (s .capacity)) in
+      let n = size-limit _ (word l (entryRecord l s e + recordCount)) f refl in
       omega arith
 
   entries-last : (e k : ℕ) → rowsFrom l s e (suc k) ≡ rowsFrom l s e k ++ rowsOf l s (e + k)
@@ -222,7 +239,8 @@ module _ (l : List ℕ) (s : Settings) where
 
 -- rows written behind rows
 pub written-behind :
-    {A B : Type 0} (f : A → B) (a w v : List B) (k : ℕ) (xs ys zs : List A) → w ≡ overlay a 0 (map f xs) → k ≡ length xs → v ≡ overlay w k (map f ys)
+    {A B : Type 0} (f : A → B) (a w v : List B) (k : ℕ) (xs ys zs : List A) → w ≡ overlay a 0 (map f xs) → k ≡ length xs
+    → v ≡ overlay w k (map f ys)
     → zs ≡ xs ++ ys → v ≡ overlay a 0 (map f zs)
 written-behind f a w v k xs ys zs e n h g =
     let m : k ≡ 0 + length (map f xs) = simp length-map (omega arith) in
@@ -250,14 +268,20 @@ module _ (l a : List ℕ) (t : List ℤ) (x : Bool) (tested : x ≡ strange l) w
     unfolding listingWords
     listing-shown = rw read (sym (if-false _ _ (sym tested ∙ passed)))
 
-    pub listing-narrow : (length a < k) ⊎ (length t < k) → record { accounts = a; totals = t; listed = Listed.Refused Refusal.Narrow } ≡ listingWords l a t
+    pub listing-narrow :
+        (length a < k) ⊎ (length t < k) → record { accounts = a; totals = t; listed = Listed.Refused Refusal.Narrow } ≡ listingWords l a t
     unfolding shown if_then_else_
     listing-narrow h =
         ⊎-elim (λ n. rw (lt-ltb _ _ (rw count at n))) (λ n. rw (lt-ltb _ _ (rw count at n), or-true)) h ∙ listing-shown
 
     pub listing-all :
-        (b : List ℕ) (u : List ℤ) → k ≤ length a → k ≤ length t → b ≡ overlay a 0 (map (λ z. z .0) (rows l g)) → u ≡ overlay t 0 (map (λ z. z .1) (rows l g))
+        (b : List ℕ) (u : List ℤ) → k ≤ length a → k ≤ length t → b ≡ overlay a 0 (map (λ z. z .0) (rows l g))
+        → u ≡ overlay t 0 (map (λ z. z .1) (rows l g))
         → record { accounts = b; totals = u; listed = Listed.Count k } ≡ listingWords l a t
     unfolding shown if_then_else_
     listing-all b u n m e f =
-        rw (e, f, count) ((rw (le-ltb (length a) (length (rows l g)) (rw count at n), le-ltb (length t) (length (rows l g)) (rw count at m))) ∙ listing-shown)
+        rw (e, f, count) ((rw (
+          le-ltb (length a) (length (rows l g)) (rw count at n),
+          le-ltb (length t) (length (rows l g))
+              (rw count at m),
+        )) ∙ listing-shown)

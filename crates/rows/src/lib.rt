@@ -1,17 +1,18 @@
-// The listing: for each entry of the directory at depth M in order, those accounts of its bucket whose first M bits are the entry.
+// The listing: for each entry of the directory at depth M in order, those accounts of its bucket whose first M bits
+// are the entry.
 ghost use mathlib.Core.Path.{_≡_};
-ghost use mathlib.Core.List.{map};
 ghost use Prim.Native.Nat.{_+_, _^_, _≤_, _<_};
 ghost use lib.ListN.{length};
-ghost use Rattle.lists.specs.Parts.{overlay};
 ghost use Rattle.layout.specs.Shape.{Fits};
-ghost use Rattle.rows.specs.Rows.{entryRecord, rowsOf, rows, listingWords};
+ghost use Rattle.rows.specs.Rows.{entryRecord, rowsOf, rows, accountsWith, totalsWith, listingWords};
+use bucket::first_bits;
+use fields::HEADER_SETTINGS;
+use fields::RECORD_ACCOUNTS;
 use interface::Listed;
 use interface::Refusal;
 use interface::Settings;
-use layout::places::place;
-use layout::places::size;
-use layout::places::within_words;
+use layout::addresses::record_in;
+use layout::addresses::size;
 use layout::shape::directory_start;
 use layout::shape::settings_of;
 use layout::shape::strange_words;
@@ -21,7 +22,7 @@ fn entry_record(words: &[u64], g: Settings, e: usize) -> usize
     requires { ⌜ Fits (now words) g × (e < 2 ^ g .depth) ⌝ }
     ensures { λ r. ⌜ r ≡ entryRecord (now (words .entry)) g e ⌝ }
 {
-    within_words(words, memory::get_or(words, directory_start(g) + e))
+    record_in(words, memory::get_or(words, directory_start(g) + e))
 }
 
 // How many rows entry e has.
@@ -34,7 +35,7 @@ fn count_in(words: &[u64], g: Settings, e: usize) -> usize
     let mut k: usize = 0;
     let mut i: usize = 0;
     while i < c {
-        if place(memory::get(words, q + 6 + i), g.depth) == e {
+        if first_bits(g.depth, memory::get(words, q + RECORD_ACCOUNTS + i)) == e as u64 {
             k += 1;
         }
         i += 1;
@@ -66,8 +67,12 @@ fn write_in(
     accounts: &mut [u32],
     totals: &mut [i64],
 ) -> usize
-    requires { ⌜ Fits (now words) g × ((e < 2 ^ g .depth) × ((k + length (rowsOf (now words) g e) ≤ length (now accounts)) × (k + length (rowsOf (now words) g e) ≤ length (now totals)))) ⌝ }
-    ensures { λ r. ⌜ (r ≡ k + length (rowsOf (now (words .entry)) g e)) × ((now (accounts .exit) ≡ overlay (now (accounts .entry)) k (map (λ x. x .0) (rowsOf (now (words .entry)) g e))) × (now (totals .exit) ≡ overlay (now (totals .entry)) k (map (λ x. x .1) (rowsOf (now (words .entry)) g e)))) ⌝ }
+    requires { ⌜ Fits (now words) g × ((e < 2 ^ g .depth)
+        × ((k + length (rowsOf (now words) g e) ≤ length (now accounts))
+        × (k + length (rowsOf (now words) g e) ≤ length (now totals)))) ⌝ }
+    ensures { λ r. ⌜ (r ≡ k + length (rowsOf (now (words .entry)) g e))
+        × ((now (accounts .exit) ≡ accountsWith (now (accounts .entry)) k (rowsOf (now (words .entry)) g e))
+        × (now (totals .exit) ≡ totalsWith (now (totals .entry)) k (rowsOf (now (words .entry)) g e))) ⌝ }
 {
     let q = entry_record(words, g, e);
     let b = g.capacity as usize;
@@ -75,10 +80,10 @@ fn write_in(
     let mut at = k;
     let mut i: usize = 0;
     while i < c {
-        let a = memory::get(words, q + 6 + i);
-        if place(a, g.depth) == e {
+        let a = memory::get(words, q + RECORD_ACCOUNTS + i);
+        if first_bits(g.depth, a) == e as u64 {
             accounts[at] = (a % 4294967296) as u32;
-            totals[at] = memory::total_of(memory::get(words, q + 6 + b + i));
+            totals[at] = memory::total_of(memory::get(words, q + RECORD_ACCOUNTS + b + i));
             at += 1;
         }
         i += 1;
@@ -88,8 +93,10 @@ fn write_in(
 
 // All rows written.
 fn write(words: &[u64], g: Settings, accounts: &mut [u32], totals: &mut [i64])
-    requires { ⌜ Fits (now words) g × ((length (rows (now words) g) ≤ length (now accounts)) × (length (rows (now words) g) ≤ length (now totals))) ⌝ }
-    ensures { λ _. ⌜ (now (accounts .exit) ≡ overlay (now (accounts .entry)) 0 (map (λ x. x .0) (rows (now (words .entry)) g))) × (now (totals .exit) ≡ overlay (now (totals .entry)) 0 (map (λ x. x .1) (rows (now (words .entry)) g))) ⌝ }
+    requires { ⌜ Fits (now words) g × ((length (rows (now words) g) ≤ length (now accounts))
+        × (length (rows (now words) g) ≤ length (now totals))) ⌝ }
+    ensures { λ _. ⌜ (now (accounts .exit) ≡ accountsWith (now (accounts .entry)) 0 (rows (now (words .entry)) g))
+        × (now (totals .exit) ≡ totalsWith (now (totals .entry)) 0 (rows (now (words .entry)) g)) ⌝ }
 {
     let span: usize = 1 << g.depth;
     let mut k: usize = 0;
@@ -102,12 +109,13 @@ fn write(words: &[u64], g: Settings, accounts: &mut [u32], totals: &mut [i64])
 
 // The accounts in ascending order with their totals, nothing past the count: checks 8, 10.
 pub fn listing(words: &[u64], accounts: &mut [u32], totals: &mut [i64]) -> Listed
-    ensures { λ r. ⌜ record { accounts = now (accounts .exit); totals = now (totals .exit); listed = r } ≡ listingWords (now (words .entry)) (now (accounts .entry)) (now (totals .entry)) ⌝ }
+    ensures { λ r. ⌜ record { accounts = now (accounts .exit); totals = now (totals .exit); listed = r }
+        ≡ listingWords (now (words .entry)) (now (accounts .entry)) (now (totals .entry)) ⌝ }
 {
     if strange_words(words) {
         return Listed::Refused(Refusal::Strange);
     }
-    let g = settings_of(words[0]);
+    let g = settings_of(words[HEADER_SETTINGS]);
     let k = count(words, g);
     if accounts.len() < k {
         return Listed::Refused(Refusal::Narrow);

@@ -15,7 +15,7 @@ use Rattle.lines.specs.declared.reader.Reader.{Reader}
 use Rattle.lines.specs.Reading.{fresh, pushed, commandIn, isEmpty}
 use Rattle.lines.specs.Session.{session}
 use Rattle.lines.proofs.Session.{session-of-01}
-use Rattle.driver.specs.Answers.{State}
+use Rattle.driver.specs.Answers.{DriverState}
 use Rattle.driver.specs.Feeding.{Feeding, longest, took, fed}
 use Rattle.driver.specs.Texts.{textsOn, wordsOn, wordsAfter, ended, readerAfter}
 use Rattle.driver.proofs.Bounds.{fed-first}
@@ -28,7 +28,7 @@ use Rattle.session.proofs.Sessions.{program-is-session, input01, output
 -- ---- what a call of `feed` leaves
 
 -- the lists keep their lengths
-record SameLists (s t : State) : Type 0 where
+record SameLists (s t : DriverState) : Type 0 where
   accounts : length (t .accounts) ≡ length (s .accounts)
   totals : length (t .totals) ≡ length (s .totals)
 
@@ -107,7 +107,8 @@ words-parts [] ys r l = refl
 words-parts (b ∷ xs) ys r l = by (eqb b 10) refl (λ q m. words-parts xs ys q m)
   where
     by : (t : Bool) → eqb b 10 ≡ t
-        → ((q : Reader) (m : List ℕ) → wordsAfter m (ended q (xs ++ ys)) ≡ wordsAfter (wordsAfter m (ended q xs)) (ended (readerAfter q xs) ys))
+        → ((q : Reader) (m : List ℕ) → wordsAfter m (ended q (xs ++ ys))
+        ≡ wordsAfter (wordsAfter m (ended q xs)) (ended (readerAfter q xs) ys))
         → wordsAfter l (ended r (b ∷ xs ++ ys)) ≡ wordsAfter (wordsAfter l (ended r (b ∷ xs))) (ended (readerAfter r (b ∷ xs)) ys)
     by true e again = rw e (again fresh (wordsOn l (commandIn r)))
     by false e again = rw e (again (pushed r b) l)
@@ -169,10 +170,12 @@ program-in-blocks k s blocks =
     let q : Reader = blocksFed k blocks .kept .reader in
     let c = block-took 1 (blocksFed k blocks .kept) (lastFeed q) (a .able) (last-short q) in
     let e : q ≡ readerAfter fresh (joined blocks) = a .reader ∙ ap (λ (r : Reader). readerAfter r (joined blocks)) (s .reader) in
-    let w = took-then k (joined blocks) (lastFeed q) (blocksFed k blocks) (blockFed 1 (blocksFed k blocks .kept) (lastFeed q)) a c .written in
+    let w = took-then k (joined blocks) (lastFeed q) (blocksFed k blocks)
+    (blockFed 1 (blocksFed k blocks .kept) (lastFeed q)) a c .written in
     w ∙ ap (λ (l : List ℕ). textsOn l 4_096 4_096 (ended (k .reader) (joined blocks ++ lastFeed q))) (s .words)
     ∙ ap (λ (r : Reader). textsOn (replicate 8_192 0) 4_096 4_096 (ended r (joined blocks ++ lastFeed q))) (s .reader)
-    ∙ ap (λ (r : Reader). textsOn (replicate 8_192 0) 4_096 4_096 (ended fresh (joined blocks ++ lastFeed r))) e ∙ program-is-session (joined blocks)
+    ∙ ap (λ (r : Reader). textsOn (replicate 8_192 0) 4_096 4_096 (ended fresh (joined blocks ++ lastFeed r))) e
+    ∙ program-is-session (joined blocks)
 
 -- ---- what the program starts with, and 01's session in blocks
 

@@ -2,7 +2,7 @@
 -- listing, and lines that are unread. Rests on the calls on words being answered as the machine answers them.
 use Prim.Native.Nat.{ℕ, zero, suc, _^_, _≤_, _<_}
 use native.Mathlib.Omega.{arith}
-use mathlib.Core.Path.{_≡_, refl, ap, _∙_, subst, subst⁻¹}
+use mathlib.Core.Path.{_≡_, refl, ap, _∙_, subst⁻¹}
 use mathlib.Core.Bool.{Bool, true, false, _||_}
 use mathlib.Core.List.{List, [], _++_}
 use lib.Dec.{ltb, leb}
@@ -12,7 +12,7 @@ use mir.Syntax.{w64}
 use mir.Val.{SFits}
 use mir.Facts.{sfits-lit}
 use borrow.Author.Tests.{leb-true, leb-false}
-use Rattle.interface.specs.Numbers.{numberOf}
+use Rattle.interface.specs.Numbers.{numberOf, kindInsert, kindDelete, kindLookup}
 use Rattle.interface.specs.Limits.{inRange}
 use Rattle.interface.specs.declared.Settings.{Settings}
 use Rattle.interface.specs.declared.Refusal.{Refusal}
@@ -20,7 +20,7 @@ use Rattle.interface.specs.declared.Called.{Called}
 use Rattle.machine.specs.Choice.{if_then_else_}
 use Rattle.machine.specs.Sequential.{Table, having}
 use Rattle.machine.specs.Records.{Machine, newBucket, firstCells, opened}
-use Rattle.machine.specs.Words.{wordsNeeded}
+use Rattle.fields.specs.Regions.{wordsNeeded}
 use Rattle.machine.specs.Calls.{Opening, opens, refuses, opening, call, contents, listingOf, listing, lists, declines}
 use Rattle.machine.specs.History.{calling, next}
 use Rattle.machine.specs.Script as Script
@@ -40,14 +40,14 @@ use Rattle.driver.specs.Answers.{isList}
 use Rattle.driver.specs.Texts.{rowsText, listingText, textOn, wordsOn}
 use Rattle.simulation.proofs.Opening.{strange-never, shape-is, opened-means}
 use Rattle.simulation.proofs.RowsMean.{rows-are}
-use Rattle.simulation.proofs.Replies.{openedAs, open-alike, call-alike, holds-next}
+use Rattle.simulation.proofs.Replies.{openedAs, open-alike, call-alike, represents-next}
 use Rattle.session.specs.Same.{Opened, Meant, Same, Alike}
 use Rattle.session.proofs.Lengths.{length-call, length-run, length-opened}
 use Rattle.session.proofs.Lines.{Said}
 use Rattle.session.proofs.Steps.{run-alike}
 
 -- a command that is no listing left the words x .0 and is met with x .1
-record Replied (x : List ℕ × Reply) (y : Script.Met) : Type 0 where
+record Replied (x : List ℕ × Reply) (y : Script.Response) : Type 0 where
   text : printedReply (x .1) ≡ printed (y .reply)
   count : length (x .0) ≡ 8_192
   meant : Meant (x .0) (y .memory)
@@ -59,7 +59,7 @@ fresh-meant : (l : List ℕ) (s : Settings) → inRange (s .workers) (s .capacit
 unfolding opened firstCells newBucket having
 fresh-meant l s range enough = record {
   range = range;
-  holds = record {
+  represents = record {
     means = opened-means s range l enough;
     good = opened-good s range;
     table = [];
@@ -69,15 +69,16 @@ fresh-meant l s range enough = record {
 
 module _ (l : List ℕ) (x : Script.Memory) (h : Same l x) where
   abbrev openReplied : Opening → Type 0
-  openReplied o = Replied (openedAs l o .0, ofOpened (openedAs l o .1)) (Script.openingMet x o)
+  openReplied o = Replied (openedAs l o .0, ofOpened (openedAs l o .1)) (Script.openingResponse x o)
 
   open-refused : (o : Opening) (r : Refusal) → o ≡ refuses r → openReplied o
-  unfolding ofOpened Script.openingMet printedReply
+  unfolding ofOpened Script.openingResponse printedReply
   open-refused o r e = rw e (record { text = refl; count = h .count; meant = h .meant })
 
-  open-accepted : (o : Opening) (s : Settings) → o ≡ opens s opened → inRange (s .workers) (s .capacity) (s .depth) ≡ true → wordsNeeded s ≤ 8_192
+  open-accepted :
+      (o : Opening) (s : Settings) → o ≡ opens s opened → inRange (s .workers) (s .capacity) (s .depth) ≡ true → wordsNeeded s ≤ 8_192
       → openReplied o
-  unfolding ofOpened Script.openingMet printedReply
+  unfolding ofOpened Script.openingResponse printedReply
   open-accepted o s e range enough =
       let k = h .count in
       rw e (record { text = refl; count = length-opened l s (omega arith) ∙ k; meant = fresh-meant l s range (omega arith) })
@@ -92,42 +93,45 @@ module _ (l : List ℕ) (x : Script.Memory) (h : Same l x) where
       by true e false f = open-refused _ Refusal.Short (opening-short n b M 8_192 e (leb-false _ _ f))
       by false e w f = open-refused _ Refusal.Settings (opening-settings n b M 8_192 e)
 
-  open-replied : (n b M : ℕ) → Replied (replying ofOpened (openWords l n b M)) (Script.openingMet x (opening n b M 8_192))
+  open-replied : (n b M : ℕ) → Replied (replying ofOpened (openWords l n b M)) (Script.openingResponse x (opening n b M 8_192))
   unfolding replying
   open-replied n b M =
       let e : openWords l n b M ≡ openedAs l (opening n b M 8_192) =
       open-alike l n b M ∙ ap (λ (k : ℕ). openedAs l (opening n b M k)) (h .count) in
-      subst⁻¹ (λ y. Replied (y .0, ofOpened (y .1)) (Script.openingMet x (opening n b M 8_192))) e (open-cases n b M)
+      subst⁻¹ (λ y. Replied (y .0, ofOpened (y .1)) (Script.openingResponse x (opening n b M 8_192))) e (open-cases n b M)
 
 -- ---- calls
 
 module _ (l : List ℕ) (count : length l ≡ 8_192) (w kind a : ℕ) (v : ℤ) where
   strange-call : strange l ≡ true
-      → Replied (replying ofCalled (callWords l w kind a v)) (record { memory = Script.zeros; reply = Script.refused (numberOf Refusal.Strange) })
+      → Replied (replying ofCalled (callWords l w kind a v))
+      (record { memory = Script.zeros; reply = Script.refused (numberOf Refusal.Strange) })
   unfolding replying callWords ofCalled printedReply if_then_else_
   strange-call e = rw e (record { text = refl; count = count; meant = e })
 
   module _ (s : Settings) (m : Machine) (h : Opened l s m) (narrow : a < 2 ^ 32) (fits : SFits w64 v) where
-    call-text : (x y : Called) → x ≡ y → printedReply (ofCalled x) ≡ printed (Script.callMet s (call s m w kind a v .0) y .reply)
-    unfolding ofCalled Script.callMet printedReply
+    call-text : (x y : Called) → x ≡ y → printedReply (ofCalled x) ≡ printed (Script.callResponse s (call s m w kind a v .0) y .reply)
+    unfolding ofCalled Script.callResponse printedReply
     call-text x Called.Accepted e = rw e
     call-text x (Called.Refused r) e = rw e
 
-    call-memory : (y : Called) → Script.callMet s (call s m w kind a v .0) y .memory ≡ Script.holding s (call s m w kind a v .0)
-    unfolding Script.callMet
+    call-memory : (y : Called) → Script.callResponse s (call s m w kind a v .0) y .memory ≡ Script.holding s (call s m w kind a v .0)
+    unfolding Script.callResponse
     call-memory Called.Accepted = refl
     call-memory (Called.Refused r) = refl
 
-    call-holds : Opened (callWords l w kind a v .0) s (call s m w kind a v .0)
+    call-represents : Opened (callWords l w kind a v .0) s (call s m w kind a v .0)
     unfolding next
-    call-holds = record { range = h .range; holds = holds-next s (h .range) l m (h .holds) (calling w kind a v) (narrow, fits) }
+    call-represents =
+        record { range = h .range; represents = represents-next s (h .range) l m (h .represents) (calling w kind a v) (narrow, fits) }
 
-    call-replied : Replied (replying ofCalled (callWords l w kind a v)) (Script.callMet s (call s m w kind a v .0) (call s m w kind a v .1))
+    call-replied :
+        Replied (replying ofCalled (callWords l w kind a v)) (Script.callResponse s (call s m w kind a v .0) (call s m w kind a v .1))
     unfolding replying
     call-replied = record {
-      text = call-text _ _ (call-alike s (h .range) l m (h .holds) w kind a v narrow fits .1);
+      text = call-text _ _ (call-alike s (h .range) l m (h .represents) w kind a v narrow fits .1);
       count = length-call l w kind a v ∙ count;
-      meant = subst⁻¹ (Meant (callWords l w kind a v .0)) (call-memory (call s m w kind a v .1)) call-holds;
+      meant = subst⁻¹ (Meant (callWords l w kind a v .0)) (call-memory (call s m w kind a v .1)) call-represents;
     }
 
 -- ---- runs
@@ -138,33 +142,36 @@ module _ (l : List ℕ) (count : length l ≡ 8_192) (w : ℕ) where
   unfolding replying runWords ofRan printedReply if_then_else_
   strange-run k e = rw e (record { text = refl; count = count; meant = e })
 
-  run-replied : (s : Settings) (m : Machine) → Opened l s m → (k : ℕ) → 1 ≤ k → Replied (replying ofRan (runWords l w k)) (Script.steps s w 0 k m)
+  run-replied :
+      (s : Settings) (m : Machine) → Opened l s m → (k : ℕ) → 1 ≤ k → Replied (replying ofRan (runWords l w k)) (Script.steps s w 0 k m)
   unfolding replying
   run-replied s m h zero more = absurd (omega arith)
   run-replied s m h (suc k) more =
-      let r = run-alike s (h .range) w l m (h .holds) k in
+      let r = run-alike s (h .range) w l m (h .represents) k in
       record {
         text = r .text;
         count = length-run l w (suc k) ∙ count;
-        meant = subst⁻¹ (Meant (runWords l w (suc k) .0)) (r .memory) (record { range = h .range; holds = r .holds });
+        meant = subst⁻¹ (Meant (runWords l w (suc k) .0)) (r .memory) (record { range = h .range; represents = r .represents });
       }
 
 -- ---- the listing
 
-rows-printed : (s : Settings) (m : Machine) (t : Table) (x y : ℕ) → rowsText x y t ≡ printed (Script.listingMet s m (listingOf t x y) .reply)
-unfolding rowsText listingOf Script.listingMet printedReply printed if_then_else_
+rows-printed :
+    (s : Settings) (m : Machine) (t : Table) (x y : ℕ) → rowsText x y t ≡ printed (Script.listingResponse s m (listingOf t x y) .reply)
+unfolding rowsText listingOf Script.listingResponse printedReply printed if_then_else_
 rows-printed s m t x y = by (ltb x (length t) || ltb y (length t))
   where
-    by : (b : Bool) → if b then printed (Script.refused 10) else printedRows t ++ printedEnd (length t)
-        ≡ printed (Script.listingMet s m (if b then declines Refusal.Narrow else lists t) .reply)
+    by : (b : Bool) → if b then printed (Script.refused (numberOf Refusal.Narrow)) else printedRows t ++ printedEnd (length t)
+        ≡ printed (Script.listingResponse s m (if b then declines Refusal.Narrow else lists t) .reply)
     by true = refl
     by false = refl
 
-listing-memory : (s : Settings) (m : Machine) (t : Table) (x y : ℕ) → Script.listingMet s m (listingOf t x y) .memory ≡ Script.holding s m
-unfolding listingOf Script.listingMet if_then_else_
+listing-memory :
+    (s : Settings) (m : Machine) (t : Table) (x y : ℕ) → Script.listingResponse s m (listingOf t x y) .memory ≡ Script.holding s m
+unfolding listingOf Script.listingResponse if_then_else_
 listing-memory s m t x y = by (ltb x (length t) || ltb y (length t))
   where
-    by : (b : Bool) → Script.listingMet s m (if b then declines Refusal.Narrow else lists t) .memory ≡ Script.holding s m
+    by : (b : Bool) → Script.listingResponse s m (if b then declines Refusal.Narrow else lists t) .memory ≡ Script.holding s m
     by true = refl
     by false = refl
 
@@ -174,18 +181,18 @@ strange-listing l x y e = rw e
 
 module _ (l : List ℕ) (s : Settings) (m : Machine) (h : Opened l s m) (x y : ℕ) where
   shown-rows : rows l (shapeOf l) ≡ contents m
-  shown-rows = let k = h .holds in
+  shown-rows = let k = h .represents in
       ap (rows l) (shape-is s (h .range) l m (k .means)) ∙ rows-are s (h .range) l m (k .means) (k .good) (k .table) (k .parts)
 
-  listing-text : listingText l x y ≡ printed (Script.listingMet s m (listing m x y) .reply)
+  listing-text : listingText l x y ≡ printed (Script.listingResponse s m (listing m x y) .reply)
   unfolding listingText listing if_then_else_
   listing-text =
-      let e : listingText l x y ≡ rowsText x y (rows l (shapeOf l)) = rw (strange-never s (h .range) l m (h .holds .means)) in
+      let e : listingText l x y ≡ rowsText x y (rows l (shapeOf l)) = rw (strange-never s (h .range) l m (h .represents .means)) in
       e ∙ ap (rowsText x y) shown-rows ∙ rows-printed s m (contents m) x y
 
 -- ---- one command
 
-alike-replied : (l : List ℕ) (x : Script.Memory) (c : Command) (y : Script.Met) → isList c ≡ false
+alike-replied : (l : List ℕ) (x : Script.Memory) (c : Command) (y : Script.Response) → isList c ≡ false
     → told x (lineOf c) ≡ record { memory = y .memory; text = printed (y .reply) } → Replied (responded l c) y → Alike l x c
 unfolding textOn wordsOn if_then_else_
 alike-replied l x c y other e r = record {
@@ -195,34 +202,35 @@ alike-replied l x c y other e r = record {
 
 module _ (l : List ℕ) where
   alike-open : (x : Script.Memory) (n b M : ℕ) → Same l x → Alike l x (Command.Open n b M)
-  unfolding isList told lineOf Script.meet responded
-  alike-open x n b M h = alike-replied l x _ (Script.openingMet x (opening n b M 8_192)) refl refl (open-replied l x h n b M)
+  unfolding isList told lineOf Script.responseTo responded
+  alike-open x n b M h = alike-replied l x _ (Script.openingResponse x (opening n b M 8_192)) refl refl (open-replied l x h n b M)
 
   alike-insert : (x : Script.Memory) (w a : ℕ) (v : ℤ) → a < 2 ^ 32 → SFits w64 v → Same l x → Alike l x (Command.Insert w a v)
-  unfolding isList told lineOf Script.meet responded
-  alike-insert Script.zeros w a v k f h = alike-replied l _ _ _ refl refl (strange-call l (h .count) w 1 a v (h .meant))
-  alike-insert (Script.holding s m) w a v k f h = alike-replied l _ _ _ refl refl (call-replied l (h .count) w 1 a v s m (h .meant) k f)
+  unfolding isList told lineOf Script.responseTo responded
+  alike-insert Script.zeros w a v k f h = alike-replied l _ _ _ refl refl (strange-call l (h .count) w kindInsert a v (h .meant))
+  alike-insert (Script.holding s m) w a v k f h =
+      alike-replied l _ _ _ refl refl (call-replied l (h .count) w kindInsert a v s m (h .meant) k f)
 
   alike-delete : (x : Script.Memory) (w a : ℕ) → a < 2 ^ 32 → Same l x → Alike l x (Command.Delete w a)
-  unfolding isList told lineOf Script.meet responded
-  alike-delete Script.zeros w a k h = alike-replied l _ _ _ refl refl (strange-call l (h .count) w 2 a (pos 0) (h .meant))
+  unfolding isList told lineOf Script.responseTo responded
+  alike-delete Script.zeros w a k h = alike-replied l _ _ _ refl refl (strange-call l (h .count) w kindDelete a (pos 0) (h .meant))
   alike-delete (Script.holding s m) w a k h =
-      alike-replied l _ _ _ refl refl (call-replied l (h .count) w 2 a (pos 0) s m (h .meant) k (sfits-lit tt))
+      alike-replied l _ _ _ refl refl (call-replied l (h .count) w kindDelete a (pos 0) s m (h .meant) k (sfits-lit tt))
 
   alike-lookup : (x : Script.Memory) (w a : ℕ) → a < 2 ^ 32 → Same l x → Alike l x (Command.Lookup w a)
-  unfolding isList told lineOf Script.meet responded
-  alike-lookup Script.zeros w a k h = alike-replied l _ _ _ refl refl (strange-call l (h .count) w 3 a (pos 0) (h .meant))
+  unfolding isList told lineOf Script.responseTo responded
+  alike-lookup Script.zeros w a k h = alike-replied l _ _ _ refl refl (strange-call l (h .count) w kindLookup a (pos 0) (h .meant))
   alike-lookup (Script.holding s m) w a k h =
-      alike-replied l _ _ _ refl refl (call-replied l (h .count) w 3 a (pos 0) s m (h .meant) k (sfits-lit tt))
+      alike-replied l _ _ _ refl refl (call-replied l (h .count) w kindLookup a (pos 0) s m (h .meant) k (sfits-lit tt))
 
   alike-steps : (x : Script.Memory) (w k : ℕ) → 1 ≤ k → Same l x → Alike l x (Command.Steps w k)
-  unfolding isList told lineOf Script.meet responded
+  unfolding isList told lineOf Script.responseTo responded
   alike-steps Script.zeros w k more h = alike-replied l _ _ _ refl refl (strange-run l (h .count) w k (h .meant))
   alike-steps (Script.holding s m) w k more h =
       alike-replied l _ _ (Script.steps s w 0 k m) refl refl (run-replied l (h .count) w s m (h .meant) k more)
 
   alike-listing : (x : Script.Memory) → Same l x → Alike l x Command.List
-  unfolding isList told lineOf Script.meet textOn wordsOn listing if_then_else_
+  unfolding isList told lineOf Script.responseTo textOn wordsOn listing if_then_else_
   alike-listing Script.zeros h = record { text = strange-listing l 4_096 4_096 (h .meant); next = h }
   alike-listing (Script.holding s m) h = record {
     text = listing-text l s m (h .meant) 4_096 4_096;

@@ -5,7 +5,8 @@ use native.Mathlib.Omega.{arith}
 use mathlib.Core.List.{List}
 use lib.ListN.{length, length-append}
 use Rattle.interface.specs.declared.Settings.{Settings}
-use Rattle.machine.specs.Words.{wordsNeeded}
+use Rattle.fields.specs.Fields.{recordCount, recordSize, spareRecords}
+use Rattle.fields.specs.Regions.{directoryStart, recordStart, poolSize, wordsNeeded}
 use Rattle.memory.specs.Loads.{least}
 use Rattle.memory.proofs.States.{least-bound}
 use Rattle.layout.specs.Shape.{word}
@@ -18,20 +19,20 @@ unfolding rowsFrom rowsOf
 rows-few l s zero e = omega arith
 rows-few l s (suc k) e =
     let q : ℕ = entryRecord l s e in
-    let here = rows-limit l s e q 0 (least (word l q) (s .capacity)) in
-    let few = least-bound (word l q) (s .capacity) in
+    let here = rows-limit l s e q 0 (least (word l (q + recordCount)) (s .capacity)) in
+    let few = least-bound (word l (q + recordCount)) (s .capacity) in
     let rest = rows-few l s k (suc e) in
-    let both = length-append (rowsIn l s e q 0 (least (word l q) (s .capacity))) (rowsFrom l s (suc e) k) in
+    let both = length-append (rowsIn l s e q 0 (least (word l (q + recordCount)) (s .capacity))) (rowsFrom l s (suc e) k) in
     let next = suc-mul k (s .capacity) in
     omega arith
 
 -- a bucket record for each entry at depth M, with two words an account
 capacity-few : (s : Settings) → wordsNeeded s ≤ 8_192 → 2 ^ s .depth * s .capacity ≤ 4_096
-unfolding wordsNeeded
+unfolding wordsNeeded recordStart directoryStart poolSize
 capacity-few s h =
     let d : ℕ = 2 ^ s .depth in
     let b : ℕ = s .capacity in
-    let records : d * (2 * b) ≤ (d + s .workers + 2) * (2 * b + 2 * s .workers + 6) = mul-le-mul (omega arith) (omega arith) in
+    let records : d * (2 * b) ≤ (d + s .workers + spareRecords) * recordSize b (s .workers) = mul-le-mul (omega arith) (omega arith) in
     let twice = mul-left-comm d 2 b in
     omega arith
 

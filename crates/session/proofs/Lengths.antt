@@ -8,28 +8,30 @@ use lib.Dec.{leb, eqb}
 use lib.ListN.{length, set, length-set, length-append, length-replicate}
 use lib.IntN.{ℤ}
 use borrow.Author.Tests.{leb-false}
+use Rattle.interface.specs.Numbers.{kindNone, kindLookup}
 use Rattle.interface.specs.declared.Settings.{Settings}
 use Rattle.interface.specs.declared.Answer.{Answer}
 use Rattle.interface.specs.declared.Ran.{Ran}
 use Rattle.machine.specs.Plan.{Phase, announce, readDirectory, flipToggle, readState, readToggle, swapState, checkState, copyDirectory, swapDirectory, readSlot, resizeFor, phase}
-use Rattle.machine.specs.Words.{wordsNeeded}
+use Rattle.fields.specs.Fields.{headerNumber, slotSize, workerKind, workerSteps, stepsRange, workerState, workerDirectory, recordNumber, widestRecord}
+use Rattle.fields.specs.Regions.{slotAt, workerAt, readAt, wordsNeeded}
 use Rattle.machine.proofs.Base.{if-elim}
 use Rattle.bucket.specs.State.{bit}
 use Rattle.lists.specs.Parts.{part, overlay}
 use Rattle.lists.proofs.PartLaws.{length-part, length-overlay}
 use Rattle.memory.specs.Loads.{least}
 use Rattle.layout.specs.Shape.{word, strange, shapeOf, Fits, Whole}
-use Rattle.layout.specs.Places.{workerAt, slotAt, readAt, heldBy}
+use Rattle.layout.specs.Addresses.{heldBy}
 use Rattle.layout.proofs.Checks.{fits-of}
 use Rattle.layout.proofs.Positions.{fits-kept, placed, held-inside}
 use Rattle.layout.proofs.Pool.{whole-kept}
 use Rattle.engine.specs.declared.phase.Phase as Code
 use Rattle.engine.specs.Phases.{planned}
-use Rattle.engine.specs.Engine.{slotReadAt, heldAt, flippedAt, stateReadAt, toggleReadAt, directoryReadAt, swappedAt, markedAt, marks, stateStepAt}
+use Rattle.engine.specs.Engine.{slotReadAt, bucketReadAt, flippedAt, stateReadAt, toggleReadAt, directoryReadAt, swappedAt, markedAt, marks, stateStepAt}
 use Rattle.engine.specs.Splits.{takenAll, resolvedAt, nothingToSplit, redirectedAt}
 use Rattle.engine.proofs.Splitting.{whole-else}
 use Rattle.session.proofs.StepLengths.{length-announced, length-round, length-taken}
-use Rattle.table.specs.Turns.{endedAt, checkAt, updateAt, lookupAt, operationAt, begunAt, callIn, callWords, freshWords, orElse, runIn, runWords}
+use Rattle.table.specs.Turns.{endedAt, checkAt, updateAt, lookupAt, operationAt, begunAt, callIn, callWords, freshWords, orElse, runIn, longestRun, runWords}
 use Rattle.table.proofs.TurnLaws.{slot-below}
 use Rattle.table.proofs.Fresh.{fresh-parts}
 
@@ -62,7 +64,7 @@ module _ (s : Settings) (p : ℕ) where
   length-redirected : (l : List ℕ) → Fits l s → Long l (redirectedAt l s p)
   unfolding redirectedAt
   length-redirected l f =
-      if-elim (Long l) (eqb (word l (p + 8)) (word l 3)) _ l
+      if-elim (Long l) (eqb (word l (p + workerDirectory)) (word l headerNumber)) _ l
       (λ t.
       simp length-set
       (if-elim (Long l) (nothingToSplit l s p) l (resolvedAt l s p (s .workers)) (λ n. refl)
@@ -79,13 +81,14 @@ module _ (l : List ℕ) (s : Settings) (w : ℕ) (f : Fits l s) (known : w < s .
   unfolding slotReadAt
   length-slot-read j h =
       let b = placed f w known in
-      let n = length-part l (slotAt j) 4 (omega arith) in
-      length-overlay l (readAt p j) (part l (slotAt j) 4) (omega arith)
+      let n = length-part l (slotAt j) slotSize (omega arith) in
+      length-overlay l (readAt p j) (part l (slotAt j) slotSize) (omega arith)
 
-  length-swapped : (q : ℕ) → q + 54 ≤ length l → Long l (swappedAt l s p q)
+  length-swapped : (q : ℕ) → q + widestRecord ≤ length l → Long l (swappedAt l s p q)
   unfolding swappedAt
   length-swapped q h =
-      if-elim (Long l) (eqb (word l (p + 6)) (word l (q + 5))) _ l (λ t. simp length-set (length-round l s f p q h)) (λ t. refl)
+      if-elim (Long l) (eqb (word l (p + workerState)) (word l (q + recordNumber))) _ l (λ t. simp length-set (length-round l s f p q h))
+      (λ t. refl)
 
   length-ended : (k : ℕ) (a : Answer) → LongAfter l (endedAt l p k a)
   unfolding endedAt
@@ -97,7 +100,7 @@ module _ (l : List ℕ) (s : Settings) (w : ℕ) (f : Fits l s) (known : w < s .
   length-check k (some x) = length-ended k _
 
   length-update : (k n : ℕ) (x : Phase) → n ≡ s .workers → x ≡ phase n k → LongAfter l (updateAt l s p w k x)
-  unfolding updateAt heldAt flippedAt stateReadAt toggleReadAt directoryReadAt stateStepAt planned
+  unfolding updateAt bucketReadAt flippedAt stateReadAt toggleReadAt directoryReadAt stateStepAt planned
   length-update k n announce g e = length-announced l s f w known
   length-update k n readDirectory g e = simp length-set
   length-update k n flipToggle g e = simp length-set
@@ -112,7 +115,7 @@ module _ (l : List ℕ) (s : Settings) (w : ℕ) (f : Fits l s) (known : w < s .
   length-update k n swapDirectory g e = length-redirected s p l f
 
   length-lookup : (k : ℕ) → LongAfter l (lookupAt l s p k)
-  unfolding lookupAt heldAt
+  unfolding lookupAt bucketReadAt
   length-lookup zero = length-set l _ _
   length-lookup (suc k) = length-ended (suc k) _
 
@@ -121,9 +124,9 @@ module _ (l : List ℕ) (s : Settings) (w : ℕ) (f : Fits l s) (known : w < s .
   unfolding operationAt
   length-operation k =
       let q : ℕ = workerAt (s .workers) w in
-      let e : length (set l (q + 4) (k + 1)) ≡ length l = length-set l (q + 4) (k + 1) in
-      let g : Fits (set l (q + 4) (k + 1)) s = fits-kept (sym e) f in
-      if-elim (LongAfter l) (eqb (word l q) 3) _ _ (λ t. length-lookup _ s w g known k ∙ e)
+      let e : length (set l (q + workerSteps) (k + 1)) ≡ length l = length-set l (q + workerSteps) (k + 1) in
+      let g : Fits (set l (q + workerSteps) (k + 1)) s = fits-kept (sym e) f in
+      if-elim (LongAfter l) (eqb (word l (q + workerKind)) kindLookup) _ _ (λ t. length-lookup _ s w g known k ∙ e)
       (λ t. length-update _ s w g known k (s .workers) _ refl refl ∙ e)
 
   -- ---- a call
@@ -150,8 +153,8 @@ unfolding runIn
 length-run-in zero l s w k f h = refl
 length-run-in (suc n) l s w k f h =
     let q : ℕ = workerAt (s .workers) w in
-    let e = length-operation l s w f h (word l (q + 4) % 65_536) in
-    if-elim (LongAfter l) (eqb (word l q) 0) _ _ (λ t. refl)
+    let e = length-operation l s w f h (word l (q + workerSteps) % stepsRange) in
+    if-elim (LongAfter l) (eqb (word l (q + workerKind)) kindNone) _ _ (λ t. refl)
     (λ t. length-or l _ _ _ e (length-run-in n _ s w (suc k) (fits-kept (sym e) f) h ∙ e))
 
 pub length-call : (l : List ℕ) (w kind a : ℕ) (v : ℤ) → length (callWords l w kind a v .0) ≡ length l
@@ -169,8 +172,8 @@ length-run l w most =
     (λ t.
     if-elim (LongAfter l) (leb (shapeOf l .workers) w) _ _ (λ b. refl)
     (λ b.
-    if-elim (LongAfter l) (eqb (word l (workerAt (shapeOf l .workers) w)) 0) _ _ (λ z. refl)
-    (λ z. length-run-in (least most 256) l (shapeOf l) w 0 (fits-of l t) (leb-false _ _ b))))
+    if-elim (LongAfter l) (eqb (word l (workerAt (shapeOf l .workers) w + workerKind)) kindNone) _ _ (λ z. refl)
+    (λ z. length-run-in (least most longestRun) l (shapeOf l) w 0 (fits-of l t) (leb-false _ _ b))))
 
 -- ---- opening
 

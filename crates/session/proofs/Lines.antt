@@ -44,9 +44,11 @@ in-64 none = tt
 in-64 (some (pos n)) =
     if-elim (If (SFits w64)) (leb n (2 ^ 63 - 1)) _ _ (λ t. let h = leb-true n (2 ^ 63 - 1) t in record { sfits = omega arith }) (λ t. tt)
 in-64 (some (negsuc n)) =
-    if-elim (If (SFits w64)) (leb (suc n) (2 ^ 63)) _ _ (λ t. let h = leb-true (suc n) (2 ^ 63) t in record { sfits = omega arith }) (λ t. tt)
+    if-elim (If (SFits w64)) (leb (suc n) (2 ^ 63)) _ _ (λ t. let h = leb-true (suc n) (2 ^ 63) t in record { sfits = omega arith })
+    (λ t. tt)
 
-said-two : {A B : Type 0} (P : B → Type 0) (f : A → B → Command) (x : Option A) (y : Option B) → ((a : A) (b : B) → P b → Said (f a b)) → If P y
+said-two : {A B : Type 0} (P : B → Type 0) (f : A → B → Command) (x : Option A) (y : Option B) → ((a : A) (b : B) → P b → Said (f a b))
+    → If P y
     → Said (with2 f x y)
 unfolding with2
 said-two P f none y h k = tt
@@ -78,7 +80,8 @@ said-three letter x y =
     if-elim Said (eqb letter 68) _ _ (λ t. said-two (λ n. n ≤ 4_294_967_295) Command.Delete _ _ (λ a b h. omega arith) account)
     (λ t.
     if-elim Said (eqb letter 76) _ _ (λ t. said-two (λ n. n ≤ 4_294_967_295) Command.Lookup _ _ (λ a b h. omega arith) account)
-    (λ t. if-elim Said (eqb letter 83) _ _ (λ t. said-two (λ n. 1 ≤ n) Command.Steps _ _ (λ a b h. h) (at-least 1 (upTo 9_999 (numeral y)))) (λ t. tt)))
+    (λ t. if-elim Said (eqb letter 83) _ _ (λ t. said-two (λ n. 1 ≤ n) Command.Steps _ _ (λ a b h. h) (at-least 1 (upTo 9_999 (numeral y))))
+    (λ t. tt)))
 
 said-four : (letter : ℕ) (x y z : List ℕ) → Said (fourFields letter x y z)
 unfolding fourFields accountOf totalOf

@@ -11,7 +11,7 @@ use lib.Dec.{ltb}
 use lib.ListN.{length, getD, length-append}
 use lib.IntN.{ℤ}
 use borrow.Author.Tests.{le-ltb}
-use Rattle.interface.specs.Numbers.{bytes}
+use Rattle.interface.specs.Numbers.{bytes, numberOf, kindInsert, kindDelete, kindLookup}
 use Rattle.interface.specs.declared.Settings.{Settings}
 use Rattle.interface.specs.declared.Refusal.{Refusal}
 use Rattle.interface.specs.declared.Opened.{Opened}
@@ -25,9 +25,9 @@ use Rattle.machine.specs.Sequential.{Table}
 use Rattle.machine.specs.Script as Script
 use Rattle.machine.proofs.Base.{if-elim, if-false}
 use Rattle.replies.specs.declared.Reply.{Reply}
-use Rattle.replies.specs.Decimals.{digit, digits, decimal, places}
+use Rattle.replies.specs.Decimals.{digit, digits, decimal, digitCount}
 use Rattle.replies.specs.Printed.{printedLine, printedRow, printedRows, printedEnd, printedAnswer, printed, printedUnread, printedReply}
-use Rattle.replies.proofs.DecimalLaws.{places-small, places-large, length-decimal}
+use Rattle.replies.proofs.DecimalLaws.{digit-count-small, digit-count-large, length-decimal}
 use Rattle.lines.specs.declared.command.Command.{Command}
 use Rattle.lines.specs.Grammar.{linesOf, commandOf, lineOf}
 use Rattle.lines.specs.Session.{told}
@@ -60,7 +60,16 @@ smaller : (k : ℕ) → k ≤ 8 → Another (printed (Script.refused k))
 unfolding printed printedLine bytes
 smaller k h e =
     let n = ap length e in
-    omega (arith, length-append (decimal k) (10 ∷ []), length-append (decimal 10) (10 ∷ []), length-decimal k, length-decimal 10, places-small k (omega arith), places-large 10 (omega arith), places-small 1 (omega arith))
+    omega (
+      arith,
+      length-append (decimal k) (10 ∷ []),
+      length-append (decimal 10) (10 ∷ []),
+      length-decimal k,
+      length-decimal 10,
+      digit-count-small k (omega arith),
+      digit-count-large 10 (omega arith),
+      digit-count-small 1 (omega arith),
+    )
 
 -- every reply but that one
 abbrev pub OtherReply : Reply → Type 0
@@ -82,11 +91,14 @@ reply-another Reply.Unread h = by-first _ 117 refl (λ e. omega arith)
 digits-first : (k n : ℕ) (ys : List ℕ) → getD (digits (suc k) n ++ ys) 0 0 < 58
 unfolding digits digit
 digits-first zero n ys = omega arith
-digits-first (suc k) n ys = rw (append-assoc (digits (suc k) (n / 10)) (digit (n % 10) ∷ []) ys) (digits-first k (n / 10) (digit (n % 10) ∷ ys))
+digits-first (suc k) n ys =
+    rw (append-assoc (digits (suc k) (n / 10)) (digit (n % 10) ∷ []) ys) (digits-first k (n / 10) (digit (n % 10) ∷ ys))
 
 decimal-first : (n : ℕ) (ys : List ℕ) → getD (decimal n ++ ys) 0 0 < 58
 unfolding decimal
-decimal-first n ys = by-cases (decLt n 10) (λ h. rw (places-small n h) (digits-first 0 n ys)) (λ h. rw (places-large n (omega arith)) (digits-first (places (n / 10)) n ys))
+decimal-first n ys =
+    by-cases (decLt n 10) (λ h. rw (digit-count-small n h) (digits-first 0 n ys))
+    (λ h. rw (digit-count-large n (omega arith)) (digits-first (digitCount (n / 10)) n ys))
 
 pub rows-another : (t : Table) (n : ℕ) → Another (printedRows t ++ printedEnd n)
 unfolding printedRows printedEnd printedRow printedLine bytes
@@ -98,7 +110,8 @@ rows-another (e ∷ t) n = by-first _ _ refl (λ h. let k = first in omega arith
 
 -- ---- commands that are no listing
 
-other-built : (l : List ℕ) (x : Built) → ((r : Refusal) → x ≡ Built.Refused r → r ≡ Refusal.Settings) → OtherReply (ofOpened (openedWords l x .1))
+other-built :
+    (l : List ℕ) (x : Built) → ((r : Refusal) → x ≡ Built.Refused r → r ≡ Refusal.Settings) → OtherReply (ofOpened (openedWords l x .1))
 unfolding openedWords ofOpened
 other-built l (Built.Refused r) h = rw (h r refl) (omega arith)
 other-built l (Built.Settings s) h = if-elim (λ (x : List ℕ × Opened). OtherReply (ofOpened (x .1))) _ _ _ (λ e. tt) (λ e. omega arith)
@@ -151,9 +164,9 @@ other-ran l w most =
 other-response : (l : List ℕ) (c : Command) → OtherReply (responded l c .1)
 unfolding responded replying
 other-response l (Command.Open n b M) = other-opened l n b M
-other-response l (Command.Insert w a t) = other-called l w 1 a t
-other-response l (Command.Delete w a) = other-called l w 2 a _
-other-response l (Command.Lookup w a) = other-called l w 3 a _
+other-response l (Command.Insert w a t) = other-called l w kindInsert a t
+other-response l (Command.Delete w a) = other-called l w kindDelete a _
+other-response l (Command.Lookup w a) = other-called l w kindLookup a _
 other-response l (Command.Steps w k) = other-ran l w k
 other-response l Command.List = tt
 other-response l Command.Unread = tt
@@ -170,13 +183,15 @@ rows-long : (l : List ℕ) (x : Script.Memory) → Same l x → strange l ≡ fa
 rows-long l Script.zeros h e = absurd (let k = h .meant in let z : _≡_ {A = ℕ} 0 1 = cc in omega arith)
 rows-long l (Script.holding s m) h e =
     let k = h .meant in
-    let n = k .holds .means .lent in
+    let n = k .represents .means .lent in
     let c = h .count in
-    rw (shape-is s (k .range) l m (k .holds .means)) (rows-fit l s (omega arith))
+    rw (shape-is s (k .range) l m (k .represents .means)) (rows-fit l s (omega arith))
 
 listing-another : (l : List ℕ) (x : Script.Memory) → Same l x → Another (listingText l 4_096 4_096)
 unfolding listingText
-listing-another l x h = if-elim Another (strange l) _ _ (λ e. reply-another (Reply.Refused 8) (omega arith)) (λ e. rows-text-another _ (rows-long l x h e))
+listing-another l x h =
+    if-elim Another (strange l) _ _ (λ e. reply-another (Reply.Refused (numberOf Refusal.Strange)) (omega arith))
+    (λ e. rows-text-another _ (rows-long l x h e))
 
 -- ---- every command
 
@@ -188,7 +203,8 @@ never-narrow-from : (ls : List (List ℕ)) (l : List ℕ) (x : Script.Memory) �
 never-narrow-from [] l x h = tt
 never-narrow-from (line ∷ ls) l x h = (
   text-another l x (commandOf line) h,
-  never-narrow-from ls (wordsOn l (commandOf line)) (told x (lineOf (commandOf line)) .memory) (alike l x (commandOf line) (said line) h .next),
+  never-narrow-from ls (wordsOn l (commandOf line)) (told x (lineOf (commandOf line)) .memory)
+      (alike l x (commandOf line) (said line) h .next),
 )
 
 -- "so 10 never comes up there"

@@ -1,5 +1,5 @@
--- What the program `totals` prints, by the driver's definitions, for input that is fed in any parts, and the claim that this is the
--- session of the machine's script. Rests on the definitions that the contract of `feed` equals.
+-- What the program `totals` prints, by the driver's definitions, for input that is fed in any parts, and the claim that
+-- this is the session of the machine's script. Rests on the definitions that the contract of `feed` equals.
 use Prim.Native.Nat.{ℕ, zero, suc, _≤_}
 use mathlib.Core.Path.{_≡_}
 use mathlib.Core.List.{List, [], _∷_, _++_}
@@ -20,7 +20,8 @@ use Rattle.driver.proofs.Parts.{lastFeed}
 -- the texts of the commands whose lines the input ends, its own end included, over words that are all 0
 unfoldable pub printedFor : List ℕ → List ℕ
 printedFor input =
-    textsOn (replicate (driver .words) 0) (driver .accounts) (driver .totals) (ended fresh (input ++ lastFeed (readerAfter fresh input)))
+    textsOn (replicate (driver .words) 0) (driver .accounts) (driver .totals)
+    (ended fresh (input ++ lastFeed (readerAfter fresh input)))
 
 -- bytes in, bytes out
 abbrev pub ProgramIsSession : Type 0
@@ -28,7 +29,8 @@ ProgramIsSession = (input : List ℕ) → printedFor input ≡ session input
 
 -- ---- the input as the program feeds it
 
--- what the program keeps between two calls of `feed`: what it lends, its output buffer, and the reader of the line not ended yet
+-- what the program keeps between two calls of `feed`: what it lends, its output buffer, and the reader of the line not
+-- ended yet
 pub record Kept : Type 0 where
   pub words : List ℕ
   pub accounts : List ℕ
@@ -39,7 +41,12 @@ pub record Kept : Type 0 where
 -- a call of `feed`, by its contract
 unfoldable pub called : Kept → List ℕ → Feeding
 called k bs = fed (record {
-  state = record { words = k .words; accounts = k .accounts; totals = k .totals; output = record { bytes = k .buffer; used = 0 } };
+  state = record {
+    words = k .words;
+    accounts = k .accounts;
+    totals = k .totals;
+    output = record { bytes = k .buffer; used = 0 };
+  };
   reader = k .reader;
   taken = 0;
 }) bs
@@ -90,7 +97,8 @@ unfoldable pub joined : List (List ℕ) → List ℕ
 joined [] = []
 joined (b ∷ bs) = b ++ joined bs
 
--- "The program lends 8,192 words, all 0 at first, and lists of 4,096 places"; what the lists and the buffer hold at first does not matter
+-- "The program lends 8,192 words, all 0 at first, and lists of 4,096 places"; what the lists and the buffer hold at
+-- first does not matter
 pub record Starts (k : Kept) : Type 0 where
   pub words : k .words ≡ replicate (driver .words) 0
   pub accounts : length (k .accounts) ≡ driver .accounts
@@ -100,15 +108,18 @@ pub record Starts (k : Kept) : Type 0 where
 
 -- and it does not matter how the input is cut into blocks
 abbrev pub ProgramIsSessionInBlocks : Type 0
-ProgramIsSessionInBlocks = (k : Kept) → Starts k → (blocks : List (List ℕ)) → programRun k blocks ≡ session (joined blocks)
+ProgramIsSessionInBlocks = (k : Kept) → Starts k → (blocks : List (List ℕ))
+    → programRun k blocks ≡ session (joined blocks)
 
 -- ---- no line is refused with 10
 
 -- none of the commands is met with `refused 10` on these words
 abbrev pub NeverNarrowOn : List ℕ → List Command → Type 0
 NeverNarrowOn l [] = Unit {0}
-NeverNarrowOn l (c ∷ cs) = (textOn l (driver .accounts) (driver .totals) c ≡ printed (refused 10) → ⊥) × NeverNarrowOn (wordsOn l c) cs
+NeverNarrowOn l (c ∷ cs) = (textOn l (driver .accounts) (driver .totals) c ≡ printed (refused 10) → ⊥)
+    × NeverNarrowOn (wordsOn l c) cs
 
 -- "so 10 never comes up there"
 abbrev pub NeverNarrow : Type 0
-NeverNarrow = (input : List ℕ) → NeverNarrowOn (replicate (driver .words) 0) (ended fresh (input ++ lastFeed (readerAfter fresh input)))
+NeverNarrow = (input : List ℕ) → NeverNarrowOn (replicate (driver .words) 0)
+    (ended fresh (input ++ lastFeed (readerAfter fresh input)))

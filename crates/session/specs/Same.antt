@@ -1,5 +1,5 @@
--- What the lent words are in a session: words that are refused with 8 as zeros are, or words that mean the machine of the script's
--- memory. Rests on the meaning of words and on the machine's script.
+-- What the lent words are in a session: words that are refused with 8 as zeros are, or words that mean the machine of
+-- the script's memory. Rests on the meaning of words and on the machine's script.
 use Prim.Native.Nat.{ℕ}
 use mathlib.Core.Path.{_≡_}
 use mathlib.Core.Bool.{true}
@@ -14,12 +14,12 @@ use Rattle.lines.specs.declared.command.Command.{Command}
 use Rattle.lines.specs.Grammar.{lineOf}
 use Rattle.lines.specs.Session.{told}
 use Rattle.driver.specs.Texts.{textOn, wordsOn}
-use Rattle.simulation.proofs.Replies.{Holds}
+use Rattle.simulation.proofs.Replies.{Represents}
 
 -- an opened table: settings in their ranges, and words that mean its machine
 pub record Opened (l : List ℕ) (s : Settings) (m : Machine) : Type 0 where
   pub range : inRange (s .workers) (s .capacity) (s .depth) ≡ true
-  pub holds : Holds s l m
+  pub represents : Represents s l m
 
 abbrev pub Meant : List ℕ → Memory → Type 0
 Meant l zeros = strange l ≡ true

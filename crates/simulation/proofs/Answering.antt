@@ -1,74 +1,50 @@
 -- What a lookup and a check find in a bucket record's words is what the machine finds in the bucket that the words mean.
 -- Rests on what a bucket's state means.
-use Prim.Native.Nat.{ℕ, zero, suc, _+_, _≤_, _<_}
+use Prim.Native.Nat.{ℕ, _+_, _≤_, _<_}
 use native.Mathlib.Omega.{arith}
-use native.Mathlib.Nat.{add-zero, zero-add}
 use native.Mathlib.Decide.{ℕ-discrete}
-use mathlib.Core.Path.{_≡_, refl, ap, sym, _∙_}
+use mathlib.Core.Path.{_≡_, refl, ap, sym, _∙_, subst}
 use mathlib.Core.Logic.{by-cases}
-use mathlib.Core.Bool.{Bool, true, false, not}
-use mathlib.Core.List.{List, [], _∷_}
+use mathlib.Core.Bool.{not}
+use mathlib.Core.List.{List}
 use mathlib.Core.Option.{Option, none, some}
 use lib.Dec.{ltb, leb, eqb}
-use lib.ListN.{length, getD, take}
+use lib.ListN.{length, take, length-take}
+use mir.Syntax.{w64}
+use mir.Val.{toZ}
 use lib.Seq.{getD-take, length-take-le}
-use borrow.Author.Tests.{le-leb, lt-leb, eq-eqb, ne-eqb, leb-true, leb-false, lt-ltb, le-ltb}
+use borrow.Author.Tests.{le-leb, lt-leb, eq-eqb, ne-eqb}
+use Rattle.interface.specs.Numbers.{answerNumber, answerTotal}
 use Rattle.interface.specs.declared.Settings.{Settings}
 use Rattle.interface.specs.declared.Answer.{Answer}
 use Rattle.interface.specs.declared.Answer.the-variants.{Crowded}
 use Rattle.machine.specs.Choice.{if_then_else_, _and_}
 use Rattle.machine.specs.Sequential.{Table, find, looked}
 use Rattle.machine.specs.Records.{Settled, Body, Bucket}
-use Rattle.machine.specs.BucketPass.{full, settledAt, hopeless, checked}
+use Rattle.machine.specs.BucketPass.{full, holdsBack, splittable, crowded, settledAt, checked}
 use Rattle.machine.proofs.Base.{if-ap}
-use Rattle.bucket.specs.State.{sizeOf, fullOf}
-use Rattle.bucket.specs.Items.{signed, pairs, itemsOf, answerOf, settledOf}
-use Rattle.bucket.proofs.Ties.{full-means}
-use Rattle.memory.specs.Layout.{record′, startOf, totalsFrom, settledFrom, answersFrom}
-use Rattle.memory.specs.Loads.{least, copied, loadedState}
+use Rattle.bucket.specs.declared.BucketState.{BucketState}
+use Rattle.bucket.specs.declared.Position.{Position}
+use Rattle.bucket.specs.declared.Position.the-variants.{At, Before}
+use Rattle.bucket.specs.State.{arraySize, scan, sizeOf, searchOf, fullBy, holdsBackBy, splittableBy, crowdedBy}
+use Rattle.bucket.specs.Items.{signed, totalAt, answerOf, settledOf}
+use Rattle.bucket.proofs.Laws.{size-is, Among, scan-among}
+use Rattle.bucket.proofs.Items.{find-search}
+use Rattle.bucket.proofs.Ties.{answer-back, full-means, holds-back-means, ltb-not}
+use Rattle.fields.specs.Fields.{workerTicket, recordCount, recordDepth, accountsFrom, totalsFrom, settledFrom, answersFrom}
+use Rattle.fields.specs.Regions.{poolSize, wordsNeeded, record′, startOf}
+use Rattle.fields.proofs.Regions.{record-inside}
+use Rattle.lists.specs.Parts.{part}
+use Rattle.lists.proofs.PartLaws.{part-ext}
+use Rattle.memory.specs.Loads.{least, loadedState}
 use Rattle.memory.proofs.Runs.{length-copied, getD-copied}
-use Rattle.memory.proofs.States.{least-same}
+use Rattle.memory.proofs.States.{least-same, loaded-count}
 use Rattle.layout.specs.Shape.{word}
-use Rattle.engine.specs.Engine.{settledWord, answerWordAt, checkedAt}
+use Rattle.engine.specs.Engine.{bucketAt, holdsBackAt, splittableAt, crowdedAt, settledTicket, settledAnswer, checkedAt}
 use Rattle.table.specs.Turns.{foundAt, lookedAt}
 use Rattle.simulation.specs.Meaning.{at, Keeps}
 
 -- ---- a lookup
-
--- the accounts and totals of two lists that stand in the words from place i on
-found-pairs :
-    (l : List ℕ) (s : Settings) (q a i c : ℕ) (A T : List ℕ) → length A ≡ c → length T ≡ c
-    → ((j : ℕ) → j < c → getD A j 0 ≡ word l (q + 6 + (i + j))) → ((j : ℕ) → j < c → getD T j 0 ≡ word l (q + 6 + s .capacity + (i + j)))
-    → foundAt l s q a i c ≡ looked (find (pairs A T) a)
-unfolding foundAt find pairs looked signed
-found-pairs l s q a i zero [] T h k x y = refl
-found-pairs l s q a i zero (b ∷ A) T h k x y = absurd (omega arith)
-found-pairs l s q a i (suc c) [] T h k x y = absurd (omega arith)
-found-pairs l s q a i (suc c) (b ∷ A) [] h k x y = absurd (omega arith)
-found-pairs l s q a i (suc c) (b ∷ A) (v ∷ T) h k x y =
-    let here : b ≡ word l (q + 6 + i) = rw (add-zero i) at (x 0 (omega arith)) in
-    let total : v ≡ word l (q + 6 + s .capacity + i) = rw (add-zero i) at (y 0 (omega arith)) in
-    let next : (j : ℕ) → i + suc j ≡ suc i + j = λ j. omega arith in
-    let rest : foundAt l s q a (suc i) c ≡ looked (find (pairs A T) a) =
-    found-pairs l s q a (suc i) c A T (omega arith) (omega arith)
-    (λ j d. x (suc j) (omega arith) ∙ ap (λ (o : ℕ). word l (q + 6 + o)) (next j))
-    (λ j d. y (suc j) (omega arith) ∙ ap (λ (o : ℕ). word l (q + 6 + s .capacity + o)) (next j)) in
-    rw (← here, ← total, rest) (sym (if-ap looked (eqb b a) (some (signed v)) (find (pairs A T) a)))
-
-found-copied :
-    (l : List ℕ) (s : Settings) (q a c : ℕ) → c ≤ 16
-    → foundAt l s q a 0 c ≡ looked (find (pairs (take c (copied l (q + 6) c)) (take c (copied l (q + totalsFrom (s .capacity)) c))) a)
-found-copied l s q a c h =
-    found-pairs l s q a 0 c (take c A) (take c T) (length-take-le c A (rw length-copied h)) (length-take-le c T (rw length-copied h))
-    (λ j b. getD-take c A j 0 b ∙ getD-copied l (q + 6) c j h b ∙ ap (λ (o : ℕ). word l (q + 6 + o)) (sym (zero-add j)))
-    (λ j b. let e : q + totalsFrom (s .capacity) + j ≡ q + 6 + s .capacity + (0 + j) = omega arith in
-    getD-take c T j 0 b ∙ getD-copied l (q + totalsFrom (s .capacity)) c j h b ∙ ap (word l) e)
-  where
-    A : List ℕ
-    A = copied l (q + 6) c
-
-    T : List ℕ
-    T = copied l (q + totalsFrom (s .capacity)) c
 
 -- ---- a check
 
@@ -77,72 +53,103 @@ abbrev pub answered : Option ℕ → Option Answer
 answered none = none
 answered (some v) = some (answerOf v)
 
-crowded : answerOf 9 ≡ Crowded
-unfolding answerOf if_then_else_
-crowded = refl
-
 -- at a depth that is no greater, the greatest one
-deepest : (M d : ℕ) → d ≤ M → leb M d ≡ eqb d M
-deepest M d h =
+at-greatest : (M d : ℕ) → d ≤ M → leb M d ≡ eqb d M
+at-greatest M d h =
     by-cases (ℕ-discrete d M) (λ e. le-leb M d (omega arith) ∙ sym (eq-eqb d M e)) (λ e. lt-leb M d (omega (arith, e)) ∙ sym (ne-eqb d M e))
 
-ltb-not : (p q : ℕ) → ltb p q ≡ not (leb q p)
-ltb-not p q = go (leb q p) refl
-  where
-    go : (b : Bool) → leb q p ≡ b → ltb p q ≡ not b
-    go true e = le-ltb p q (leb-true q p e)
-    go false e = lt-ltb p q (leb-false q p e)
-
-module _ (s : Settings) (narrow : s .capacity ≤ 16) (few : s .workers ≤ 16) (l : List ℕ) (r : ℕ) (x : Bucket) (keeps : Keeps s l r x) where
+module _ (s : Settings) (narrow : s .capacity ≤ arraySize) (few : s .workers ≤ arraySize) (l : List ℕ) (r : ℕ) (x : Bucket)
+    (keeps : Keeps s l r x) where
   abbrev q : ℕ
   q = startOf s (record′ r)
 
   abbrev b : Body
   b = x .state .value .body
 
-  small : word l q ≤ s .capacity
-  small = rw (add-zero (startOf s (record′ r))) at (keeps .size)
+  -- the state that is loaded has all accounts of the record
+  abbrev y : BucketState
+  y = bucketAt l s q
 
-  pub looked-is : (a : ℕ) → lookedAt l s (startOf s (record′ r)) a ≡ looked (find (x .state .value .body .items) a)
-  unfolding lookedAt loadedState itemsOf sizeOf least
-  looked-is a =
-      let c : ℕ = least (word l q) (s .capacity) in
-      let fits : c ≤ 16 = rw (least-same (word l q) (s .capacity) small) (omega (arith, small)) in
-      let T : List ℕ = copied l (q + totalsFrom (s .capacity)) c in
-      found-copied l s q a c fits
-      ∙ ap (λ (n : ℕ). looked (find (pairs (take n (copied l (q + 6) c)) (take n T)) a)) (sym (least-same c 16 fits))
-      ∙ ap (λ (t : Table). looked (find t a)) (keeps .state .items)
+  pub loaded-all : bucketAt l s (startOf s (record′ r)) .count ≡ at s l (record′ r) recordCount
+  unfolding loadedState
+  loaded-all = least-same (at s l (record′ r) recordCount) (s .capacity) (keeps .size)
 
-  pub full-is : leb (s .capacity) (word l q) ≡ full s b
-  unfolding loadedState fullOf least
-  full-is = ap (leb (s .capacity)) (sym (least-same (word l q) (s .capacity) small)) ∙ full-means s _ _ (s .workers) (keeps .state)
+  pub looked-is :
+      wordsNeeded s ≤ length l → r < poolSize s → (a : ℕ)
+      → lookedAt l s (startOf s (record′ r)) a ≡ looked (find (x .state .value .body .items) a)
+  unfolding lookedAt searchOf foundAt totalAt looked signed loadedState
+  looked-is enough rn a =
+      ap (λ (xs : List ℕ). foundAt l s q (scan xs a 0)) accounts ∙ found (searchOf y a) below
+      ∙ ap looked (sym (find-search y (keeps .state .sound) a)) ∙ ap (λ (t : Table). looked (find t a)) (keeps .state .items)
+    where
+      c : ℕ
+      c = y .count
+
+      small : c ≤ s .capacity
+      small = loaded-count l q (s .capacity) (s .workers)
+
+      accounts : part l (accountsFrom q) (least (at s l (record′ r) recordCount) (s .capacity)) ≡ take (sizeOf y) (y .accounts)
+      accounts =
+          let e = length-copied l (accountsFrom q) c in
+          let n = length-take-le c (y .accounts) (omega (arith, small)) in
+          part-ext l (accountsFrom q) c (take c (y .accounts)) (omega (arith, small, record-inside s r rn)) n
+          (λ i h. sym (getD-take c (y .accounts) i 0 h ∙ getD-copied l (accountsFrom q) c i (omega (arith, small)) h))
+          ∙ ap (λ (k : ℕ). take k (y .accounts)) (sym (size-is y (keeps .state .sound .count)))
+
+      below : Among c (searchOf y a)
+      below =
+          let e = size-is y (keeps .state .sound .count) in
+          let long : 0 + length (take (sizeOf y) (y .accounts)) ≡ c = omega (arith, length-take (sizeOf y) (y .accounts)) in
+          subst (λ (k : ℕ). Among k (searchOf y a)) long (scan-among (take (sizeOf y) (y .accounts)) a 0)
+
+      found : (p : Position) → Among c p → foundAt l s q p ≡ looked (totalAt y p)
+      found (At i) h =
+          ap (λ (w : ℕ). Answer.Found (toZ w64 w)) (sym (getD-copied l (totalsFrom q (s .capacity)) c i (omega (arith, small)) h))
+      found (Before i) h = refl
+
+  pub full-is : fullBy s (at s l (record′ r) recordCount) ≡ full s b
+  full-is = ap (fullBy s) (sym loaded-all) ∙ full-means s _ _ (s .workers) (keeps .state)
+
+  pub holds-back-is : holdsBackAt l s (startOf s (record′ r)) ≡ holdsBack s (at s l (record′ r) recordDepth) (x .state .value .body)
+  holds-back-is =
+      let d : ℕ = at s l (record′ r) recordDepth in
+      ap (holdsBackBy s d) (sym loaded-all) ∙ holds-back-means s _ _ (s .workers) (keeps .state) d
+
+  pub splittable-is : splittableAt l s (startOf s (record′ r)) ≡ splittable s (at s l (record′ r) recordDepth) (x .state .value .body)
+  unfolding splittableBy splittable
+  splittable-is = λ i. full-is i and ltb (at s l (record′ r) recordDepth) (s .depth)
+
+  crowded-is : (d : ℕ) → at s l (record′ r) recordDepth ≡ d → d ≤ s .depth → crowdedAt l s q ≡ crowded s d b
+  unfolding crowdedBy crowded
+  crowded-is d f deep =
+      let late : leb (s .depth) (word l (q + recordDepth)) ≡ eqb d (s .depth) = ap (leb (s .depth)) f ∙ at-greatest (s .depth) d deep in
+      λ i. full-is i and late i
 
   module _ (w : ℕ) (wn : w < s .workers) where
-    pub ticket-is : settledWord l s q w ≡ b .settled w .ticket
+    pub ticket-is : settledTicket l s q w ≡ b .settled w .ticket
     unfolding loadedState settledOf
     ticket-is =
-        let e : q + 6 + s .capacity + s .capacity + w ≡ q + settledFrom (s .capacity) + w = omega arith in
-        ap (word l) e ∙ sym (getD-copied l (q + settledFrom (s .capacity)) (s .workers) w few wn)
+        sym (getD-copied l (settledFrom q (s .capacity)) (s .workers) w few wn)
         ∙ ap (λ (z : Settled). z .ticket) (keeps .state .settled w wn)
 
     -- a ticket above the one settled
-    pub unsettled-is : (t : ℕ) → ltb (settledWord l s (startOf s (record′ r)) w) t ≡ not (leb t (x .state .value .body .settled w .ticket))
+    pub unsettled-is :
+        (t : ℕ) → ltb (settledTicket l s (startOf s (record′ r)) w) t ≡ not (leb t (x .state .value .body .settled w .ticket))
     unsettled-is t = ltb-not _ t ∙ ap (λ (k : ℕ). not (leb t k)) ticket-is
 
-    answer-is : answerOf (answerWordAt l s q w) ≡ b .settled w .answer
+    answer-is : answerOf (settledAnswer l s q w) ≡ b .settled w .answer
     unfolding loadedState settledOf
     answer-is =
-        let e : q + 6 + s .capacity + s .capacity + s .workers + w ≡ q + answersFrom (s .capacity) (s .workers) + w = omega arith in
-        ap answerOf (ap (word l) e ∙ sym (getD-copied l (q + answersFrom (s .capacity) (s .workers)) (s .workers) w few wn))
+        ap answerOf (sym (getD-copied l (answersFrom q (s .capacity) (s .workers)) (s .workers) w few wn))
         ∙ ap (λ (z : Settled). z .answer) (keeps .state .settled w wn)
 
     pub checked-is :
-        (p t d : ℕ) → word l (p + 3) ≡ t → at s l (record′ r) 3 ≡ d → d ≤ s .depth
+        (p t d : ℕ) → word l (p + workerTicket) ≡ t → at s l (record′ r) recordDepth ≡ d → d ≤ s .depth
         → answered (checkedAt l s p (startOf s (record′ r)) w) ≡ checked s w t d (x .state .value .body)
-    unfolding checkedAt checked settledAt hopeless
+    unfolding checkedAt checked settledAt answerTotal
     checked-is p t d e f deep =
-        let late : leb (s .depth) (word l (q + 3)) ≡ eqb d (s .depth) = ap (leb (s .depth)) f ∙ deepest (s .depth) d deep in
-        if-ap answered (leb (word l (p + 3)) (settledWord l s q w)) _ _
+        let full-deep = crowded-is d f deep in
+        if-ap answered (leb (word l (p + workerTicket)) (settledTicket l s q w)) _ _
         ∙ (λ i. if leb (e i) (ticket-is i) then some (answer-is i) else
-        (if-ap answered (leb (s .capacity) (word l q) and leb (s .depth) (word l (q + 3))) (some 9) none
-        ∙ (λ j. if full-is j and late j then some (crowded j) else none)) i)
+        (if-ap answered (crowdedAt l s q) (some (answerNumber Crowded)) none
+        ∙ (λ j. if full-deep j then some (answer-back Crowded refl j) else none)) i)

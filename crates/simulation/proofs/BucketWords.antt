@@ -2,33 +2,35 @@
 -- Rests on the laws of loads and stores and on what a round means.
 use Prim.Native.Nat.{ℕ, zero, suc, _+_, _*_, _≤_, _<_}
 use native.Mathlib.Omega.{arith}
-use native.Mathlib.Nat.{add-zero}
 use mathlib.Core.Path.{_≡_, refl, ap, sym, _∙_, subst}
 use mathlib.Core.Logic.{_⊎_, ⊎-elim}
-use mathlib.Core.Bool.{Bool, true, not}
+use mathlib.Core.Bool.{Bool, true}
 use mathlib.Core.List.{List}
 use lib.Dec.{ltb, eqb}
 use lib.ListN.{length, getD, set, take}
 use lib.Seq.{ext-getD, length-take-le, getD-take, getD-set-other}
-use borrow.Author.Tests.{eq-eqb, leb-false, not-true, ltb-false}
-use Rattle.interface.specs.Limits.{inRange, Range}
+use borrow.Author.Tests.{not-true, ltb-false}
+use Rattle.interface.specs.Limits.{inRange, Range, greatestWorkers, greatestCapacity}
+use Rattle.interface.specs.Numbers.{kindInsert}
 use Rattle.interface.proofs.Laws.{range-of}
 use Rattle.interface.specs.declared.Settings.{Settings}
 use Rattle.machine.specs.Records.{State, Slot}
 use Rattle.machine.specs.BucketPass.{nextState}
-use Rattle.machine.specs.Words.{wordsNeeded}
-use Rattle.machine.proofs.Base.{if-elim, if-false, eq-elim, and-parts, and-left-false}
+use Rattle.fields.specs.Fields.{slotSize, workerToggle, workerSlots, recordCount, recordApplied, recordToggle, recordDepth, recordAccounts, accountsFrom, recordSize, widestRecord}
+use Rattle.fields.specs.Regions.{poolSize, wordsNeeded, record′, startOf}
+use Rattle.machine.proofs.Base.{if-elim, eq-elim, and-parts}
 use Rattle.bucket.specs.declared.BucketState.{BucketState}
-use Rattle.bucket.specs.declared.Place.{Place}
-use Rattle.bucket.specs.declared.Place.the-variants.{At, Before}
-use Rattle.bucket.specs.State.{sizeOf, fullOf, searchOf, putAt, putOf, removeAt, removeOf, settleOf, carryOf, bit, helpOf, helpedOf, roundOf}
+use Rattle.bucket.specs.declared.Descriptor.{Descriptor}
+use Rattle.bucket.specs.declared.Position.{Position}
+use Rattle.bucket.specs.declared.Position.the-variants.{At, Before}
+use Rattle.bucket.specs.State.{arraySize, sizeOf, searchOf, putOf, removeOf, settleOf, carryOf, bit, helpOf, helpedOf, withApplied, roundOf}
 use Rattle.bucket.specs.Items.{itemsOf, settledOf, bitsOf, slotOf, SoundSlots, Means}
+use Rattle.bucket.proofs.Laws.{size-is, room-left, pending-same, help-left}
 use Rattle.bucket.proofs.Ties.{round-means}
 use Rattle.lists.specs.Parts.{part}
-use Rattle.memory.specs.Layout.{record′, poolSize, startOf}
-use Rattle.memory.specs.Loads.{least, loadedState, storedState}
-use Rattle.memory.proofs.Regions.{record-inside}
-use Rattle.memory.proofs.States.{Sized, least-bound, least-same, loaded-kept, loaded-sized, loaded-count}
+use Rattle.memory.specs.Loads.{loadedState, storedState}
+use Rattle.fields.proofs.Regions.{record-inside}
+use Rattle.memory.proofs.States.{Sized, least-bound, loaded-kept, loaded-sized, loaded-count}
 use Rattle.memory.proofs.Trips.{Same, length-state, count-word, state-elsewhere, trip}
 use Rattle.layout.specs.Shape.{word}
 use Rattle.engine.specs.Engine.{roundAt}
@@ -38,11 +40,12 @@ use Rattle.simulation.specs.Meaning.{at}
 
 -- toggle, depth, prefix and number are no part of a state
 pub loaded-set :
-    (l : List ℕ) (q b n i v : ℕ) → 2 ≤ i → i < 6 → loadedState (set l (q + i) v) q b n ≡ loadedState l q b n
+    (l : List ℕ) (q b n i v : ℕ) → recordToggle ≤ i → i < recordAccounts → loadedState (set l (q + i) v) q b n ≡ loadedState l q b n
 loaded-set l q b n i v h g =
-    loaded-kept (set l (q + i) v) l q q b n (λ k d o. getD-set-other l (q + i) (q + k) v 0 (λ e. ⊎-elim (λ f. omega arith) (λ f. omega arith) o))
+    loaded-kept (set l (q + i) v) l q q b n
+    (λ k d o. getD-set-other l (q + i) (q + k) v 0 (λ e. ⊎-elim (λ f. omega arith) (λ f. omega arith) o))
 
-applied-loaded : (l : List ℕ) (q b n : ℕ) → loadedState l q b n .applied ≡ getD l (q + 1) 0
+applied-loaded : (l : List ℕ) (q b n : ℕ) → loadedState l q b n .applied ≡ getD l (q + recordApplied) 0
 unfolding loadedState
 applied-loaded l q b n = refl
 
@@ -55,12 +58,8 @@ take-same k l l′ h h′ same =
     ext-getD 0 (take k l′) (take k l) (e′ ∙ sym e)
     (λ i d. getD-take k l′ i 0 (omega arith) ∙ same i (omega arith) ∙ sym (getD-take k l i 0 (omega arith)))
 
-size-is : (x : BucketState) → x .count ≤ 16 → sizeOf x ≡ x .count
-unfolding sizeOf least
-size-is x h = least-same (x .count) 16 h
-
 module _ (x y : BucketState) (n : ℕ) (z : State) (sized : Sized y) (same : Same n x y) (m : Means x z n) where
-  few : y .count ≤ 16
+  few : y .count ≤ arraySize
   few = omega (arith, same .count, m .sound .count)
 
   same-accounts : take (y .count) (y .accounts) ≡ take (x .count) (x .accounts)
@@ -107,9 +106,10 @@ pub record Stored (s : Settings) (l l′ : List ℕ) (r : ℕ) (y : State) : Typ
   pub elsewhere :
       (i : ℕ)
       → (i < startOf s (record′ r))
-      ⊎ (((startOf s (record′ r) + 2 ≤ i) × (i < startOf s (record′ r) + 6)) ⊎ (startOf s (record′ r) + (2 * s .capacity + 2 * s .workers + 6) ≤ i))
+      ⊎ (((startOf s (record′ r) + recordToggle ≤ i) × (i < accountsFrom (startOf s (record′ r))))
+      ⊎ (startOf s (record′ r) + recordSize (s .capacity) (s .workers) ≤ i))
       → getD l′ i 0 ≡ getD l i 0
-  pub size : at s l′ (record′ r) 0 ≤ s .capacity
+  pub size : at s l′ (record′ r) recordCount ≤ s .capacity
   pub state : Means (loadedState l′ (startOf s (record′ r)) (s .capacity) (s .workers)) y (s .workers)
 
 module _ (s : Settings) (range : inRange (s .workers) (s .capacity) (s .depth) ≡ true) (l : List ℕ) (enough : wordsNeeded s ≤ length l)
@@ -125,18 +125,18 @@ module _ (s : Settings) (range : inRange (s .workers) (s .capacity) (s .depth) �
       → Stored s l (storedState l (startOf s (record′ r)) (s .capacity) (s .workers) x) r y
   stored-words x y m few =
       let h = limits in
-      let small : s .capacity ≤ 16 = omega arith in
-      let eight : s .workers ≤ 8 = omega arith in
+      let small : s .capacity ≤ greatestCapacity = omega arith in
+      let few-workers : s .workers ≤ greatestWorkers = omega arith in
       record {
-        same-length = length-state l q (s .capacity) (s .workers) x fits small eight sized;
-        elsewhere = state-elsewhere l q (s .capacity) (s .workers) x fits small eight sized;
-        size = rw (add-zero, count-word l q (s .capacity) (s .workers) x fits small eight sized) (least-bound (x .count) (s .capacity));
+        same-length = length-state l q (s .capacity) (s .workers) x fits small few-workers sized;
+        elsewhere = state-elsewhere l q (s .capacity) (s .workers) x fits small few-workers sized;
+        size = rw (count-word l q (s .capacity) (s .workers) x fits small few-workers sized) (least-bound (x .count) (s .capacity));
         state =
             same-means x _ (s .workers) y (loaded-sized _ q (s .capacity) (s .workers))
-            (trip l q (s .capacity) (s .workers) x fits small eight sized few) m;
+            (trip l q (s .capacity) (s .workers) x fits small few-workers sized few) m;
       }
     where
-      fits : q + 54 ≤ length l
+      fits : q + widestRecord ≤ length l
       fits = omega (arith, record-inside s r rn)
 
       sized : Sized x
@@ -148,54 +148,59 @@ module _ (s : Settings) (range : inRange (s .workers) (s .capacity) (s .depth) �
 module _ (x : BucketState) where
   pub size-bound : sizeOf x ≤ x .count
   unfolding sizeOf
-  size-bound = if-elim (λ (k : ℕ). k ≤ x .count) (ltb (x .count) 16) _ _ (λ e. omega arith) (λ e. omega (arith, ltb-false (x .count) 16 e))
+  size-bound =
+      if-elim (λ (k : ℕ). k ≤ x .count) (ltb (x .count) arraySize) _ _ (λ e. omega arith)
+      (λ e. omega (arith, ltb-false (x .count) arraySize e))
 
-  put-count : (a v : ℕ) (p : Place) → putAt x a v p .count ≤ x .count + 1
-  unfolding putAt
-  put-count a v (At i) = omega arith
-  put-count a v (Before i) =
-      if-elim (λ (z : BucketState). z .count ≤ x .count + 1) (ltb (sizeOf x) 16) _ _ (λ e. let h = size-bound in omega arith) (λ e. omega arith)
+  put-count : (p : Position) (a v : ℕ) → putOf x p a v .count ≤ x .count + 1
+  unfolding putOf
+  put-count (At i) a v = omega arith
+  put-count (Before i) a v =
+      if-elim (λ (z : BucketState). z .count ≤ x .count + 1) (ltb (sizeOf x) arraySize) _ _ (λ e. let h = size-bound in omega arith)
+      (λ e. omega arith)
 
-  remove-count : (p : Place) → removeAt x p .count ≤ x .count + 1
-  unfolding removeAt
+  remove-count : (p : Position) → removeOf x p .count ≤ x .count + 1
+  unfolding removeOf
   remove-count (At i) = let h = size-bound in omega arith
   remove-count (Before i) = omega arith
 
-  pub carry-count : (j kind a v t : ℕ) → carryOf x j kind a v t .count ≤ x .count + 1
-  unfolding carryOf settleOf putOf removeOf
-  carry-count j kind a v t =
-      if-elim (λ (z : BucketState). z .count ≤ x .count + 1) (eqb kind 1) _ _ (λ e. put-count a v (searchOf x a)) (λ e. remove-count (searchOf x a))
+  pub carry-count : (j : ℕ) (u : Descriptor) → carryOf x j u .count ≤ x .count + 1
+  unfolding carryOf settleOf
+  carry-count j u =
+      let p : Position = searchOf x (u .account) in
+      if-elim (λ (z : BucketState). z .count ≤ x .count + 1) (eqb (u .kind) kindInsert) _ _
+      (λ e. put-count p (u .account) (u .total)) (λ e. remove-count p)
 
-  help-count : (capacity toggle j kind a v t : ℕ) → x .count ≤ capacity → helpOf x capacity toggle j kind a v t .count ≤ capacity
-  unfolding helpOf fullOf
-  help-count capacity toggle j kind a v t h = if-elim (λ (z : BucketState). z .count ≤ capacity) _ _ _
-      (λ e. let k = carry-count j kind a v t in let f = leb-false capacity (x .count) (not-true _ (and-parts _ _ e .1)) in omega arith)
+  help-count : (s : Settings) (d toggle j : ℕ) (u : Descriptor) → x .count ≤ s .capacity → helpOf x s d toggle j u .count ≤ s .capacity
+  unfolding helpOf
+  help-count s d toggle j u h = if-elim (λ (z : BucketState). z .count ≤ s .capacity) _ _ _
+      (λ e. let k = carry-count j u in let f = room-left s d (x .count) (not-true _ (and-parts _ _ e .1)) in omega arith)
       (λ e. h)
 
-module _ (x : BucketState) (slots : List ℕ) (capacity toggle : ℕ) where
-  helped-count : (k : ℕ) → x .count ≤ capacity → helpedOf x slots capacity toggle k .count ≤ capacity
+module _ (x : BucketState) (slots : List ℕ) (s : Settings) (d toggle : ℕ) where
+  helped-count : (k : ℕ) → x .count ≤ s .capacity → helpedOf x slots s d toggle k .count ≤ s .capacity
   unfolding helpedOf
   helped-count zero h = h
-  helped-count (suc k) h = help-count (helpedOf x slots capacity toggle k) capacity toggle k _ _ _ _ (helped-count k h)
+  helped-count (suc k) h = help-count (helpedOf x slots s d toggle k) s d toggle k _ (helped-count k h)
 
-  round-count : (n : ℕ) → x .count ≤ capacity → roundOf x slots capacity toggle n .count ≤ capacity
-  unfolding roundOf
-  round-count n h = helped-count n h
+  round-count : x .count ≤ s .capacity → roundOf x slots s d toggle .count ≤ s .capacity
+  unfolding roundOf withApplied
+  round-count h = helped-count (s .workers) h
 
   -- where no bit differs nobody is helped
   module _ (e : toggle ≡ x .applied) where
-    quiet : (j kind a v t : ℕ) → helpOf x capacity toggle j kind a v t ≡ x
-    unfolding helpOf
-    quiet j kind a v t = if-false _ x (and-left-false _ (and-left-false _ (ap not (eq-eqb _ _ (ap (λ (k : ℕ). bit k j) e)))))
+    help-idle : (j : ℕ) (u : Descriptor) → helpOf x s d toggle j u ≡ x
+    help-idle j u =
+        help-left x s d toggle j u (pending-same toggle (x .applied) j (getD (x .settled) j 0) (u .ticket) (ap (λ (k : ℕ). bit k j) e))
 
-    helped-idle : (k : ℕ) → helpedOf x slots capacity toggle k ≡ x
+    helped-idle : (k : ℕ) → helpedOf x slots s d toggle k ≡ x
     unfolding helpedOf
     helped-idle zero = refl
-    helped-idle (suc k) = rw (helped-idle k) (quiet k _ _ _ _)
+    helped-idle (suc k) = rw (helped-idle k) (help-idle k _)
 
-    round-idle : (n : ℕ) → roundOf x slots capacity toggle n ≡ x
-    unfolding roundOf
-    round-idle n = let h = helped-idle n in
+    round-idle : roundOf x slots s d toggle ≡ x
+    unfolding roundOf withApplied
+    round-idle = let h = helped-idle (s .workers) in
         λ i. record {
           accounts = h i .accounts;
           totals = h i .totals;
@@ -208,31 +213,39 @@ module _ (x : BucketState) (slots : List ℕ) (capacity toggle : ℕ) where
 -- The words of record r, which keeps state y, after a round with the toggle bits and the slots that the worker at p has read.
 module _ (s : Settings) (range : inRange (s .workers) (s .capacity) (s .depth) ≡ true) (l : List ℕ) (enough : wordsNeeded s ≤ length l)
     (r : ℕ) (rn : r < poolSize s) (p : ℕ) (y : State) (bits : ℕ → Bool) (slots : ℕ → Slot) where
+  -- the record's state, the bucket's depth, and the words of the slots read
+  abbrev before : BucketState
+  before = loadedState l (startOf s (record′ r)) (s .capacity) (s .workers)
+
+  abbrev depth : ℕ
+  depth = at s l (record′ r) recordDepth
+
+  abbrev read : List ℕ
+  read = part l (p + workerSlots) (slotSize * s .workers)
+
+  abbrev next : State
+  next = nextState s depth y bits slots
+
   pub round-words :
-      at s l (record′ r) 0 ≤ s .capacity → Means (loadedState l (startOf s (record′ r)) (s .capacity) (s .workers)) y (s .workers)
-      → ((j : ℕ) → j < s .workers → bitsOf (word l (p + 7)) j ≡ bits j) → SoundSlots (part l (p + 24) (4 * s .workers)) (s .workers)
-      → ((j : ℕ) → j < s .workers → slotOf (part l (p + 24) (4 * s .workers)) j ≡ slots j)
-      → Stored s l (roundAt l s p (startOf s (record′ r))) r (nextState s y bits slots)
+      at s l (record′ r) recordCount ≤ s .capacity → Means before y (s .workers)
+      → ((j : ℕ) → j < s .workers → bitsOf (word l (p + workerToggle)) j ≡ bits j) → SoundSlots read (s .workers)
+      → ((j : ℕ) → j < s .workers → slotOf read j ≡ slots j)
+      → Stored s l (roundAt l s p (startOf s (record′ r))) r next
   unfolding roundAt
-  round-words size state toggle sound read =
-      eq-elim (λ l′. Stored s l l′ r (nextState s y bits slots)) (word l (p + 7)) (word l (startOf s (record′ r) + 1)) _ _
+  round-words size state toggle sound same =
+      eq-elim (λ l′. Stored s l l′ r next) (word l (p + workerToggle)) (at s l (record′ r) recordApplied) _ _
       (λ e. record {
         same-length = refl;
         elsewhere = λ i h. refl;
         size = size;
-        state = subst (λ (x : BucketState). Means x (nextState s y bits slots) (s .workers))
-            (round-idle before (part l (p + 24) (4 * s .workers)) (s .capacity) (word l (p + 7))
-            (e ∙ sym (applied-loaded l (startOf s (record′ r)) (s .capacity) (s .workers))) (s .workers)) after;
+        state = subst (λ (x : BucketState). Means x next (s .workers))
+            (round-idle before read s depth (word l (p + workerToggle))
+            (e ∙ sym (applied-loaded l (startOf s (record′ r)) (s .capacity) (s .workers)))) after;
       })
       (λ d. stored-words s range l enough r rn _ _ after
-      (round-count before _ (s .capacity) _ (s .workers) (loaded-count l (startOf s (record′ r)) (s .capacity) (s .workers))))
+      (round-count before read s depth _ (loaded-count l (startOf s (record′ r)) (s .capacity) (s .workers))))
     where
-      before : BucketState
-      before = loadedState l (startOf s (record′ r)) (s .capacity) (s .workers)
-
-      after :
-          Means (roundOf before (part l (p + 24) (4 * s .workers)) (s .capacity) (word l (p + 7)) (s .workers))
-          (nextState s y bits slots) (s .workers)
+      after : Means (roundOf before read s depth (word l (p + workerToggle))) next (s .workers)
       after =
           let h = limits s range l enough r rn in
-          round-means s (omega arith) (omega arith) _ (word l (p + 7)) _ y bits slots state toggle sound read
+          round-means s depth (omega arith) (omega arith) before (word l (p + workerToggle)) read y bits slots state toggle sound same

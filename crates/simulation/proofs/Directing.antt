@@ -11,17 +11,16 @@ use lib.ListN.{length, getD, replicate, length-replicate, getD-replicate}
 use lib.Pow.{pow-pos, pow-add, high}
 use Rattle.interface.specs.declared.Settings.{Settings}
 use Rattle.machine.specs.Choice.{if_then_else_}
-use Rattle.machine.specs.Words.{wordsNeeded}
+use Rattle.fields.specs.Regions.{directoryStart, wordsNeeded, Region, startOf, regionSize, Within, entry}
 use Rattle.machine.proofs.Base.{eq-elim}
 use Rattle.lists.specs.Parts.{overlay}
-use Rattle.memory.specs.Layout.{Region, entry, directoryAt, startOf, sizeOf, Within}
-use Rattle.memory.proofs.Regions.{region-inside, regions-apart}
+use Rattle.fields.proofs.Regions.{region-inside, regions-apart}
 use Rattle.lists.proofs.PartLaws.{length-overlay, getD-overlay-in, getD-overlay-before, getD-overlay-after}
 use Rattle.layout.specs.Records.{firstEntry}
 use Rattle.simulation.specs.Meaning.{at}
 use Rattle.simulation.proofs.Frames.{entry-wide}
 
-entry-at : (s : Settings) (e : ℕ) → startOf s (entry e) ≡ directoryAt s + e
+entry-at : (s : Settings) (e : ℕ) → startOf s (entry e) ≡ directoryStart (s .workers) + e
 unfolding startOf
 entry-at s e = refl
 
@@ -61,10 +60,10 @@ module _ (s : Settings) (l : List ℕ) (enough : wordsNeeded s ≤ length l) (d 
       here (λ z. by-cases (decLt e (q * k)) before
       (λ b. by-cases (decLt e (q * k + k)) (λ c. absurd (z (within-it (omega arith) c))) (λ c. after (omega arith))))
     where
-      place : startOf s (entry e) + 0 ≡ directoryAt s + e
-      place = rw entry-at (omega arith)
+      entry-here : startOf s (entry e) + 0 ≡ directoryStart (s .workers) + e
+      entry-here = rw entry-at (omega arith)
 
-      start : startOf s (entry (firstEntry s d q)) ≡ directoryAt s + q * k
+      start : startOf s (entry (firstEntry s d q)) ≡ directoryStart (s .workers) + q * k
       start = rw (entry-at, first)
 
       within-it : q * k ≤ e → e < q * k + k → e / k ≡ q
@@ -74,32 +73,38 @@ module _ (s : Settings) (l : List ℕ) (enough : wordsNeeded s ≤ length l) (d 
       here z =
           let m = mod-lt e (pow-pos (s .depth - d)) in
           let w : q * k + e % k ≡ e = rw (← z) (div-add-mod' e k) in
-          let p = place in
+          let p = entry-here in
           let o = start in
           let v : startOf s (entry e) + 0 ≡ startOf s (entry (firstEntry s d q)) + e % k = omega arith in
-          ap (λ (i : ℕ). getD directed i 0) v ∙ getD-overlay-in l _ (replicate k r) fits (e % k) (rw long m) ∙ getD-replicate k (e % k) r 0 m
+          ap (λ (i : ℕ). getD directed i 0) v ∙ getD-overlay-in l _ (replicate k r) fits (e % k) (rw long m)
+          ∙ getD-replicate k (e % k) r 0 m
 
       before : e < q * k → at s directed (entry e) 0 ≡ at s l (entry e) 0
-      before b = let p = place in let o = start in getD-overlay-before l _ (replicate k r) fits (startOf s (entry e) + 0) (omega arith)
+      before b = let p = entry-here in let o = start in getD-overlay-before l _ (replicate k r) fits (startOf s (entry e) + 0) (omega arith)
 
       after : q * k + k ≤ e → at s directed (entry e) 0 ≡ at s l (entry e) 0
-      after b = let p = place in let o = start in let g = long in getD-overlay-after l _ (replicate k r) fits (startOf s (entry e) + 0) (omega arith)
+      after b =
+          let p = entry-here in
+          let o = start in
+          let g = long in
+          getD-overlay-after l _ (replicate k r) fits (startOf s (entry e) + 0) (omega arith)
 
   -- a region that is no entry
-  pub directed-other : (v : Region) (i : ℕ) → Within s v → i < sizeOf s v → ((e : ℕ) → v ≢ entry e) → at s directed v i ≡ at s l v i
+  pub directed-other : (v : Region) (i : ℕ) → Within s v → i < regionSize s v → ((e : ℕ) → v ≢ entry e) → at s directed v i ≡ at s l v i
   directed-other v i w h n =
-      let o : startOf s (entry (firstEntry s d q)) ≡ directoryAt s + q * k = rw (entry-at, first) in
+      let o : startOf s (entry (firstEntry s d q)) ≡ directoryStart (s .workers) + q * k = rw (entry-at, first) in
       let g = long in
-      by-cases (decLt (startOf s v + i) (directoryAt s + q * k)) (λ b. getD-overlay-before l _ (replicate k r) fits (startOf s v + i) (omega arith))
-      (λ b. by-cases (decLt (startOf s v + i) (directoryAt s + q * k + k)) (λ c. absurd (between (omega arith) c))
+      by-cases (decLt (startOf s v + i) (directoryStart (s .workers) + q * k))
+      (λ b. getD-overlay-before l _ (replicate k r) fits (startOf s v + i) (omega arith))
+      (λ b. by-cases (decLt (startOf s v + i) (directoryStart (s .workers) + q * k + k)) (λ c. absurd (between (omega arith) c))
       (λ c. getD-overlay-after l _ (replicate k r) fits (startOf s v + i) (omega arith)))
     where
-      between : directoryAt s + q * k ≤ startOf s v + i → startOf s v + i < directoryAt s + q * k + k → ⊥
+      between : directoryStart (s .workers) + q * k ≤ startOf s v + i → startOf s v + i < directoryStart (s .workers) + q * k + k → ⊥
       between a b =
           let m = last in
-          let e : ℕ = startOf s v + i - directoryAt s in
+          let e : ℕ = startOf s v + i - directoryStart (s .workers) in
           let p = entry-at s e in
           let z = entry-wide s e in
-          ⊎-elim (λ (c : startOf s v + sizeOf s v ≤ startOf s (entry e)). omega arith)
-          (λ (c : startOf s (entry e) + sizeOf s (entry e) ≤ startOf s v). omega arith)
+          ⊎-elim (λ (c : startOf s v + regionSize s v ≤ startOf s (entry e)). omega arith)
+          (λ (c : startOf s (entry e) + regionSize s (entry e) ≤ startOf s v). omega arith)
           (regions-apart s v (entry e) w (omega arith) (n e))

@@ -6,6 +6,7 @@ use mathlib.Core.Path.{_≡_, refl, ap, ap₂, sym, _∙_, subst, subst⁻¹}
 use mathlib.Core.List.{List}
 use mathlib.Core.Option.{Option, none, some}
 use lib.ListN.{set}
+use Rattle.interface.specs.Numbers.{kindNone}
 use Rattle.interface.proofs.Laws.{range-of}
 use Rattle.interface.specs.declared.Settings.{Settings}
 use Rattle.interface.specs.declared.Answer.{Answer}
@@ -13,31 +14,35 @@ use Rattle.interface.specs.declared.Stepped.{Stepped}
 use Rattle.machine.specs.Choice.{if_then_else_, assign}
 use Rattle.machine.specs.Sequential.{Operation, lookup, find, looked}
 use Rattle.machine.specs.Records.{Name, Reads, Machine}
-use Rattle.machine.specs.Steps.{counted, reported}
+use Rattle.machine.specs.Steps.{counted, stepReply}
 use Rattle.machine.specs.BucketPass.{checked}
-use Rattle.machine.proofs.Whereabouts.{Holds}
+use Rattle.machine.proofs.Base.{if-eq}
+use Rattle.machine.proofs.CounterFacts.{HoldsBucket}
 use Rattle.machine.proofs.Counter.{Two, one, two, PC, idle, look₂, checkS, afterC}
-use Rattle.machine.proofs.Copies.{grove-of}
-use Rattle.machine.proofs.Inv.{Task, Hold, body, ReadFacts, Looking, about, target, held, own}
-use Rattle.machine.proofs.Transitions.{taskOf, tasksOf, ended, lookupPlace}
+use Rattle.machine.proofs.Copies.{partition-of}
+use Rattle.machine.proofs.Inv.{Task, Hold, body, ReadFacts, Looking, about, target, held}
+use Rattle.machine.proofs.Transitions.{taskOf, tasksOf, endedTask, lookupCounter}
+use Rattle.bucket.specs.declared.Descriptor.{Descriptor}
+use Rattle.bucket.specs.State.{descriptorIn}
 use Rattle.bucket.specs.Items.{answerOf}
-use Rattle.memory.specs.Layout.{worker, startOf}
+use Rattle.fields.specs.Fields.{workerKind, workerAccount, workerTotal, workerTicket, workerSteps, workerToggle, workerMarks, recordDepth}
+use Rattle.fields.specs.Regions.{startOf, worker}
 use Rattle.layout.specs.Shape.{word}
-use Rattle.layout.specs.Places.{heldBy}
+use Rattle.layout.specs.Addresses.{heldBy}
 use Rattle.engine.specs.Engine.{checkedAt}
 use Rattle.table.specs.Turns.{stepIn, updateAt, lookupAt, endedAt, lookedAt, checkAt}
 use Rattle.simulation.specs.Meaning.{at, operationIn}
-use Rattle.simulation.proofs.Entering.{raised, place-is, is-about, lookup-enters}
+use Rattle.simulation.proofs.Entering.{raised, counter-is, is-about, lookup-enters}
 use Rattle.simulation.proofs.Answering.{answered, looked-is, checked-is}
 use Rattle.simulation.proofs.Frames.{record-wide, own-record}
-use Rattle.simulation.proofs.OwnWorker.{worker-means, nowhere, Ready, Next, Words, Free, words-here, words-set, words-first, mine-means, slots-kept, toggle-kept, Onward, own₁, beside₁, free, mine, at-mine, keeps₁, announced-at, plan-step, stays}
+use Rattle.simulation.proofs.OwnWorker.{worker-means, nowhere, Ready, Next, Words, Free, words-here, words-set, mine-means, slots-kept, toggle-kept, Onward, enough₁, own₁, beside₁, free, mine, at-mine, keeps₁, announced-at, plan-step, stays}
 
-operation-none : (a v : ℕ) → operationIn 0 a v ≡ none
-unfolding operationIn if_then_else_
-operation-none a v = refl
+operation-none : (d : Descriptor) → d .kind ≡ kindNone → operationIn d ≡ none
+unfolding operationIn
+operation-none d e = if-eq (d .kind) kindNone _ _ e
 
 -- a lookup at its second step
-look-second : (i : ℕ) → lookupPlace i ≡ look₂ → i ≡ 1
+look-second : (i : ℕ) → lookupCounter i ≡ look₂ → i ≡ 1
 look-second zero e = let z : _≡_ {A = ℕ} 0 1 = cc in absurd (omega arith)
 look-second (suc zero) e = refl
 look-second (suc (suc i)) e = let z : _≡_ {A = ℕ} 0 1 = cc in absurd (omega arith)
@@ -58,44 +63,45 @@ module _ {s : Settings} {l : List ℕ} {m : Machine} {w : ℕ} (ready : Ready s 
   -- the words after it mean the machine whose worker is idle again
   abbrev pub Ends : Answer → Type 0
   Ends a =
-      (y : Reads) → taskOf (s .workers) (counted (m .workers w) y (some a)) ≡ ended (tasksOf s m w) (m .workers w .reads)
+      (y : Reads) → taskOf (s .workers) (counted (m .workers w) y (some a)) ≡ endedTask (tasksOf s m w) (m .workers w .reads)
       → Next ready (m .cells) y (some a)
 
   ends : (a : Answer) → stepIn l s w ≡ endedAt l₁ me (m .workers w .steps) a → Ends a
-  unfolding endedAt counted reported assign if_then_else_
+  unfolding endedAt counted stepReply assign if_then_else_ descriptorIn
   ends a e y g =
       let read : y ≡ k .reads = ap (λ (q : Task). q .reads) g in
       rw (e, read, add-one) (
         mine-means ready l₂ (record { last = m .workers w .last; operation = none; steps = 0; reads = k .reads }) idle refl (words .own)
             (record {
-              operation = rw (words .are 0 (omega arith)) (operation-none _ _);
-              narrow = rw (words .are 1 (omega arith)) (worker-means ready .narrow);
-              fits = rw (words .are 2 (omega arith)) (worker-means ready .fits);
-              ticket = words .are 3 (omega arith) ∙ worker-means ready .ticket;
-              steps = words .are 4 (omega arith);
+              operation = operation-none _ (words .are workerKind (omega arith));
+              narrow = rw (words .are workerAccount (omega arith)) (worker-means ready .narrow);
+              fits = rw (words .are workerTotal (omega arith)) (worker-means ready .fits);
+              ticket = words .are workerTicket (omega arith) ∙ worker-means ready .ticket;
+              steps = words .are workerSteps (omega arith);
             })
-            (toggle-kept ready l₂ (words .are 7 (omega arith))) (slots-kept ready l₂ (words .late))
-            (free ready l₂ _ idle nowhere (words .are 9 (omega arith))),
+            (toggle-kept ready l₂ (words .are workerToggle (omega arith))) (slots-kept ready l₂ (words .late))
+            (free ready l₂ _ idle nowhere (words .are workerMarks (omega arith))),
         refl,
       )
     where
       l₂ : List ℕ
-      l₂ = set (set l₁ me 0) (me + 4) 0
+      l₂ = set (set l₁ (me + workerKind) kindNone) (me + workerSteps) 0
 
       f₁ : ℕ → ℕ
-      f₁ = assign (at s l (worker w)) 4 (suc (m .workers w .steps))
+      f₁ = assign (at s l (worker w)) workerSteps (suc (m .workers w .steps))
 
       words₁ : Words s w l l₁ f₁
-      words₁ = words-set s w (ready .known) l (ready .means .lent) l _ (words-here s w l) 4 _ (omega arith)
+      words₁ = words-set s w (ready .known) l (ready .means .lent) l _ (words-here s w l) workerSteps _ (omega arith)
 
-      words₂ : Words s w l (set l₁ me 0) (assign f₁ 0 0)
-      words₂ = words-first s w (ready .known) l (ready .means .lent) l₁ _ words₁ 0
+      words₂ : Words s w l (set l₁ (me + workerKind) kindNone) (assign f₁ workerKind kindNone)
+      words₂ = words-set s w (ready .known) l (ready .means .lent) l₁ _ words₁ workerKind kindNone (omega arith)
 
-      words : Words s w l l₂ (assign (assign f₁ 0 0) 4 0)
-      words = words-set s w (ready .known) l (ready .means .lent) _ _ words₂ 4 0 (omega arith)
+      words : Words s w l l₂ (assign (assign f₁ workerKind kindNone) workerSteps 0)
+      words = words-set s w (ready .known) l (ready .means .lent) _ _ words₂ workerSteps 0 (omega arith)
 
-  target-is : (o : Operation) → m .workers w .operation ≡ some o → target k ≡ at s l (worker w) 1
-  target-is o e = ap about e ∙ is-about _ _ _ o (worker-means ready .operation ∙ e)
+  target-is : (o : Operation) → m .workers w .operation ≡ some o → target k ≡ at s l (worker w) workerAccount
+  unfolding descriptorIn
+  target-is o e = ap about e ∙ is-about (descriptorIn l me) o (worker-means ready .operation ∙ e)
 
   -- what the machine finds
   abbrev pub sought : Answer
@@ -108,20 +114,22 @@ module _ {s : Settings} {l : List ℕ} {m : Machine} {w : ℕ} (ready : Ready s 
       a : Looking s (m .cells) w k
       a = announced-at ready look₂ e
 
-      h : Holds (k .pc)
-      h = subst⁻¹ Holds e tt
+      h : HoldsBucket (k .pc)
+      h = subst⁻¹ HoldsBucket e tt
 
       second : m .workers w .steps ≡ 1
-      second = look-second _ (place-is s m w (a .asks) e)
+      second = look-second _ (counter-is s m w (a .asks) e)
 
-      asked : word l₁ (me + 1) ≡ target k
+      asked : word l₁ (me + workerAccount) ≡ target k
       asked =
-          beside₁ ready 1 (omega arith) (λ g. omega arith) ∙ sym (target-is (lookup (a .wanted)) (a .asks))
+          beside₁ ready workerAccount (omega arith) (λ g. omega arith) ∙ sym (target-is (lookup (a .wanted)) (a .asks))
 
-      answer : lookedAt l₁ s (heldBy l₁ me) (word l₁ (me + 1)) ≡ sought
+      answer : lookedAt l₁ s (heldBy l₁ me) (word l₁ (me + workerAccount)) ≡ sought
       answer =
           let limits = range-of (s .workers) (s .capacity) (s .depth) (ready .range) in
-          ap₂ (lookedAt l₁ s) (at-mine ready h) asked ∙ looked-is s (omega arith) (omega arith) l₁ (mine ready h .0) _ (keeps₁ ready h) (target k)
+          ap₂ (lookedAt l₁ s) (at-mine ready h) asked
+          ∙ looked-is s (omega arith) (omega arith) l₁ (mine ready h .0) _ (keeps₁ ready h) (enough₁ ready) (mine ready h .1 .inPool)
+          (target k)
 
       go : lookupAt l₁ s me (m .workers w .steps) ≡ endedAt l₁ me (m .workers w .steps) sought
       go = ap (lookupAt l₁ s me) second ∙ ap (endedAt l₁ me 1) answer ∙ ap (λ (i : ℕ). endedAt l₁ me i sought) (sym second)
@@ -138,14 +146,15 @@ module _ {s : Settings} {l : List ℕ} {m : Machine} {w : ℕ} (ready : Ready s 
 
     check-finds : answered found ≡ checked s w (k .ticket) (held k .depth) (body (m .cells) (held k))
     check-finds =
-        let h : Holds (k .pc) = subst⁻¹ Holds e tt in
+        let h : HoldsBucket (k .pc) = subst⁻¹ HoldsBucket e tt in
         let limits = range-of (s .workers) (s .capacity) (s .depth) (ready .range) in
-        let hold : Hold s (m .cells) w k = subst (λ (pc : PC). ReadFacts s pc (m .cells) w k) e (ready .good .own w (ready .known) .read) .0 in
-        let deep : held k .depth ≤ s .depth = omega (arith, grove-of _ (ready .good .directory) .bound (target k)) in
-        let three = own-record (own₁ ready) (mine ready h .0) (mine ready h .1 .within) 3 (rw record-wide (omega arith)) in
+        let hold : Hold s (m .cells) w k =
+        subst (λ (pc : PC). ReadFacts s pc (m .cells) w k) e (ready .good .own w (ready .known) .read) .0 in
+        let deep : held k .depth ≤ s .depth = omega (arith, partition-of _ (ready .good .directory) .bound (target k)) in
+        let depth-same = own-record (own₁ ready) (mine ready h .0) (mine ready h .1 .inPool) recordDepth (rw record-wide (omega arith)) in
         rw (at-mine ready h) (checked-is s (omega arith) (omega arith) l₁ (mine ready h .0) _ (keeps₁ ready h) w (ready .known) _ _ _
-        (beside₁ ready 3 (omega arith) (λ g. omega arith) ∙ worker-means ready .ticket)
-        (three ∙ ap (λ (z : Name). z .depth) (mine ready h .2)) deep)
+        (beside₁ ready workerTicket (omega arith) (λ g. omega arith) ∙ worker-means ready .ticket)
+        (depth-same ∙ ap (λ (z : Name). z .depth) (mine ready h .2)) deep)
 
     pub answers-means :
         (a : Answer) → checked s w (k .ticket) (held k .depth) (body (m .cells) (held k)) ≡ some a → Ends a

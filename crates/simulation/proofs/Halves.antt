@@ -11,7 +11,8 @@ use Rattle.interface.specs.declared.Settings.{Settings}
 use Rattle.machine.specs.Choice.{if_then_else_}
 use Rattle.machine.specs.Records.{Name, Body, newBucket}
 use Rattle.machine.specs.DirectoryPass.{half}
-use Rattle.memory.specs.Layout.{Region, header, slot, worker, entry, record′, poolSize, startOf, sizeOf, Within}
+use Rattle.fields.specs.Fields.{headerDepth, headerSpare, headerSize, workerHeld, recordDepth, recordPrefix}
+use Rattle.fields.specs.Regions.{poolSize, Region, record′, startOf, regionSize, Within, slot, worker, entry, header}
 use Rattle.layout.specs.Shape.{word}
 use Rattle.layout.specs.Records.{firstEntry}
 use Rattle.simulation.specs.Meaning.{at, nameIn, Keeps}
@@ -29,27 +30,27 @@ module _ (s : Settings) where
   abbrev pub SameRecord : List ℕ → List ℕ → ℕ → Type 0
   SameRecord l l′ r = SameWords s l l′ (record′ r)
 
-  -- what is left of l in l′: all but the directory, the pool, and the header's depth and place in the pool
+  -- what is left of l in l′: all but the directory, the pool, and the header's depth and next spare record
   pub record Frame (l l′ : List ℕ) : Type 0 where
     pub same-length : length l′ ≡ length l
-    pub left : (q : Region) (i : ℕ) → Within s q → Left q → i < sizeOf s q → at s l′ q i ≡ at s l q i
-    pub header : (i : ℕ) → i < 16 → i ≢ 2 → i ≢ 4 → word l′ i ≡ word l i
+    pub left : (q : Region) (i : ℕ) → Within s q → Left q → i < regionSize s q → at s l′ q i ≡ at s l q i
+    pub header : (i : ℕ) → i < headerSize → i ≢ headerDepth → i ≢ headerSpare → word l′ i ≡ word l i
 
   -- the directory does not name the record at the first entry of the bucket that it says
   abbrev pub Spare : List ℕ → ℕ → Type 0
-  Spare l r = at s l (entry (firstEntry s (at s l (record′ r) 3) (at s l (record′ r) 4))) 0 ≢ startOf s (record′ r)
+  Spare l r = at s l (entry (firstEntry s (at s l (record′ r) recordDepth) (at s l (record′ r) recordPrefix))) 0 ≢ startOf s (record′ r)
 
   -- l′ is l with the directory's depth at least d
   pub record Deepened (l l′ : List ℕ) (d : ℕ) : Type 0 where
     pub frame : Frame l l′
-    pub depth : word l′ 2 ≡ if ltb (word l 2) d then d else word l 2
+    pub depth : word l′ headerDepth ≡ if ltb (word l headerDepth) d then d else word l headerDepth
     pub entries : (e : ℕ) → e < 2 ^ s .depth → at s l′ (entry e) 0 ≡ at s l (entry e) 0
     pub records : (t : ℕ) → t < poolSize s → SameRecord l l′ t
 
   -- l′ is l with another state in record r
   pub record Restated (l l′ : List ℕ) (r : ℕ) : Type 0 where
     pub frame : Frame l l′
-    pub depth : word l′ 2 ≡ word l 2
+    pub depth : word l′ headerDepth ≡ word l headerDepth
     pub entries : (e : ℕ) → e < 2 ^ s .depth → at s l′ (entry e) 0 ≡ at s l (entry e) 0
     pub others : (t : ℕ) → t < poolSize s → t ≢ r → SameRecord l l′ t
     pub name : nameIn s l′ r ≡ nameIn s l r
@@ -57,9 +58,9 @@ module _ (s : Settings) where
   -- l′ is l with bucket x, whose body is that half of b, in the spare record r
   pub record Halved (l l′ : List ℕ) (x : Name) (b : Body) (r : ℕ) : Type 0 where
     pub frame : Frame l l′
-    pub depth : word l′ 2 ≡ word l 2
-    pub within : r < poolSize s
-    pub unheld : (j : ℕ) → j < s .workers → at s l (worker j) 5 ≢ startOf s (record′ r)
+    pub depth : word l′ headerDepth ≡ word l headerDepth
+    pub inPool : r < poolSize s
+    pub unheld : (j : ℕ) → j < s .workers → at s l (worker j) workerHeld ≢ startOf s (record′ r)
     pub spare : Spare l r
     pub entries :
         (e : ℕ) → e < 2 ^ s .depth
@@ -69,12 +70,13 @@ module _ (s : Settings) where
     pub keeps : Keeps s l′ r (newBucket (half x b))
 
   -- the record that a worker refers to is a word that is left
-  pub frame-refers : {l l′ : List ℕ} → Frame l l′ → (j : ℕ) → j < s .workers → at s l′ (worker j) 5 ≡ at s l (worker j) 5
-  frame-refers f j h = f .left (worker j) 5 h tt (rw worker-wide (omega arith))
+  pub frame-refers : {l l′ : List ℕ} → Frame l l′ → (j : ℕ) → j < s .workers → at s l′ (worker j) workerHeld ≡ at s l (worker j) workerHeld
+  frame-refers f j h = f .left (worker j) workerHeld h tt (rw worker-wide (omega arith))
 
   -- a change inside a region that is not left
   pub inside-frame :
-      {l l′ : List ℕ} (q : Region) → (Left q → ⊥) → Inside s q l l′ → ((i : ℕ) → i < 16 → i ≢ 2 → i ≢ 4 → word l′ i ≡ word l i) → Frame l l′
+      {l l′ : List ℕ} (q : Region) → (Left q → ⊥) → Inside s q l l′
+      → ((i : ℕ) → i < headerSize → i ≢ headerDepth → i ≢ headerSpare → word l′ i ≡ word l i) → Frame l l′
   inside-frame q n f h = record { same-length = f .same-length; left = λ v i w k b. f .same v i w b (λ e. n (subst Left e k)); header = h }
 
   pub frame-refl : (l : List ℕ) → Frame l l

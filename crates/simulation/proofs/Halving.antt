@@ -1,5 +1,5 @@
 -- One half of a split bucket, made in a spare record and named by the bucket's entries. Rests on the words' stores and on spare records.
-use Prim.Native.Nat.{ℕ, zero, suc, _+_, _-_, _/_, _^_, _≤_, _<_}
+use Prim.Native.Nat.{ℕ, suc, _+_, _-_, _/_, _^_, _≤_, _<_}
 use native.Mathlib.Omega.{arith}
 use native.Mathlib.Nat.{zero-add}
 use mathlib.Core.Path.{_≡_, refl, ap, _∙_, subst, subst⁻¹}
@@ -7,26 +7,25 @@ use mathlib.Core.Logic.{_≢_, inr}
 use mathlib.Core.Bool.{true, false}
 use mathlib.Core.List.{List}
 use lib.Dec.{eqb}
-use lib.ListN.{length, getD, set, replicate, length-append}
+use lib.ListN.{length, set, replicate}
 use lib.Seq.{getD-set-other}
 use Rattle.interface.specs.Limits.{inRange}
 use Rattle.interface.specs.declared.Settings.{Settings}
-use Rattle.interface.proofs.Laws.{range-of}
 use Rattle.machine.specs.Choice.{if_then_else_}
 use Rattle.machine.specs.Records.{Name, State, newBucket}
-use Rattle.machine.specs.Words.{wordsNeeded}
+use Rattle.fields.specs.Fields.{headerDepth, headerSpare, headerSize, recordToggle, recordDepth, recordPrefix, recordNumber, recordAccounts}
+use Rattle.fields.specs.Regions.{poolSize, wordsNeeded, Region, record′, startOf, regionSize, Within, header, entry}
 use Rattle.machine.specs.DirectoryPass.{half}
-use Rattle.machine.proofs.Base.{if-elim}
 use Rattle.lists.specs.Parts.{overlay}
-use Rattle.memory.specs.Layout.{Region, header, entry, record′, startOf, sizeOf, Within, poolSize, recordSize, workerSize, workersAt, directoryAt, poolAt}
 use Rattle.memory.specs.Loads.{storedState}
 use Rattle.bucket.specs.declared.BucketState.{BucketState}
 use Rattle.bucket.specs.State as State
-use Rattle.bucket.specs.State.{prefixOf, keeps, halfOf}
+use Rattle.bucket.specs.State.{halfOf}
 use Rattle.bucket.specs.Items.{bitsOf, Means}
+use Rattle.bucket.proofs.Laws.{length-keeps}
 use Rattle.bucket.proofs.Ties.{half-means}
-use Rattle.layout.specs.Shape.{word, directoryStart}
-use Rattle.layout.specs.Records.{recordStart, firstEntry, spareOf}
+use Rattle.layout.specs.Shape.{word}
+use Rattle.layout.specs.Records.{firstEntry, spareOf}
 use Rattle.engine.specs.Splits.{madeAt, directedAt, halfAt}
 use Rattle.simulation.specs.Meaning.{at, Keeps}
 use Rattle.simulation.proofs.Frames.{at-here, header-start, header-wide, record-wide, keeps-same, Inside, inside-trans, set-inside}
@@ -39,16 +38,9 @@ use Rattle.simulation.proofs.Halves.{Left, Frame, frame-trans, SameReco
 
 -- ---- a half has no more accounts than the whole
 
-keeps-few : (l : List ℕ) (d q k : ℕ) → length (keeps l d q k) ≤ k
-unfolding keeps
-keeps-few l d q zero = omega arith
-keeps-few l d q (suc k) =
-    if-elim (λ (p : List ℕ). length p ≤ suc k) (eqb (prefixOf (getD l k 0) d) q) _ _
-    (λ e. rw length-append (omega (arith, keeps-few l d q k))) (λ e. omega (arith, keeps-few l d q k))
-
 half-few : (x : BucketState) (d q : ℕ) → halfOf x d q .count ≤ x .count
 unfolding halfOf
-half-few x d q = omega (arith, keeps-few (x .accounts) d q (State.sizeOf x), size-bound x)
+half-few x d q = omega (arith, length-keeps (x .accounts) d q (State.sizeOf x), size-bound x)
 
 module _ (s : Settings) (range : inRange (s .workers) (s .capacity) (s .depth) ≡ true) (l : List ℕ) (enough : wordsNeeded s ≤ length l)
     (x : Name) (y : BucketState) (z : State) (low : x .depth ≤ s .depth) (short : x .prefix < 2 ^ x .depth) (m : Means y z (s .workers))
@@ -65,96 +57,97 @@ module _ (s : Settings) (range : inRange (s .workers) (s .capacity) (s .depth) �
   -- ---- the words after each store
 
   abbrev l₁ : List ℕ
-  l₁ = set l (R + 2) 0
+  l₁ = set l (R + recordToggle) 0
 
   abbrev l₂ : List ℕ
-  l₂ = set l₁ (R + 3) (x .depth)
+  l₂ = set l₁ (R + recordDepth) (x .depth)
 
   abbrev l₃ : List ℕ
-  l₃ = set l₂ (R + 4) (x .prefix)
+  l₃ = set l₂ (R + recordPrefix) (x .prefix)
 
   abbrev l₄ : List ℕ
-  l₄ = set l₃ (R + 5) 0
+  l₄ = set l₃ (R + recordNumber) 0
 
   abbrev l₅ : List ℕ
   l₅ = storedState l₄ R (s .capacity) (s .workers) h
 
   abbrev l₆ : List ℕ
-  l₆ = set l₅ 4 (suc r)
+  l₆ = set l₅ headerSpare (suc r)
 
   abbrev l₇ : List ℕ
   l₇ = overlay l₆ (startOf s (entry (firstEntry s (x .depth) (x .prefix)))) (replicate (2 ^ (s .depth - x .depth)) R)
 
   words : halfAt l s (x .depth) (x .prefix) y ≡ l₇
-  unfolding halfAt madeAt directedAt recordStart startOf poolAt recordSize directoryStart directoryAt workersAt workerSize
+  unfolding halfAt madeAt directedAt startOf
   words = refl
 
-  within : r < poolSize s
-  within = spare-within s l
+  in-pool : r < poolSize s
+  in-pool = spare-within s l
 
-  wide : (i : ℕ) → i < 6 → i < sizeOf s (record′ r)
+  wide : (i : ℕ) → i < recordAccounts → i < regionSize s (record′ r)
   wide i k = rw record-wide (omega arith)
 
-  one : (w : List ℕ) (i v : ℕ) → wordsNeeded s ≤ length w → i < 6 → Inside s (record′ r) w (set w (R + i) v)
-  one w i v e k = set-inside s w e (record′ r) within i v (wide i k)
+  one : (w : List ℕ) (i v : ℕ) → wordsNeeded s ≤ length w → i < recordAccounts → Inside s (record′ r) w (set w (R + i) v)
+  one w i v e k = set-inside s w e (record′ r) in-pool i v (wide i k)
 
   i₁ : Inside s (record′ r) l l₁
-  i₁ = one l 2 0 enough (omega arith)
+  i₁ = one l recordToggle 0 enough (omega arith)
 
   i₂ : Inside s (record′ r) l l₂
-  i₂ = inside-trans i₁ (one l₁ 3 (x .depth) (omega (arith, i₁ .same-length)) (omega arith))
+  i₂ = inside-trans i₁ (one l₁ recordDepth (x .depth) (omega (arith, i₁ .same-length)) (omega arith))
 
   i₃ : Inside s (record′ r) l l₃
-  i₃ = inside-trans i₂ (one l₂ 4 (x .prefix) (omega (arith, i₂ .same-length)) (omega arith))
+  i₃ = inside-trans i₂ (one l₂ recordPrefix (x .prefix) (omega (arith, i₂ .same-length)) (omega arith))
 
   i₄ : Inside s (record′ r) l l₄
-  i₄ = inside-trans i₃ (one l₃ 5 0 (omega (arith, i₃ .same-length)) (omega arith))
+  i₄ = inside-trans i₃ (one l₃ recordNumber 0 (omega (arith, i₃ .same-length)) (omega arith))
 
-  mine : (w : List ℕ) (i v : ℕ) → wordsNeeded s ≤ length w → i < 6 → at s (set w (R + i) v) (record′ r) i ≡ v
-  mine w i v e k = at-here s w e (record′ r) i v within (wide i k)
+  mine : (w : List ℕ) (i v : ℕ) → wordsNeeded s ≤ length w → i < recordAccounts → at s (set w (R + i) v) (record′ r) i ≡ v
+  mine w i v e k = at-here s w e (record′ r) i v in-pool (wide i k)
 
   aside : (w : List ℕ) (i k v : ℕ) → k ≢ i → at s (set w (R + i) v) (record′ r) k ≡ at s w (record′ r) k
   aside w i k v d = getD-set-other w (R + i) (R + k) v 0 (λ e. d (omega arith))
 
-  toggle₄ : at s l₄ (record′ r) 2 ≡ 0
+  toggle₄ : at s l₄ (record′ r) recordToggle ≡ 0
   toggle₄ =
-      aside l₃ 5 2 0 (λ e. omega arith) ∙ aside l₂ 4 2 (x .prefix) (λ e. omega arith) ∙ aside l₁ 3 2 (x .depth) (λ e. omega arith)
-      ∙ mine l 2 0 enough (omega arith)
+      aside l₃ recordNumber recordToggle 0 (λ e. omega arith) ∙ aside l₂ recordPrefix recordToggle (x .prefix) (λ e. omega arith)
+      ∙ aside l₁ recordDepth recordToggle (x .depth) (λ e. omega arith) ∙ mine l recordToggle 0 enough (omega arith)
 
-  depth₄ : at s l₄ (record′ r) 3 ≡ x .depth
+  depth₄ : at s l₄ (record′ r) recordDepth ≡ x .depth
   depth₄ =
-      aside l₃ 5 3 0 (λ e. omega arith) ∙ aside l₂ 4 3 (x .prefix) (λ e. omega arith)
-      ∙ mine l₁ 3 (x .depth) (omega (arith, i₁ .same-length)) (omega arith)
+      aside l₃ recordNumber recordDepth 0 (λ e. omega arith) ∙ aside l₂ recordPrefix recordDepth (x .prefix) (λ e. omega arith)
+      ∙ mine l₁ recordDepth (x .depth) (omega (arith, i₁ .same-length)) (omega arith)
 
-  prefix₄ : at s l₄ (record′ r) 4 ≡ x .prefix
-  prefix₄ = aside l₃ 5 4 0 (λ e. omega arith) ∙ mine l₂ 4 (x .prefix) (omega (arith, i₂ .same-length)) (omega arith)
+  prefix₄ : at s l₄ (record′ r) recordPrefix ≡ x .prefix
+  prefix₄ =
+      aside l₃ recordNumber recordPrefix 0 (λ e. omega arith)
+      ∙ mine l₂ recordPrefix (x .prefix) (omega (arith, i₂ .same-length)) (omega arith)
 
   stored : Stored s l₄ l₅ r (record { body = half x (z .body); applied = λ j. false })
   stored =
       let k = half-few y (x .depth) (x .prefix) in
-      let g = range-of (s .workers) (s .capacity) (s .depth) range in
-      stored-words s range l₄ (omega (arith, i₄ .same-length)) r within h _
-      (half-means y z (s .workers) x (omega (arith, g .greatest-depth)) m) (omega arith)
+      stored-words s range l₄ (omega (arith, i₄ .same-length)) r in-pool h _
+      (half-means y z (s .workers) x m) (omega arith)
 
   i₅ : Inside s (record′ r) l l₅
-  i₅ = inside-trans i₄ (stored-inside s l₄ l₅ r within _ stored)
+  i₅ = inside-trans i₄ (stored-inside s l₄ l₅ r in-pool _ stored)
 
-  beside₅ : (i : ℕ) → 2 ≤ i → i < 6 → at s l₅ (record′ r) i ≡ at s l₄ (record′ r) i
-  beside₅ = stored-beside s l₄ l₅ r within _ stored
+  beside₅ : (i : ℕ) → recordToggle ≤ i → i < recordAccounts → at s l₅ (record′ r) i ≡ at s l₄ (record′ r) i
+  beside₅ = stored-beside s l₄ l₅ r in-pool _ stored
 
   enough₅ : wordsNeeded s ≤ length l₅
   enough₅ = omega (arith, i₅ .same-length)
 
   frame₆ : Frame s l₅ l₆
-  frame₆ = head-frame s l₅ enough₅ 4 (suc r) (omega arith) (inr refl)
+  frame₆ = head-frame s l₅ enough₅ headerSpare (suc r) (omega arith) (inr refl)
 
   enough₆ : wordsNeeded s ≤ length l₆
   enough₆ = omega (arith, frame₆ .same-length, enough₅)
 
-  other₇ : (v : Region) (i : ℕ) → Within s v → i < sizeOf s v → ((e : ℕ) → v ≢ entry e) → at s l₇ v i ≡ at s l₆ v i
+  other₇ : (v : Region) (i : ℕ) → Within s v → i < regionSize s v → ((e : ℕ) → v ≢ entry e) → at s l₇ v i ≡ at s l₆ v i
   other₇ = directed-other s l₆ enough₆ (x .depth) (x .prefix) R low short
 
-  head₇ : (i : ℕ) → i < 16 → word l₇ i ≡ word l₆ i
+  head₇ : (i : ℕ) → i < headerSize → word l₇ i ≡ word l₆ i
   head₇ i k = rw (header-start, zero-add) at (other₇ header i tt (rw header-wide k) (λ e q. let z : _≡_ {A = ℕ} 0 1 = cc in omega arith))
 
   frame₇ : Frame s l₆ l₇
@@ -166,32 +159,38 @@ module _ (s : Settings) (range : inRange (s .workers) (s .capacity) (s .depth) �
 
   records₇ : (t : ℕ) → t < poolSize s → SameRecord s l₅ l₇ t
   records₇ t k i b =
-      other₇ (record′ t) i k b (λ e q. let z : _≡_ {A = ℕ} 0 1 = cc in omega arith) ∙ head-others s l₅ enough₅ 4 (suc r) (omega arith) t k i b
+      other₇ (record′ t) i k b (λ e q. let z : _≡_ {A = ℕ} 0 1 = cc in omega arith)
+      ∙ head-others s l₅ enough₅ headerSpare (suc r) (omega arith) t k i b
 
   kept : Keeps s l₅ r (newBucket (half x (z .body)))
   unfolding newBucket
   kept = record {
     size = stored .size;
     state = stored .state;
-    toggle = λ j k. ap (λ (w : ℕ). bitsOf w j) (beside₅ 2 (omega arith) (omega arith) ∙ toggle₄) ∙ no-bits j;
+    toggle = λ j k. ap (λ (w : ℕ). bitsOf w j) (beside₅ recordToggle (omega arith) (omega arith) ∙ toggle₄) ∙ no-bits j;
   }
 
   halved : Halved s l l₇ x (z .body) r
   halved = record {
     frame = frame-trans s (record-frame s r i₅) (frame-trans s frame₆ frame₇);
-    depth = head₇ 2 (omega arith) ∙ getD-set-other l₅ 4 2 (suc r) 0 (λ e. omega arith) ∙ head-same s r i₅ 2 (omega arith);
-    within = within;
+    depth =
+        head₇ headerDepth (omega arith) ∙ getD-set-other l₅ headerSpare headerDepth (suc r) 0 (λ e. omega arith)
+        ∙ head-same s r i₅ headerDepth (omega arith);
+    inPool = in-pool;
     unheld = spare-unheld s l;
     spare = spare-unnamed s l;
     entries = λ e k. directed-entries s l₆ enough₆ (x .depth) (x .prefix) R low short e k
         ∙ ap (λ (w : ℕ). if eqb (e / 2 ^ (s .depth - x .depth)) (x .prefix) then R else w)
-        (head-entries s l₅ enough₅ 4 (suc r) (omega arith) e k ∙ record-entries s r i₅ e k);
+        (head-entries s l₅ enough₅ headerSpare (suc r) (omega arith) e k ∙ record-entries s r i₅ e k);
     others = λ t k d i b. records₇ t k i b ∙ record-others s r i₅ t k d i b;
     name = λ o. record {
-      depth = (records₇ r within 3 (wide 3 (omega arith)) ∙ beside₅ 3 (omega arith) (omega arith) ∙ depth₄) o;
-      prefix = (records₇ r within 4 (wide 4 (omega arith)) ∙ beside₅ 4 (omega arith) (omega arith) ∙ prefix₄) o;
+      depth =
+          (records₇ r in-pool recordDepth (wide recordDepth (omega arith)) ∙ beside₅ recordDepth (omega arith) (omega arith) ∙ depth₄) o;
+      prefix =
+          (records₇ r in-pool recordPrefix (wide recordPrefix (omega arith)) ∙ beside₅ recordPrefix (omega arith) (omega arith)
+          ∙ prefix₄) o;
     };
-    keeps = keeps-same s l₅ l₇ r _ (records₇ r within) kept;
+    keeps = keeps-same s l₅ l₇ r _ (records₇ r in-pool) kept;
   }
 
   pub halved-at : Halved s l (halfAt l s (x .depth) (x .prefix) y) x (z .body) (spareOf l s)

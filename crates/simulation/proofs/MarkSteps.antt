@@ -1,8 +1,7 @@
 -- The state steps of the directory pass: a step marks on the words what it splits in the working copy.
 -- Rests on what one worker's words have to mean, and on what taking updates does to a working copy.
-use Prim.Native.Nat.{ℕ, _+_, _*_, _-_, _^_, _≤_, _<_}
+use Prim.Native.Nat.{ℕ, suc, _+_, _-_, _^_, _≤_, _<_}
 use native.Mathlib.Omega.{arith}
-use native.Mathlib.Nat.{add-assoc}
 use native.Mathlib.Decide.{ℕ-discrete, decLt}
 use mathlib.Core.Path.{_≡_, refl, ap, sym, _∙_, subst, subst⁻¹}
 use mathlib.Core.Logic.{_≢_, ⊎-elim, by-cases}
@@ -10,6 +9,7 @@ use mathlib.Core.Bool.{Bool, true, false, not}
 use mathlib.Core.List.{List}
 use lib.Dec.{ltb, eqb}
 use borrow.Author.Tests.{eq-eqb, ne-eqb, eqb-true}
+use Rattle.interface.specs.Numbers.{kindNone}
 use Rattle.interface.proofs.Laws.{range-of}
 use Rattle.interface.specs.declared.Settings.{Settings}
 use Rattle.machine.specs.Choice.{_and_, assign}
@@ -19,37 +19,39 @@ use Rattle.machine.specs.BucketPass.{splittable, settledAt}
 use Rattle.machine.specs.DirectoryPass.{leafOf, nameOf, resize}
 use Rattle.machine.specs.Steps.{withCopy}
 use Rattle.machine.proofs.Base.{if-elim, if-true, if-false, if-eq, eq-elim, and-true, and-parts, and-left-false, and-right-false, assign-at}
-use Rattle.machine.proofs.Copies.{Refined, resizes, refined-takeSlots, Grove, grove-name, grove-of}
+use Rattle.machine.proofs.Copies.{Refined, resizeTest, refined-takeSlots, Partition, partition-name, partition-of}
 use Rattle.machine.proofs.Counter.{Two, DStep, state, PC, inD}
-use Rattle.machine.proofs.Inv.{Task, leaf, body, leafBody, DirectoryFresh, IsMade, Grown, ReadAt, ReadFacts, Announced}
-use Rattle.machine.proofs.Whereabouts.{Past, PastD}
+use Rattle.machine.proofs.Inv.{Task, leaf, body, leafBody, DirectoryFresh, IsMade, ResolvedTo, ReadAt, ReadFacts, Announced}
+use Rattle.machine.proofs.CounterFacts.{PastState, StateReadD}
 use Rattle.machine.proofs.Resolve.{resolved-ok}
 use Rattle.machine.proofs.Transitions.{tasksOf, copyLeaf, copySlot, resizedFor}
-use Rattle.bucket.specs.State.{bit}
-use Rattle.bucket.specs.Items.{readSlot}
-use Rattle.memory.specs.Layout.{worker, record′, startOf}
-use Rattle.memory.proofs.Regions.{record-starts-apart}
+use Rattle.bucket.specs.declared.Descriptor.{Descriptor}
+use Rattle.bucket.specs.State.{arraySize, bit, descriptorIn}
+use Rattle.bucket.specs.Items.{slotFrom}
+use Rattle.fields.specs.Fields.{slotKind, workerToggle, workerDirectory, workerMarks, recordDepth}
+use Rattle.fields.specs.Regions.{readAt, record′, startOf, slot, worker}
+use Rattle.fields.proofs.Regions.{record-starts-apart}
 use Rattle.layout.specs.Shape.{word}
-use Rattle.layout.specs.Places.{readAt, recordOf}
-use Rattle.engine.specs.Engine.{withBit, settledWord, recordFor, foundBefore, splitsAt, marks, stateStepAt}
-use Rattle.engine.proofs.Bits.{bit-room}
-use Rattle.engine.proofs.Bits.{bit-set, bit-beside}
+use Rattle.layout.specs.Addresses.{recordOf}
+use Rattle.engine.specs.Engine.{splittableAt, withBit, settledTicket, recordFor, foundBefore, splitsAt, marks, stateStepAt}
+use Rattle.engine.proofs.Bits.{bit-room, bit-set, bit-beside}
 use Rattle.table.specs.Turns.{updateAt}
 use Rattle.simulation.specs.Meaning.{at, nameIn, accountIn, Keeps, current, HasDirectory, HasWork, Marks}
-use Rattle.simulation.proofs.Frames.{record-wide, own-entry, own-record, directs-same, keeps-same, marks-same}
-use Rattle.simulation.proofs.Entering.{depth-bound, announces, directed-record, raised}
-use Rattle.simulation.proofs.Answering.{full-is, unsettled-is}
+use Rattle.simulation.proofs.Frames.{record-wide, descriptor-near, own-entry, own-record, directs-same, keeps-same, marks-same}
+use Rattle.simulation.proofs.Entering.{depth-bound, Describes, slot-describes, directed-record, raised}
+use Rattle.simulation.proofs.Answering.{splittable-is, unsettled-is}
 use Rattle.simulation.proofs.Numbering.{any-some, some-any}
-use Rattle.simulation.proofs.OwnWorker.{worker-means, Ready, made-in, Changed, Onward, changed₁, one-word, word-here, goes-on, going, enough₁, own₁, beside₁, slots-kept, toggle-kept, directory-kept, announced-at, plan-step}
+use Rattle.simulation.proofs.OwnWorker.{worker-means, Ready, made-in, Changed, Onward, changed₁, one-word, word-here, goes-on, going, enough₁, own₁, beside₁, read-near, slots-kept, toggle-kept, directory-kept, announced-at, plan-step}
 
--- the kind of an empty slot that was read
-says-empty : (kind a v n : ℕ) → readSlot kind a v n ≡ empty → kind ≡ 0
-unfolding readSlot
-says-empty kind a v n =
-    eq-elim (λ (x : Slot). x ≡ empty → kind ≡ 0) kind 0 _ _ (λ e q. e) (λ d q. let z : _≡_ {A = ℕ} 0 1 = cc in absurd (omega arith))
+-- the kind of an empty slot
+empty-kind : (d : Descriptor) → slotFrom d ≡ empty → d .kind ≡ kindNone
+unfolding slotFrom
+empty-kind d =
+    eq-elim (λ (x : Slot). x ≡ empty → d .kind ≡ kindNone) (d .kind) kindNone _ _ (λ e q. e)
+    (λ h q. let z : _≡_ {A = ℕ} 0 1 = cc in absurd (omega arith))
 
 module _ {s : Settings} {l : List ℕ} {m : Machine} {w : ℕ} (ready : Ready s l m w) (p r : Two) (i : ℕ)
-    (place : tasksOf s m w .pc ≡ inD p r (state i)) (below : i < s .workers) where
+    (at-state : tasksOf s m w .pc ≡ inD p r (state i)) (below : i < s .workers) where
   abbrev c : Cells
   c = m .cells
 
@@ -74,21 +76,21 @@ module _ {s : Settings} {l : List ℕ} {m : Machine} {w : ℕ} (ready : Ready s 
 
   -- the marks before the step
   abbrev before : ℕ
-  before = at s l (worker w) 9
+  before = at s l (worker w) workerMarks
 
   small : s .depth ≤ 32
   small = depth-bound s (ready .range)
 
   -- ---- the marks on the words
 
-  bit-counted : (j : ℕ) → bit (word l₁ (me + 9)) j ≡ bit before j
-  bit-counted j = ap (λ (x : ℕ). bit x j) (beside₁ ready 9 (omega arith) (λ g. omega arith))
+  bit-counted : (j : ℕ) → bit (word l₁ (me + workerMarks)) j ≡ bit before j
+  bit-counted j = ap (λ (x : ℕ). bit x j) (beside₁ ready workerMarks (omega arith) (λ g. omega arith))
 
   -- only earlier steps have marked
   later : (j : ℕ) → j < s .workers → i ≤ j → bit before j ≡ 0
   later j h g =
-      worker-means ready .unmarked (subst⁻¹ HasDirectory place tt) j h
-      (λ x. let y : j < i = subst (Past (s .workers) j) place x in omega arith)
+      worker-means ready .unmarked (subst⁻¹ HasDirectory at-state tt) j h
+      (λ x. let y : j < i = subst (PastState (s .workers) j) at-state x in omega arith)
 
   clear : bit before i ≡ 0
   clear = later i below (omega arith)
@@ -96,10 +98,10 @@ module _ {s : Settings} {l : List ℕ} {m : Machine} {w : ℕ} (ready : Ready s 
   earlier : (j : ℕ) → j < s .workers → bit before j ≡ 1 → j < i
   earlier j h e = by-cases (decLt j i) (λ g. g) (λ g. absurd (omega (arith, later j h (omega arith))))
 
-  changed : Changed s l w (m .workers w .steps) l₂ 9 10
+  changed : Changed s l w (m .workers w .steps) l₂ workerMarks (suc workerMarks)
   unfolding stateStepAt
-  changed = if-elim (λ (q : List ℕ). Changed s l w (m .workers w .steps) q 9 10) (marks l₁ s me i) _ l₁
-      (λ e. one-word ready 9 _ (omega arith) (omega arith))
+  changed = if-elim (λ (q : List ℕ). Changed s l w (m .workers w .steps) q workerMarks (suc workerMarks)) (marks l₁ s me i) _ l₁
+      (λ e. one-word ready workerMarks _ (omega arith) (omega arith))
       (λ e. let f = changed₁ ready in
       record {
         own = f .own;
@@ -109,49 +111,48 @@ module _ {s : Settings} {l : List ℕ} {m : Machine} {w : ℕ} (ready : Ready s 
         behind = λ o h b. f .behind o (omega arith) b;
       })
 
-  marks-more : marks l₁ s me i ≡ true → at s l₂ (worker w) 9 ≡ before + 2 ^ i
+  marks-more : marks l₁ s me i ≡ true → at s l₂ (worker w) workerMarks ≡ before + 2 ^ i
   unfolding stateStepAt withBit
   marks-more e =
-      ap (λ (q : List ℕ). at s q (worker w) 9) (if-true _ l₁ e) ∙ word-here ready 9 _ (omega arith)
-      ∙ if-eq _ 0 _ _ (bit-counted i ∙ clear) ∙ ap (λ (x : ℕ). x + 2 ^ i) (beside₁ ready 9 (omega arith) (λ g. omega arith))
+      ap (λ (q : List ℕ). at s q (worker w) workerMarks) (if-true _ l₁ e) ∙ word-here ready workerMarks _ (omega arith)
+      ∙ if-eq _ 0 _ _ (bit-counted i ∙ clear) ∙ ap (λ (x : ℕ). x + 2 ^ i) (beside₁ ready workerMarks (omega arith) (λ g. omega arith))
 
-  marks-none : marks l₁ s me i ≡ false → at s l₂ (worker w) 9 ≡ before
+  marks-none : marks l₁ s me i ≡ false → at s l₂ (worker w) workerMarks ≡ before
   unfolding stateStepAt
-  marks-none e = ap (λ (q : List ℕ). at s q (worker w) 9) (if-false _ l₁ e) ∙ beside₁ ready 9 (omega arith) (λ g. omega arith)
+  marks-none e =
+      ap (λ (q : List ℕ). at s q (worker w) workerMarks) (if-false _ l₁ e) ∙ beside₁ ready workerMarks (omega arith) (λ g. omega arith)
 
   -- what holds of the marks with one more and with none more, holds of the marks after the step
-  marks-elim : (P : ℕ → Type 0) → P (before + 2 ^ i) → P before → P (at s l₂ (worker w) 9)
+  marks-elim : (P : ℕ → Type 0) → P (before + 2 ^ i) → P before → P (at s l₂ (worker w) workerMarks)
   marks-elim P x y = go (marks l₁ s me i) refl
     where
-      go : (b : Bool) → marks l₁ s me i ≡ b → P (at s l₂ (worker w) 9)
+      go : (b : Bool) → marks l₁ s me i ≡ b → P (at s l₂ (worker w) workerMarks)
       go true e = rw (marks-more e) x
       go false e = rw (marks-none e) y
 
-  few-after : at s l₂ (worker w) 9 < 2 ^ s .workers
-  few-after = let few = worker-means ready .few in marks-elim (λ (x : ℕ). x < 2 ^ s .workers) (bit-room before i (s .workers) below few clear) few
+  few-after : at s l₂ (worker w) workerMarks < 2 ^ s .workers
+  few-after =
+      let few = worker-means ready .few in marks-elim (λ (x : ℕ). x < 2 ^ s .workers) (bit-room before i (s .workers) below few clear) few
 
-  unmarked-after : (j : ℕ) → j < s .workers → i < j → bit (at s l₂ (worker w) 9) j ≡ 0
+  unmarked-after : (j : ℕ) → j < s .workers → i < j → bit (at s l₂ (worker w) workerMarks) j ≡ 0
   unmarked-after j h g =
       let z = later j h (omega arith) in
       marks-elim (λ (x : ℕ). bit x j ≡ 0) (bit-beside before i clear j (λ e. omega arith) ∙ z) z
 
   -- ---- the records of the slots that were read
 
-  seen : (j o : ℕ) → j < s .workers → o < 4 → word l₁ (readAt me j + o) ≡ at s l (worker w) (24 + 4 * j + o)
-  seen j o h g =
-      let e : readAt me j + o ≡ me + (24 + 4 * j + o) = omega arith in
-      ap (word l₁) e ∙ beside₁ ready (24 + 4 * j + o) (omega arith) (λ g. omega arith)
+  -- slot j as it was read
+  abbrev read-in : ℕ → Descriptor
+  read-in j = descriptorIn l₁ (readAt me j)
 
-  seen-kind : (j : ℕ) → j < s .workers → word l₁ (readAt me j) ≡ at s l (worker w) (24 + 4 * j)
-  seen-kind j h = ap (word l₁) (add-assoc me 24 (4 * j)) ∙ beside₁ ready (24 + 4 * j) (omega arith) (λ g. omega arith)
+  slot-read : (j : ℕ) → j < s .workers → slotFrom (read-in j) ≡ slots j
+  slot-read j h =
+      ap slotFrom (descriptor-near s l l₁ (readAt me j) (read-near s l l₁ w j (λ o a b. beside₁ ready o (omega arith) (λ g. omega arith))))
+      ∙ worker-means ready .slots j h
 
   -- the words of a slot read with update u and ticket t
-  said :
-      (j : ℕ) → j < s .workers → (u : Update) (t : ℕ) → slots j ≡ announced u t
-      → (word l₁ (readAt me j) ≢ 0) × (word l₁ (readAt me j + 1) ≡ account u) × (word l₁ (readAt me j + 3) ≡ t)
-  said j h u t e =
-      let z = announces _ _ _ _ u t (worker-means ready .slots j h ∙ e) in
-      (λ g. z .busy (sym (seen-kind j h) ∙ g), seen j 1 h (omega arith) ∙ z .account, seen j 3 h (omega arith) ∙ z .ticket)
+  read-describes : (j : ℕ) → j < s .workers → (u : Update) (t : ℕ) → slots j ≡ announced u t → Describes (read-in j) u t
+  read-describes j h u t e = slot-describes (read-in j) u t (slot-read j h ∙ e)
 
   -- the record that the directory has for an account
   abbrev recordAt : ℕ → ℕ
@@ -177,37 +178,38 @@ module _ {s : Settings} {l : List ℕ} {m : Machine} {w : ℕ} (ready : Ready s 
 
   -- the record of a slot that was read
   record-for : (j : ℕ) → j < s .workers → slots j ≢ empty → recordFor l₁ s me j ≡ recordOf l₁ s (accountIn (slots j))
+  unfolding descriptorIn
   record-for j h d = by (slots j) refl
     where
       by : (x : Slot) → slots j ≡ x → recordFor l₁ s me j ≡ recordOf l₁ s (accountIn (slots j))
       by empty e = absurd (d e)
-      by (announced u t) e = ap (recordOf l₁ s) (said j h u t e .1 ∙ ap accountIn (sym e))
+      by (announced u t) e = ap (recordOf l₁ s) (read-describes j h u t e .account ∙ ap accountIn (sym e))
 
   -- what an account's record keeps
   keeps-leaf : (a : ℕ) → Keeps s l₁ (recordAt a) (c .buckets (leaf c a))
   keeps-leaf a =
       let d = ready .means .directory a in
-      keeps-same s l l₁ (d .0) _ (own-record (own₁ ready) (d .0) (d .1 .within))
+      keeps-same s l l₁ (d .0) _ (own-record (own₁ ready) (d .0) (d .1 .inPool))
       (subst (λ (x : Name). Keeps s l (d .0) (c .buckets x)) (d .2) (ready .means .cells (d .0) (current a (d .1))))
 
-  depth-leaf : (a : ℕ) → at s l₁ (record′ (recordAt a)) 3 ≡ leaf c a .depth
+  depth-leaf : (a : ℕ) → at s l₁ (record′ (recordAt a)) recordDepth ≡ leaf c a .depth
   depth-leaf a =
       let d = ready .means .directory a in
-      own-record (own₁ ready) (d .0) (d .1 .within) 3 (rw record-wide (omega arith)) ∙ ap (λ (x : Name). x .depth) (d .2)
+      own-record (own₁ ready) (d .0) (d .1 .inPool) recordDepth (rw record-wide (omega arith)) ∙ ap (λ (x : Name). x .depth) (d .2)
 
   -- ---- the current buckets and the working copy
 
-  grove : Grove (s .depth) (leaf c)
-  grove = grove-of _ (ready .good .directory)
+  partition : Partition (s .depth) (leaf c)
+  partition = partition-of _ (ready .good .directory)
 
   read : ReadAt s (state i) c k
-  read = subst (λ (pc : PC). ReadFacts s pc c w k) place (ready .good .own w (ready .known) .read) .read
+  read = subst (λ (pc : PC). ReadFacts s pc c w k) at-state (ready .good .own w (ready .known) .read) .read
 
   -- a bucket that was resolved is split
-  grown-made : (a : ℕ) {l : Leaf} → Grown s slots (leaf c a) (leafBody c a) a l → IsMade l
+  grown-made : (a : ℕ) {l : Leaf} → ResolvedTo s slots (leaf c a) (leafBody c a) a l → IsMade l
   grown-made a g =
-      let z = resolved-ok s small (leaf c a) a (grove-name grove a) (grove .bound a) (leafBody c a) slots (s .workers) in
-      subst⁻¹ IsMade (g .is ∙ z .stands a (grove .named a)) tt
+      let z = resolved-ok s small (leaf c a) a (partition-name partition a) (partition .bound a) (leafBody c a) slots (s .workers) in
+      subst⁻¹ IsMade (g .is ∙ z .stands a (partition .named a)) tt
 
   -- the current bucket of an update
   abbrev bucket : Update → Name
@@ -221,7 +223,7 @@ module _ {s : Settings} {l : List ℕ} {m : Machine} {w : ℕ} (ready : Ready s 
 
   module _ (fresh : DirectoryFresh c k) where
     old : Marks s l m w
-    old = worker-means ready .marks (subst⁻¹ HasWork place tt) fresh
+    old = worker-means ready .marks (subst⁻¹ HasWork at-state tt) fresh
 
     kept-leaf : (a : ℕ) (x : Name) → leafOf copy a ≡ kept x → x ≡ leaf c a
     kept-leaf a x h = ⊎-elim (λ e. ap nameOf (sym h ∙ e)) (λ g. absurd (subst IsMade h (grown-made a g))) (read .1 fresh a)
@@ -244,12 +246,12 @@ module _ {s : Settings} {l : List ℕ} {m : Machine} {w : ℕ} (ready : Ready s 
           let z = any-some i _ e in
           let h = and-parts _ _ (z .is) in
           let b : z .one < s .workers = omega (arith, z .below) in
-          let mark : bit before (z .one) ≡ 1 = sym (bit-counted (z .one)) ∙ eqb-true _ 1 (h .0) in
+          let set-before : bit before (z .one) ≡ 1 = sym (bit-counted (z .one)) ∙ eqb-true _ 1 (h .0) in
           old .to (account u) (record {
             by = z .one;
             below = b;
-            set = mark;
-            here = one-bucket _ (account u) (sym (record-for (z .one) b (old .full (z .one) b mark)) ∙ eqb-true _ _ (h .1) ∙ q-is);
+            set = set-before;
+            here = one-bucket _ (account u) (sym (record-for (z .one) b (old .full (z .one) b set-before)) ∙ eqb-true _ _ (h .1) ∙ q-is);
           })
 
       made-found : IsMade (leafOf copy (account u)) → foundBefore l₁ s me i q ≡ true
@@ -258,23 +260,29 @@ module _ {s : Settings} {l : List ℕ} {m : Machine} {w : ℕ} (ready : Ready s 
           let z = old .from (account u) h in
           some-any i _ (z .by) (earlier (z .by) (z .below) (z .set))
           (and-true (eq-eqb _ 1 (bit-counted (z .by) ∙ z .set))
-          (eq-eqb _ q (record-for (z .by) (z .below) (old .full (z .by) (z .below) (z .set)) ∙ one-record _ (account u) (z .here) ∙ sym q-is)))
+          (eq-eqb _ q (record-for (z .by) (z .below) (old .full (z .by) (z .below) (z .set)) ∙ one-record _ (account u) (z .here)
+          ∙ sym q-is)))
 
       -- the test on the words is the machine's
-      splits-is : splitsAt l₁ s me i q ≡ resizes s i t (bucket u) (body c (bucket u))
-      unfolding splitsAt splittable settledAt
+      splits-is : splitsAt l₁ s me i q ≡ resizeTest s i t (bucket u) (body c (bucket u))
+      unfolding splitsAt settledAt descriptorIn
       splits-is =
           let limits = range-of (s .workers) (s .capacity) (s .depth) (ready .range) in
-          let few : s .workers ≤ 16 = omega arith in
-          let narrow : s .capacity ≤ 16 = omega arith in
-          let full = full-is s narrow few l₁ (recordAt (account u)) _ (keeps-leaf (account u)) in
-          let last : ℕ = settledWord l₁ s (startOf s (record′ (recordAt (account u)))) i in
-          let unsettled : ltb last (word l₁ (readAt me i + 3)) ≡ not (settledAt (body c (bucket u)) i t) =
-          ap (ltb last) (said i below u t slot .2) ∙ unsettled-is s narrow few l₁ (recordAt (account u)) _ (keeps-leaf (account u)) i below t in
-          ap (splitsAt l₁ s me i) (q-is ∙ record-of (account u)) ∙ (λ o. full o and ltb (depth-leaf (account u) o) (s .depth) and unsettled o)
+          let few : s .workers ≤ arraySize = omega arith in
+          let narrow : s .capacity ≤ arraySize = omega arith in
+          let R : ℕ = startOf s (record′ (recordAt (account u))) in
+          let split : splittableAt l₁ s R ≡ splittable s (bucket u .depth) (body c (bucket u)) =
+          splittable-is s narrow few l₁ (recordAt (account u)) _ (keeps-leaf (account u))
+          ∙ ap (λ (d : ℕ). splittable s d (body c (bucket u))) (depth-leaf (account u)) in
+          let last : ℕ = settledTicket l₁ s R i in
+          let unsettled : ltb last (read-in i .ticket) ≡ not (settledAt (body c (bucket u)) i t) =
+          ap (ltb last) (read-describes i below u t slot .ticket)
+          ∙ unsettled-is s narrow few l₁ (recordAt (account u)) _ (keeps-leaf (account u)) i below t in
+          ap (splitsAt l₁ s me i) (q-is ∙ record-of (account u)) ∙ (λ o. split o and unsettled o)
 
-      busy : not (eqb (word l₁ (readAt me i)) 0) ≡ true
-      busy = ap not (ne-eqb _ 0 (said i below u t slot .0))
+      busy : not (eqb (word l₁ (readAt me i + slotKind)) kindNone) ≡ true
+      unfolding descriptorIn
+      busy = ap not (ne-eqb _ kindNone (read-describes i below u t slot .busy))
 
       -- a bucket that an earlier step has split
       marks-made : IsMade (leafOf copy (account u)) → marks l₁ s me i ≡ false
@@ -283,7 +291,7 @@ module _ {s : Settings} {l : List ℕ} {m : Machine} {w : ℕ} (ready : Ready s 
 
       -- one that none has split
       marks-kept :
-          (v : Bool) → resizes s i t (bucket u) (body c (bucket u)) ≡ v → (IsMade (leafOf copy (account u)) → ⊥) → marks l₁ s me i ≡ v
+          (v : Bool) → resizeTest s i t (bucket u) (body c (bucket u)) ≡ v → (IsMade (leafOf copy (account u)) → ⊥) → marks l₁ s me i ≡ v
       unfolding marks _and_
       marks-kept v e h = rw (busy, splits-is, e) (last v (foundBefore l₁ s me i q) refl)
         where
@@ -300,13 +308,13 @@ module _ {s : Settings} {l : List ℕ} {m : Machine} {w : ℕ} (ready : Ready s 
           → Refined (s .depth) (bucket u) copy o → Outcome o
 
     outcome : Outcome (copySlot s c i (k .reads) (slots i))
-    unfolding withCopy resize marks
+    unfolding withCopy resize marks descriptorIn
     outcome = by-slot (slots i) refl
       where
         by-bucket : (u : Update) (t : ℕ) → slots i ≡ announced u t → leafOf copy (account u) ≡ kept (bucket u)
             → Outcome (resize s slots i t (bucket u) (body c (bucket u)) copy)
         by-bucket u t e h =
-            if-elim Outcome (resizes s i t (bucket u) (body c (bucket u))) _ copy
+            if-elim Outcome (resizeTest s i t (bucket u) (body c (bucket u))) _ copy
             (λ f. splits (marks-kept u t e true f (λ z. subst IsMade h z)) u t e (λ z. subst IsMade h z)
             (refined-takeSlots small s (omega arith) (read .0 .coherent) (account u) _ h _ slots (s .workers)))
             (λ f. idle (marks-kept u t e false f (λ z. subst IsMade h z)) refl)
@@ -320,13 +328,13 @@ module _ {s : Settings} {l : List ℕ} {m : Machine} {w : ℕ} (ready : Ready s 
 
         by-slot : (x : Slot) → slots i ≡ x → Outcome (copySlot s c i (k .reads) x)
         by-slot empty e =
-            let z = seen-kind i below ∙ says-empty _ _ _ _ (worker-means ready .slots i below ∙ e) in
-            idle (and-left-false _ (and-left-false _ (ap not (eq-eqb _ 0 z)))) refl
+            let z = empty-kind (read-in i) (slot-read i below ∙ e) in
+            idle (and-left-false _ (and-left-false _ (ap not (eq-eqb _ kindNone z)))) refl
         by-slot (announced u t) e = by-leaf u t e (leafOf copy (account u)) refl
 
     -- ---- the marks after the step
 
-    marks-stay : at s l₂ (worker w) 9 ≡ before → Marks s l₂ (turned copy) w
+    marks-stay : at s l₂ (worker w) workerMarks ≡ before → Marks s l₂ (turned copy) w
     unfolding withCopy
     marks-stay e =
         record {
@@ -338,14 +346,14 @@ module _ {s : Settings} {l : List ℕ} {m : Machine} {w : ℕ} (ready : Ready s 
 
     -- the bucket of update u, which slot i was read with, is split by this step
     module _ (o : Copy) (u : Update) (t : ℕ) (slot : slots i ≡ announced u t) (new : IsMade (leafOf copy (account u)) → ⊥)
-        (refined : Refined (s .depth) (bucket u) copy o) (more : at s l₂ (worker w) 9 ≡ before + 2 ^ i) where
+        (refined : Refined (s .depth) (bucket u) copy o) (more : at s l₂ (worker w) workerMarks ≡ before + 2 ^ i) where
       own-bucket : leaf c (accountIn (slots i)) ≡ bucket u
       own-bucket = ap (λ (y : Slot). leaf c (accountIn y)) slot
 
-      mark-here : bit (at s l₂ (worker w) 9) i ≡ 1
+      mark-here : bit (at s l₂ (worker w) workerMarks) i ≡ 1
       mark-here = rw more (bit-set before i clear)
 
-      mark-beside : (j : ℕ) → j ≢ i → bit (at s l₂ (worker w) 9) j ≡ bit before j
+      mark-beside : (j : ℕ) → j ≢ i → bit (at s l₂ (worker w) workerMarks) j ≡ bit before j
       mark-beside j d = rw more (bit-beside before i clear j d)
 
       mark-other : (j : ℕ) → bit before j ≡ 1 → j ≢ i
@@ -353,7 +361,7 @@ module _ {s : Settings} {l : List ℕ} {m : Machine} {w : ℕ} (ready : Ready s 
 
       -- no other mark is of the bucket
       alone :
-          (j : ℕ) → j < s .workers → j ≢ i → bit (at s l₂ (worker w) 9) j ≡ 1
+          (j : ℕ) → j < s .workers → j ≢ i → bit (at s l₂ (worker w) workerMarks) j ≡ 1
           → leaf c (accountIn (slots j)) ≡ leaf c (accountIn (slots i)) → ⊥
       alone j b d h e = new (old .to (account u) (record { by = j; below = b; set = sym (mark-beside j d) ∙ h; here = e ∙ own-bucket }))
 
@@ -362,11 +370,11 @@ module _ {s : Settings} {l : List ℕ} {m : Machine} {w : ℕ} (ready : Ready s 
       marks-split = record {
         to = λ a z. by-cases (ℕ-discrete (firstBits (bucket u .depth) a) (bucket u .prefix))
             (λ h. made-in (bucket u) (leafOf o a) (refined .inside a h))
-            (λ h. let d : z .by ≢ i = λ e. h (rw (sym own-bucket ∙ rw e at (z .here)) (grove .named a)) in
+            (λ h. let d : z .by ≢ i = λ e. h (rw (sym own-bucket ∙ rw e at (z .here)) (partition .named a)) in
             rw (refined .outside a h)
             (old .to a (record { by = z .by; below = z .below; set = sym (mark-beside (z .by) d) ∙ z .set; here = z .here })));
         from = λ a z. by-cases (ℕ-discrete (firstBits (bucket u .depth) a) (bucket u .prefix))
-            (λ h. record { by = i; below = below; set = mark-here; here = own-bucket ∙ sym (grove .shared (account u) a h) })
+            (λ h. record { by = i; below = below; set = mark-here; here = own-bucket ∙ sym (partition .shared (account u) a h) })
             (λ h. let y = old .from a (rw (refined .outside a h) at z) in
             record { by = y .by; below = y .below; set = mark-beside (y .by) (mark-other (y .by) (y .set)) ∙ y .set; here = y .here });
         once = λ j q b d f g e. once j q b d f g e (ℕ-discrete j i) (ℕ-discrete q i);
@@ -376,7 +384,8 @@ module _ {s : Settings} {l : List ℕ} {m : Machine} {w : ℕ} (ready : Ready s 
       }
         where
           once :
-              (j q : ℕ) → j < s .workers → q < s .workers → bit (at s l₂ (worker w) 9) j ≡ 1 → bit (at s l₂ (worker w) 9) q ≡ 1
+              (j q : ℕ) → j < s .workers → q < s .workers → bit (at s l₂ (worker w) workerMarks) j ≡ 1
+              → bit (at s l₂ (worker w) workerMarks) q ≡ 1
               → leaf c (accountIn (slots j)) ≡ leaf c (accountIn (slots q)) → Dec (j ≡ i) → Dec (q ≡ i) → j ≡ q
           once j q b d f g e (yes y) (yes z) = y ∙ sym z
           once j q b d f g e (yes y) (no z) = absurd (alone q d z g (sym e ∙ ap (λ (n : ℕ). leaf c (accountIn (slots n))) y))
@@ -394,24 +403,26 @@ module _ {s : Settings} {l : List ℕ} {m : Machine} {w : ℕ} (ready : Ready s 
 
   -- resizes, lastState: on to a step that is past worker i's
   pub state-means :
-      (x : DStep) → ((j : ℕ) → j < s .workers → j ≤ i → PastD (s .workers) j x)
+      (x : DStep) → ((j : ℕ) → j < s .workers → j ≤ i → StateReadD (s .workers) j x)
       → Onward ready (inD p r x) (resizedFor s (m .cells) i (tasksOf s m w .reads))
   unfolding updateAt withCopy
   state-means x past =
-      goes-on ready l₂ 9 10 (inD p r x) (withCopy (k .reads) o) (plan-step ready _ a place) changed
-      (toggle-kept ready l₂ (changed .before 7 (omega arith) (omega arith))) (slots-kept ready l₂ (λ j h. changed .behind j (omega arith)))
+      goes-on ready l₂ workerMarks (suc workerMarks) (inD p r x) (withCopy (k .reads) o) (plan-step ready _ a at-state) changed
+      (toggle-kept ready l₂ (changed .before workerToggle (omega arith) (omega arith)))
+      (slots-kept ready l₂ (λ j h. changed .behind j (omega arith)))
       (record {
         held = λ q. absurd q;
         live = λ q. absurd q;
         number = λ q. absurd q;
-        directory = λ q. directory-kept ready l₂ (changed .before 8 (omega arith) (omega arith)) (subst⁻¹ HasDirectory place tt);
+        directory =
+            λ q. directory-kept ready l₂ (changed .before workerDirectory (omega arith) (omega arith)) (subst⁻¹ HasDirectory at-state tt);
         few = few-after;
         unmarked = λ q j h g. unmarked-after j h (by-cases (decLt i j) (λ z. z) (λ z. absurd (g (past j h (omega arith)))));
         marks = λ q fresh. marks-same s l₂ l₂ (turned o) _ w here (λ e. refl) refl (marks-after fresh);
       })
     where
       a : Announced s c w k
-      a = announced-at ready (inD p r (state i)) place
+      a = announced-at ready (inD p r (state i)) at-state
 
       o : Copy
       o = copySlot s c i (k .reads) (slots i)

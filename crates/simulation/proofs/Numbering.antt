@@ -10,30 +10,31 @@ use borrow.Author.Tests.{eq-eqb, eqb-true}
 use Rattle.machine.specs.Choice.{if_then_else_, assign}
 use Rattle.machine.proofs.Base.{no-both, is-false, if-elim, and-true, and-parts, assign-at, assign-other}
 use Rattle.layout.specs.Shape.{word}
-use Rattle.layout.specs.Places.{workerAt}
+use Rattle.fields.specs.Fields.{workerHeld, workerState, workerDirectory}
+use Rattle.fields.specs.Regions.{workerAt}
 use Rattle.layout.specs.Numbers.{any, leastFree, numberTaken, freshNumber, directoryTaken, freshDirectory}
 
 -- ---- the least number that is not taken
 
 -- x is one of the first n numbers of f
 pub record Among (n : ℕ) (f : ℕ → ℕ) (x : ℕ) : Type 0 where
-  pub place : ℕ
-  pub below : place < n
-  pub is : f place ≡ x
+  pub index : ℕ
+  pub below : index < n
+  pub is : f index ≡ x
 
--- f without its number i, which is one of the first n + 1: the last of them stands in its place
+-- f without its number i, which is one of the first n + 1: the last of them stands in its index
 among-less :
-    (n : ℕ) (f : ℕ → ℕ) (i x : ℕ) (h : Among (suc n) f i) → i < x → Among (suc n) f x → Among n (assign f (h .place) (f n)) x
-among-less n f i x h l k = go (ℕ-discrete (k .place) n)
+    (n : ℕ) (f : ℕ → ℕ) (i x : ℕ) (h : Among (suc n) f i) → i < x → Among (suc n) f x → Among n (assign f (h .index) (f n)) x
+among-less n f i x h l k = go (ℕ-discrete (k .index) n)
   where
-    go : Dec (k .place ≡ n) → Among n (assign f (h .place) (f n)) x
+    go : Dec (k .index ≡ n) → Among n (assign f (h .index) (f n)) x
     go (yes e) =
         let last : f n ≡ x = ap f (sym e) ∙ k .is in
-        let apart : h .place ≢ n = λ (q : h .place ≡ n). omega (arith, ap f q, h .is) in
-        record { place = h .place; below = omega (arith, h .below); is = assign-at f (h .place) (f n) (h .place) refl ∙ last }
+        let apart : h .index ≢ n = λ (q : h .index ≡ n). omega (arith, ap f q, h .is) in
+        record { index = h .index; below = omega (arith, h .below); is = assign-at f (h .index) (f n) (h .index) refl ∙ last }
     go (no e) =
-        let apart : k .place ≢ h .place = λ (q : k .place ≡ h .place). omega (arith, ap f q, h .is, k .is) in
-        record { place = k .place; below = omega (arith, k .below); is = assign-other f (h .place) (f n) (k .place) apart ∙ k .is }
+        let apart : k .index ≢ h .index = λ (q : k .index ≡ h .index). omega (arith, ap f q, h .is, k .is) in
+        record { index = k .index; below = omega (arith, k .below); is = assign-other f (h .index) (f n) (k .index) apart ∙ k .is }
 
 -- where at most k of the numbers from i on are taken, the least free one of i to i + k is free
 free-from :
@@ -42,7 +43,7 @@ unfolding leastFree
 free-from taken zero i f h = is-false (taken i) (λ e. omega (arith, h i (omega arith) e .below))
 free-from taken (suc k) i f h = if-elim (λ x. taken x ≡ false) (taken i) _ _
     (λ e. let t = h i (omega arith) e in
-    free-from taken k (suc i) (assign f (t .place) (f k)) (λ x l g. among-less k f i x t (omega arith) (h x (omega arith) g)))
+    free-from taken k (suc i) (assign f (t .index) (f k)) (λ x l g. among-less k f i x t (omega arith) (h x (omega arith) g)))
     (λ e. e)
 
 pub least-free :
@@ -78,19 +79,19 @@ some-any (suc n) f j l e = if-elim (λ x. x ≡ true) (f n) true (any n f) (λ q
 
 -- no worker that refers to record q has read its state under the number that is next
 pub fresh-number :
-    (l : List ℕ) (n q j : ℕ) → j < n → word l (workerAt n j + 5) ≡ q → word l (workerAt n j + 6) ≢ freshNumber l n q
+    (l : List ℕ) (n q j : ℕ) → j < n → word l (workerAt n j + workerHeld) ≡ q → word l (workerAt n j + workerState) ≢ freshNumber l n q
 unfolding freshNumber numberTaken
 fresh-number l n q j h r e = no-both
     (some-any n _ j h (and-true (eq-eqb _ _ r) (eq-eqb _ _ e)))
-    (least-free n (numberTaken l n q) (λ i. word l (workerAt n i + 6)) (λ x t.
+    (least-free n (numberTaken l n q) (λ i. word l (workerAt n i + workerState)) (λ x t.
     let g = any-some n _ t in
-    record { place = g .one; below = g .below; is = eqb-true _ _ (and-parts _ _ (g .is) .1) }))
+    record { index = g .one; below = g .below; is = eqb-true _ _ (and-parts _ _ (g .is) .1) }))
 
 -- no worker has read the directory under the number that is next
-pub fresh-directory : (l : List ℕ) (n j : ℕ) → j < n → word l (workerAt n j + 8) ≢ freshDirectory l n
+pub fresh-directory : (l : List ℕ) (n j : ℕ) → j < n → word l (workerAt n j + workerDirectory) ≢ freshDirectory l n
 unfolding freshDirectory directoryTaken
 fresh-directory l n j h e = no-both
     (some-any n _ j h (eq-eqb _ _ e))
-    (least-free n (directoryTaken l n) (λ i. word l (workerAt n i + 8)) (λ x t.
+    (least-free n (directoryTaken l n) (λ i. word l (workerAt n i + workerDirectory)) (λ x t.
     let g = any-some n _ t in
-    record { place = g .one; below = g .below; is = eqb-true _ _ (g .is) }))
+    record { index = g .one; below = g .below; is = eqb-true _ _ (g .is) }))

@@ -11,48 +11,49 @@ use lib.Dec.{ltb, eqb}
 use lib.ListN.{length, getD, replicate, length-append, length-replicate, getD-replicate, List·getD-append}
 use lib.Seq.{getD-append-add}
 use borrow.Author.Tests.{eq-eqb, le-ltb}
-use Rattle.interface.specs.Limits.{inRange, Range}
+use Rattle.interface.specs.Limits.{inRange, Range, leastWorkers, greatestWorkers, leastCapacity, greatestCapacity, leastDepth}
 use Rattle.interface.proofs.Laws.{range-of}
 use Rattle.interface.specs.declared.Settings.{Settings}
 use Rattle.machine.specs.Choice.{if_then_else_}
 use Rattle.machine.specs.Sequential.{firstBits}
 use Rattle.machine.specs.Records.{Machine, emptyBody, newBucket, firstDirectory, firstCells, noReads, opened, bucketOf}
-use Rattle.machine.specs.Words.{wordsNeeded}
+use Rattle.fields.specs.Fields.{headerSettings, headerNeeded, headerDepth, headerSpare, capacityUnit, depthUnit, deepest, markUnit, mark, slotKind, slotAccount, slotTotal, slotTicket, slotSize, workerKind, workerAccount, workerTotal, workerTicket, workerSteps, workerToggle, workerMarks, workerSlots, workerSize, recordCount, recordApplied, recordToggle, recordDepth, recordPrefix, settledFrom, answersFrom, recordSize, widestRecord, spareRecords}
+use Rattle.fields.specs.Regions.{slotAt, workerAt, slotRead, readAt, directoryStart, recordStart, poolSize, wordsNeeded, leastWords, record′, startOf, slot, worker, entry}
 use Rattle.bucket.specs.declared.BucketState.{BucketState}
-use Rattle.bucket.specs.State.{sizeOf}
-use Rattle.bucket.specs.Items.{pairs, itemsOf, settledOf, answerOf, readSlot, Means}
+use Rattle.bucket.specs.State.{sizeOf, descriptorIn}
+use Rattle.bucket.specs.Items.{pairs, itemsOf, settledOf, answerOf, slotFrom, Means}
 use Rattle.lists.specs.Parts.{part, overlay}
-use Rattle.memory.specs.Layout.{slot, worker, entry, record′, startOf, workersAt, workerSize, recordSize, poolSize, poolAt, settledFrom, answersFrom}
 use Rattle.memory.specs.Loads.{least, copied, loadedState}
-use Rattle.lists.proofs.PartLaws.{getD-part, length-overlay, getD-overlay-in}
-use Rattle.memory.proofs.Regions.{region-inside, record-starts-apart}
+use Rattle.lists.proofs.PartLaws.{length-overlay, getD-overlay-in}
+use Rattle.fields.proofs.Regions.{region-inside, record-starts-apart}
 use Rattle.memory.proofs.Runs.{getD-copied}
 use Rattle.memory.proofs.States.{least-same, loaded-sized}
-use Rattle.layout.specs.Shape.{word, mark, settingsOf, firstWord, directoryStart, strange, shapeOf}
-use Rattle.layout.specs.Records.{recordStart}
+use Rattle.layout.specs.Shape.{word, settingsOf, firstWord, strange, shapeOf}
 use Rattle.table.specs.Turns.{freshWords}
+use Rattle.table.proofs.Fresh.{fresh-parts}
 use Rattle.simulation.specs.Meaning.{at, operationIn, nameIn, Keeps, Directs, Live, current, referred, WorkerMeans, Meaning}
-use Rattle.simulation.proofs.Entering.{record-start, entry-start, directory-start}
 use Rattle.simulation.proofs.Frames.{entry-within, record-wide}
+use Rattle.simulation.proofs.OwnWorker.{slots-at}
 use Rattle.simulation.proofs.WordBits.{no-bits}
 
 -- ---- the checks behind 8
 
-rest-of : (x k r : ℕ) → r < 16 → x ≡ 16 * k + r → x % 16 ≡ r
+-- what is left of a number by a unit, past whole units
+rest-of : (x k r : ℕ) → r < deepest + 1 → x ≡ (deepest + 1) * k + r → x % (deepest + 1) ≡ r
 rest-of x k r h e = omega arith
 
 product : (a b c d : ℕ) → a ≤ c → b ≤ d → a * b ≤ c * d
 product a b c d h k = mul-le-mul h k
 
 -- words that begin with a zero, whatever their number, have no mark
-pub zero-strange : (l : List ℕ) → word l 0 ≡ 0 → strange l ≡ true
+pub zero-strange : (l : List ℕ) → word l headerSettings ≡ 0 → strange l ≡ true
 unfolding strange
 zero-strange l e = ap test e ∙ simp or-true
   where
     test : ℕ → Bool
     test x =
-        ltb (length l) 150 || not (eqb (x / 2_048) mark) || ltb (length l) (word l 1)
-        || ltb (length l) (directoryStart (settingsOf x .workers) + 54)
+        ltb (length l) leastWords || not (eqb (x / markUnit) mark) || ltb (length l) (word l headerNeeded)
+        || ltb (length l) (directoryStart (settingsOf x .workers) + widestRecord)
 
 pub zeros-strange : (k : ℕ) → strange (replicate k 0) ≡ true
 zeros-strange zero = zero-strange [] refl
@@ -68,31 +69,32 @@ module _ (s : Settings) (range : inRange (s .workers) (s .capacity) (s .depth) �
   settings-kept =
       let k = limits in
       let x : ℕ = firstWord s in
-      let n : x % 8 + 1 ≡ s .workers = omega arith in
-      let x₈ : x / 8 ≡ mark * 256 + (s .capacity - 1) + 16 * s .depth = omega arith in
-      let c : x / 8 % 16 ≡ s .capacity - 1 = rest-of (x / 8) (mark * 16 + s .depth) (s .capacity - 1) (omega arith) (omega arith) in
-      let b : x / 8 % 16 + 1 ≡ s .capacity = omega arith in
-      let x₁₂₈ : x / 128 ≡ mark * 16 + s .depth = omega arith in
-      let d : x / 128 % 16 ≡ s .depth = rest-of (x / 128) mark (s .depth) (omega arith) (omega arith) in
+      let n : x % greatestWorkers + 1 ≡ s .workers = omega arith in
+      let above : x / capacityUnit ≡ mark * (markUnit / capacityUnit) + (s .capacity - 1) + greatestCapacity * s .depth = omega arith in
+      let c : x / capacityUnit % greatestCapacity ≡ s .capacity - 1 =
+      rest-of (x / capacityUnit) (mark * (deepest + 1) + s .depth) (s .capacity - 1) (omega arith) (omega arith) in
+      let b : x / capacityUnit % greatestCapacity + 1 ≡ s .capacity = omega arith in
+      let top : x / depthUnit ≡ mark * (markUnit / depthUnit) + s .depth = omega arith in
+      let d : x / depthUnit % (deepest + 1) ≡ s .depth = rest-of (x / depthUnit) mark (s .depth) (omega arith) (omega arith) in
       λ i. record { workers = n i; capacity = b i; depth = d i }
 
-  marked : firstWord s / 2_048 ≡ mark
+  marked : firstWord s / markUnit ≡ mark
   unfolding firstWord
   marked = let k = limits in omega arith
 
   -- the words needed are enough for the checks
-  needed-least : 150 ≤ wordsNeeded s
-  unfolding wordsNeeded
+  needed-least : leastWords ≤ wordsNeeded s
+  unfolding wordsNeeded recordStart directoryStart poolSize
   needed-least =
       let k = limits in
       let p = pow-pos (s .depth) in
-      let a : 4 * 12 ≤ (2 ^ s .depth + s .workers + 2) * (2 * s .capacity + 2 * s .workers + 6) = product 4 12 _ _ (omega arith) (omega arith) in
-      let c : 1 * 28 ≤ s .workers * (4 * s .workers + 24) = product 1 28 _ _ (omega arith) (omega arith) in
+      let few : ℕ = 2 ^ leastDepth + leastWorkers + spareRecords in
+      let records : few * recordSize leastCapacity leastWorkers ≤ (2 ^ s .depth + s .workers + spareRecords) * recordSize (s .capacity)
+      (s .workers) =
+      product few (recordSize leastCapacity leastWorkers) _ _ (omega arith) (omega arith) in
+      let workers : leastWorkers * workerSize leastWorkers ≤ s .workers * workerSize (s .workers) =
+      product leastWorkers (workerSize leastWorkers) _ _ (omega arith) (omega arith) in
       omega arith
-
-  needed-directory : directoryStart (s .workers) + 2 ^ s .depth + 53 ≤ wordsNeeded s
-  unfolding wordsNeeded directoryStart
-  needed-directory = omega arith
 
   module _ (l : List ℕ) (m : Machine) (means : Meaning s l m) where
     pub shape-is : shapeOf l ≡ s
@@ -101,17 +103,17 @@ module _ (s : Settings) (range : inRange (s .workers) (s .capacity) (s .depth) �
     pub strange-never : strange l ≡ false
     unfolding strange
     strange-never =
-        let first : word l 0 / 2_048 ≡ mark = rw (means .first) marked in
+        let first : word l headerSettings / markUnit ≡ mark = rw (means .first) marked in
         let long = needed-least in
-        let rest = needed-directory in
+        let rest = fresh-parts s .1 in
         let p = pow-pos (s .depth) in
         let lent = means .lent in
         simp (
           shape-is,
-          le-ltb (length l) 150 (omega arith),
-          eq-eqb (word l 0 / 2_048) mark first,
-          le-ltb (length l) (word l 1) (rw (means .needed) lent),
-          le-ltb (length l) (directoryStart (s .workers) + 54) (omega arith),
+          le-ltb (length l) leastWords (omega arith),
+          eq-eqb (word l headerSettings / markUnit) mark first,
+          le-ltb (length l) (word l headerNeeded) (rw (means .needed) lent),
+          le-ltb (length l) (directoryStart (s .workers) + widestRecord) (omega arith),
         )
 
 -- ---- the words of a fresh table
@@ -124,17 +126,13 @@ module _ (s : Settings) (range : inRange (s .workers) (s .capacity) (s .depth) �
   d = directoryStart n
 
   abbrev front : List ℕ
-  front = firstWord s ∷ wordsNeeded s ∷ 0 ∷ 0 ∷ 1 ∷ replicate (d - 5) 0
+  front = firstWord s ∷ wordsNeeded s ∷ 0 ∷ 0 ∷ 1 ∷ replicate (d - (headerSpare + 1)) 0
 
   abbrev entries : List ℕ
   entries = replicate (2 ^ s .depth) (recordStart s 0)
 
-  room : 16 ≤ d
-  unfolding directoryStart
-  room = omega arith
-
   front-length : length front ≡ d
-  front-length = let k = room in rw length-replicate (omega arith)
+  front-length = let k = fresh-parts s .0 in rw length-replicate (omega arith)
 
   front-entries : length (front ++ entries) ≡ d + 2 ^ s .depth
   front-entries = length-append front entries ∙ rw (front-length, length-replicate)
@@ -142,18 +140,18 @@ module _ (s : Settings) (range : inRange (s .workers) (s .capacity) (s .depth) �
   fresh-length : length (freshWords s) ≡ wordsNeeded s
   unfolding freshWords
   fresh-length =
-      let k = needed-directory s range in
+      let k = fresh-parts s .1 in
       length-append (front ++ entries) _ ∙ rw (front-entries, length-replicate) (omega arith)
 
-  fresh-quiet : (i : ℕ) → 5 ≤ i → i < d → getD (freshWords s) i 0 ≡ 0
+  fresh-quiet : (i : ℕ) → headerSpare < i → i < d → getD (freshWords s) i 0 ≡ 0
   unfolding freshWords
   fresh-quiet i h k =
       let e = front-length in
       let f = front-entries in
       List·getD-append (front ++ entries) _ 0 i (omega arith) ∙ List·getD-append front entries 0 i (omega arith) ∙ go i h k
     where
-      go : (i : ℕ) → 5 ≤ i → i < d → getD front i 0 ≡ 0
-      go (suc (suc (suc (suc (suc i))))) h k = getD-replicate (d - 5) i 0 0 (omega arith)
+      go : (i : ℕ) → headerSpare < i → i < d → getD front i 0 ≡ 0
+      go (suc (suc (suc (suc (suc i))))) h k = getD-replicate (d - (headerSpare + 1)) i 0 0 (omega arith)
       go zero h k = absurd (omega arith)
       go (suc zero) h k = absurd (omega arith)
       go (suc (suc zero)) h k = absurd (omega arith)
@@ -185,46 +183,44 @@ module _ (s : Settings) (range : inRange (s .workers) (s .capacity) (s .depth) �
     fresh-word : (i : ℕ) → i < wordsNeeded s → word after i ≡ getD (freshWords s) i 0
     fresh-word i h = let e = fresh-length in rw (zero-add i) at (getD-overlay-in l 0 (freshWords s) fits i (omega arith))
 
-    zero-slot : (j k : ℕ) → j < n → k < 4 → at s after (slot j) k ≡ 0
+    zero-slot : (j k : ℕ) → j < n → k < slotSize → at s after (slot j) k ≡ 0
     unfolding startOf directoryStart
     zero-slot j k jn h =
-        let b = needed-directory s range in
-        fresh-word (16 + 4 * j + k) (omega arith) ∙ fresh-quiet (16 + 4 * j + k) (omega arith) (omega arith)
+        let b = fresh-parts s .1 in
+        fresh-word (slotAt j + k) (omega arith) ∙ fresh-quiet (slotAt j + k) (omega arith) (omega arith)
 
-    zero-worker : (j k : ℕ) → j < n → k < 4 * n + 24 → at s after (worker j) k ≡ 0
-    unfolding startOf directoryStart workersAt workerSize
+    zero-worker : (j k : ℕ) → j < n → k < workerSize n → at s after (worker j) k ≡ 0
+    unfolding startOf directoryStart workerAt
     zero-worker j k jn h =
-        let b = needed-directory s range in
-        let e = suc-mul j (4 * n + 24) in
-        let f : suc j * (4 * n + 24) ≤ n * (4 * n + 24) = mul-le-mul-right (4 * n + 24) jn in
-        fresh-word (16 + 4 * n + j * (4 * n + 24) + k) (omega arith) ∙ fresh-quiet (16 + 4 * n + j * (4 * n + 24) + k) (omega arith) (omega arith)
+        let b = fresh-parts s .1 in
+        let e = suc-mul j (workerSize n) in
+        let f : suc j * (workerSize n) ≤ n * (workerSize n) = mul-le-mul-right (workerSize n) jn in
+        fresh-word (workerAt n j + k) (omega arith) ∙ fresh-quiet (workerAt n j + k) (omega arith) (omega arith)
 
-    zero-record : (r k : ℕ) → r < poolSize s → k < 2 * s .capacity + 2 * n + 6 → at s after (record′ r) k ≡ 0
-    unfolding startOf poolAt
+    zero-record : (r k : ℕ) → r < poolSize s → k < recordSize (s .capacity) n → at s after (record′ r) k ≡ 0
+    unfolding startOf recordStart
     zero-record r k rn h =
         let b = region-inside s (record′ r) rn in
         let w = record-wide s r in
-        let e = directory-start s in
-        let i : ℕ = r * recordSize s + k in
+        let i : ℕ = r * recordSize (s .capacity) (s .workers) + k in
         let f : startOf s (record′ r) + k ≡ d + 2 ^ s .depth + i = omega arith in
         ap (word after) f ∙ fresh-word (d + 2 ^ s .depth + i) (omega arith) ∙ fresh-rest i (omega arith)
 
     entry-names : (e : ℕ) → e < 2 ^ s .depth → at s after (entry e) 0 ≡ startOf s (record′ 0)
-    entry-names e h =
-        let b = needed-directory s range in
-        rw (add-zero (startOf s (entry e)), ← entry-start s e, ← record-start s 0) (fresh-word (d + e) (omega arith) ∙ fresh-entry e h)
+    unfolding startOf
+    entry-names e h = let b = fresh-parts s .1 in rw (add-zero (d + e)) (fresh-word (d + e) (omega arith) ∙ fresh-entry e h)
 
     -- every account's record is the first
     first-record : (a : ℕ) → Directs s after a 0
     unfolding poolSize
-    first-record a = record { within = omega arith; names = entry-names (firstBits (s .depth) a) (entry-within s a) }
+    first-record a = record { inPool = omega arith; names = entry-names (firstBits (s .depth) a) (entry-within s a) }
 
     only-record : (r : ℕ) → Live s after opened r → r ≡ 0
     unfolding opened
     only-record r (current a h) = record-starts-apart s r 0 (sym (h .names) ∙ first-record a .names)
     only-record r (referred j jn g h) = absurd g
 
-    here : (k : ℕ) → k < 2 * s .capacity + 2 * n + 6 → at s after (record′ 0) k ≡ 0
+    here : (k : ℕ) → k < recordSize (s .capacity) n → at s after (record′ 0) k ≡ 0
     unfolding poolSize
     here k h = zero-record 0 k (omega arith) h
 
@@ -236,7 +232,7 @@ module _ (s : Settings) (range : inRange (s .workers) (s .capacity) (s .depth) �
 
     no-accounts : state .count ≡ 0
     unfolding loadedState
-    no-accounts = rw (← add-zero q, here 0 (omega arith)) (least-same 0 (s .capacity) (omega arith))
+    no-accounts = rw (here recordCount (omega arith)) (least-same 0 (s .capacity) (omega arith))
 
     no-items : itemsOf state ≡ []
     unfolding itemsOf sizeOf pairs if_then_else_
@@ -246,8 +242,10 @@ module _ (s : Settings) (range : inRange (s .workers) (s .capacity) (s .depth) �
     unfolding newBucket settledOf answerOf if_then_else_ loadedState
     state-means =
         let k = range-of n (s .capacity) (s .depth) range in
-        let early : (from j : ℕ) → j < n → from + n ≤ 2 * s .capacity + 2 * n + 6 → getD (copied after (q + from) n) j 0 ≡ 0 =
-        λ from j jn b. getD-copied after (q + from) n j (omega arith) jn ∙ rw (add-assoc q from j) (here (from + j) (omega arith)) in
+        let early : (start from j : ℕ) → start ≡ q + from → j < n → from + n ≤ recordSize (s .capacity) n
+        → getD (copied after start n) j 0 ≡ 0 =
+        λ start from j e jn b. rw e
+        (getD-copied after (q + from) n j (omega arith) jn ∙ rw (add-assoc q from j) (here (from + j) (omega arith))) in
         let sized = loaded-sized after q (s .capacity) n in
         record {
           sound = record {
@@ -262,63 +260,72 @@ module _ (s : Settings) (range : inRange (s .workers) (s .capacity) (s .depth) �
           };
           items = no-items;
           settled = λ j jn o. record {
-            ticket = early (settledFrom (s .capacity)) j jn (omega arith) o;
-            answer = answerOf (early (answersFrom (s .capacity) n) j jn (omega arith) o);
+            ticket = early (settledFrom q (s .capacity)) (settledFrom 0 (s .capacity)) j (omega arith) jn (omega arith) o;
+            answer = answerOf (early (answersFrom q (s .capacity) n) (answersFrom 0 (s .capacity) n) j (omega arith) jn (omega arith) o);
           };
-          applied = λ j jn. rw (here 1 (omega arith)) (no-bits j);
+          applied = λ j jn. rw (here recordApplied (omega arith)) (no-bits j);
         }
 
     first-keeps : Keeps s after 0 (firstCells .buckets (nameIn s after 0))
     unfolding firstCells newBucket
     first-keeps = record {
-      size = rw (here 0 (omega arith)) (omega arith);
+      size = rw (here recordCount (omega arith)) (omega arith);
       state = state-means;
-      toggle = λ j jn. rw (here 2 (omega arith)) (no-bits j);
+      toggle = λ j jn. rw (here recordToggle (omega arith)) (no-bits j);
     }
 
     idle-means : (j : ℕ) → j < n → WorkerMeans s after opened j
-    unfolding opened noReads operationIn readSlot if_then_else_ firstDirectory newBucket
+    unfolding opened noReads operationIn slotFrom descriptorIn if_then_else_ firstDirectory newBucket
     idle-means j jn =
-        let zero : (k : ℕ) → k < 4 * n + 24 → at s after (worker j) k ≡ 0 = λ k h. zero-worker j k jn h in
-        let read : (k : ℕ) → k < 4 * n → getD (part after (startOf s (worker j) + 24) (4 * n)) k 0 ≡ 0 =
-        λ k h. getD-part after (startOf s (worker j) + 24) (4 * n) k h ∙ rw (add-assoc (startOf s (worker j)) 24 k) (zero (24 + k) (omega arith)) in
+        let zero : (k : ℕ) → k < workerSize n → at s after (worker j) k ≡ 0 = λ k h. zero-worker j k jn h in
+        let read : (i o : ℕ) → i < n → o < slotSize → word after (readAt (startOf s (worker j)) i + o) ≡ 0 =
+        λ i o h k. let e : readAt (startOf s (worker j)) i + o ≡ startOf s (worker j) + (slotRead i + o) = omega arith in
+        ap (word after) e ∙ zero (slotRead i + o) (omega arith) in
+        let run : (i o : ℕ) → i < n → o < slotSize
+        → getD (part after (startOf s (worker j) + workerSlots) (slotSize * n)) (slotSize * i + o) 0 ≡ 0 =
+        λ i o h k. slots-at s after j i o h k ∙ read i o h k in
         record {
-          operation = rw (zero 0 (omega arith));
-          narrow = rw (zero 1 (omega arith)) (omega arith);
-          fits = rw (zero 2 (omega arith)) (omega arith);
-          ticket = zero 3 (omega arith);
-          steps = zero 4 (omega arith);
-          toggle = λ i h. rw (zero 7 (omega arith)) (no-bits i);
-          slots = λ i h. rw (zero (24 + 4 * i) (omega arith));
+          operation = rw (zero workerKind (omega arith));
+          narrow = rw (zero workerAccount (omega arith)) (omega arith);
+          fits = rw (zero workerTotal (omega arith)) (omega arith);
+          ticket = zero workerTicket (omega arith);
+          steps = zero workerSteps (omega arith);
+          toggle = λ i h. rw (zero workerToggle (omega arith)) (no-bits i);
+          slots = λ i h. rw (read i slotKind h (omega arith));
           sound = record {
-            narrow = λ i h. rw (read (4 * i + 1) (omega arith)) (omega arith);
-            fits = λ i h. rw (read (4 * i + 2) (omega arith)) (omega arith);
-            quiet = λ i h e. read (4 * i + 3) (omega arith);
+            narrow = λ i h. rw (run i slotAccount h (omega arith)) (omega arith);
+            fits = λ i h. rw (run i slotTotal h (omega arith)) (omega arith);
+            quiet = λ i h e. run i slotTicket h (omega arith);
           };
           held = λ h. absurd h;
           number = λ h. absurd h;
           directory = λ h. absurd h;
-          few = rw (zero 9 (omega arith)) (pow-pos n);
+          few = rw (zero workerMarks (omega arith)) (pow-pos n);
           unmarked = λ h. absurd h;
           marks = λ h. absurd h;
         }
 
     -- the words of an opening mean the fresh machine
     pub opened-means : Meaning s after opened
-    unfolding opened firstCells readSlot if_then_else_ firstDirectory bucketOf freshWords
+    unfolding opened firstCells slotFrom descriptorIn if_then_else_ firstDirectory bucketOf freshWords
     opened-means =
         let long : length after ≡ length l = length-overlay l 0 (freshWords s) fits in
         let least = needed-least s range in
         record {
           lent = rw long enough;
-          first = fresh-word 0 (omega arith);
-          needed = fresh-word 1 (omega arith);
-          depth = fresh-word 2 (omega arith);
-          slots = λ j jn. rw (zero-slot j 0 jn (omega arith));
-          narrow = λ j jn. rw (zero-slot j 1 jn (omega arith)) (omega arith);
-          fits = λ j jn. rw (zero-slot j 2 jn (omega arith)) (omega arith);
-          quiet = λ j jn e. zero-slot j 3 jn (omega arith);
-          directory = λ a. (0, first-record a, λ i. record { depth = here 3 (omega arith) i; prefix = here 4 (omega arith) i });
+          first = fresh-word headerSettings (omega arith);
+          needed = fresh-word headerNeeded (omega arith);
+          depth = fresh-word headerDepth (omega arith);
+          slots = λ j jn. rw (zero-slot j slotKind jn (omega arith));
+          narrow = λ j jn. rw (zero-slot j slotAccount jn (omega arith)) (omega arith);
+          fits = λ j jn. rw (zero-slot j slotTotal jn (omega arith)) (omega arith);
+          quiet = λ j jn e. zero-slot j slotTicket jn (omega arith);
+          directory =
+              λ a. (
+                0,
+                first-record a,
+                λ i. record { depth = here recordDepth (omega arith) i; prefix = here recordPrefix (omega arith) i },
+              );
           cells = λ r h. subst (λ k. Keeps s after k (firstCells .buckets (nameIn s after k))) (sym (only-record r h)) first-keeps;
           apart = λ r t h k e. only-record r h ∙ sym (only-record t k);
           workers = idle-means;

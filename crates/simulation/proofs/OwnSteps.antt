@@ -2,7 +2,7 @@
 -- Rests on what one worker's words have to mean.
 use Prim.Native.Nat.{ℕ, zero, suc, _+_, _*_, _≤_, _<_}
 use native.Mathlib.Omega.{arith}
-use native.Mathlib.Nat.{add-assoc, add-zero}
+use native.Mathlib.Nat.{add-assoc}
 use native.Mathlib.Decide.{ℕ-discrete, decLt}
 use mathlib.Core.Path.{_≡_, refl, ap, sym, _∙_, subst, subst⁻¹}
 use mathlib.Core.Logic.{_≢_, by-cases}
@@ -18,31 +18,32 @@ use Rattle.machine.specs.Records.{Worker, Slot, Machine}
 use Rattle.machine.specs.Steps.{withDirectory, withState, withToggle, withSlot, withCopy}
 use Rattle.machine.specs.DirectoryPass.{copyOf, leafOf}
 use Rattle.machine.proofs.Base.{if-ne, assign-at, assign-elim}
-use Rattle.machine.proofs.Whereabouts.{Holds, Past}
+use Rattle.machine.proofs.CounterFacts.{HoldsBucket, PastState}
 use Rattle.machine.proofs.Counter as Counter
-use Rattle.machine.proofs.Counter.{counter-within, Two, one, two, BStep, DStep, readS, readT, swap, slotB, copyD, swapD, slotD, state, PC, look₁, look₂, readD, flip, checkD, checkS, inB, inD, afterB, afterD}
+use Rattle.machine.proofs.Counter.{counter-in-range, Two, one, two, BStep, DStep, readS, readT, swap, slotB, copyD, swapD, slotD, PC, look₁, look₂, readD, flip, checkD, checkS, inB, inD, afterB, afterD}
 use Rattle.machine.proofs.Inv.{Task, IsMade, ReadFacts, Looking, Fresh, Announced, about, leaf, held, own, DirectoryFresh}
-use Rattle.machine.proofs.Transitions.{tasksOf, lookupPlace}
-use Rattle.bucket.specs.State.{bit}
-use Rattle.bucket.specs.Items.{bitsOf, readSlot}
+use Rattle.machine.proofs.Transitions.{tasksOf, lookupCounter}
+use Rattle.bucket.specs.State.{bit, descriptorIn}
+use Rattle.bucket.specs.Items.{bitsOf, slotFrom}
 use Rattle.lists.specs.Parts.{part, overlay}
-use Rattle.memory.specs.Layout.{slot, worker, record′, startOf, sizeOf}
+use Rattle.fields.specs.Fields.{headerNumber, slotKind, slotAccount, slotTotal, slotTicket, slotSize, workerAccount, workerSteps, workerHeld, workerState, workerToggle, workerDirectory, workerMarks, workerSlots, recordToggle, recordNumber}
+use Rattle.fields.specs.Regions.{slotAt, slotRead, readAt, record′, startOf, regionSize, slot, worker}
 use Rattle.lists.proofs.PartLaws.{length-part, getD-part}
-use Rattle.memory.proofs.Regions.{region-inside}
+use Rattle.fields.proofs.Regions.{region-inside}
 use Rattle.layout.specs.Shape.{word}
-use Rattle.layout.specs.Places.{slotAt, recordOf, heldBy}
-use Rattle.engine.specs.Engine.{heldAt, stateReadAt, toggleReadAt, slotReadAt, directoryReadAt, swappedAt}
+use Rattle.layout.specs.Addresses.{recordOf, heldBy}
+use Rattle.engine.specs.Engine.{bucketReadAt, stateReadAt, toggleReadAt, slotReadAt, directoryReadAt, swappedAt}
 use Rattle.engine.specs.Splits.{redirectedAt}
 use Rattle.table.specs.Turns.{stepIn, updateAt, lookupAt}
 use Rattle.simulation.specs.Meaning.{at, slotIn, nameIn, Directs, Refers, Live, current, HasState, HasDirectory}
-use Rattle.simulation.proofs.Entering.{raised, place-is, directed-record, refers-once, is-about, lookup-enters}
-use Rattle.simulation.proofs.Frames.{inside-trans, worker-wide, record-wide, slot-near, own-head, own-entry, directs-same, slot-wide, own-slot, overlay-inside, over-before, over-behind, over-here}
+use Rattle.simulation.proofs.Entering.{raised, counter-is, directed-record, refers-once, is-about, lookup-enters}
+use Rattle.simulation.proofs.Frames.{inside-trans, worker-wide, record-wide, descriptor-near, own-head, own-entry, directs-same, slot-wide, own-slot, overlay-inside, over-before, over-behind, over-here}
 use Rattle.simulation.proofs.WordBits.{bit-zero}
-use Rattle.simulation.proofs.OwnWorker.{worker-means, Ready, Changed, SeenSlots, work-directory, changed₁, word-changed, put-here, put-beside, slots-before, slots-kept, toggle-kept, going, Onward, goes-on, enough₁, own₁, beside₁, held-kept, live-kept, number-kept, directory-kept, few-kept, refers-back, one-word, word-here, mine, word-mine, keeps-mine}
+use Rattle.simulation.proofs.OwnWorker.{worker-means, Ready, Changed, SeenSlots, work-directory, changed₁, word-changed, put-here, put-beside, read-near, slots-before, slots-kept, toggle-kept, going, Onward, goes-on, enough₁, own₁, beside₁, held-kept, live-kept, number-kept, directory-kept, few-kept, refers-back, one-word, word-here, mine, word-mine, keeps-mine}
 use Rattle.simulation.proofs.OwnWorker.{announced-at, plan-step, stays}
 
--- the steps that a lookup has made, by its place
-look-first : (i : ℕ) → lookupPlace i ≡ look₁ → i ≡ 0
+-- the steps that a lookup has made, by its counter
+look-first : (i : ℕ) → lookupCounter i ≡ look₁ → i ≡ 0
 look-first zero e = refl
 look-first (suc zero) e = let z : _≡_ {A = ℕ} 0 1 = cc in absurd (omega arith)
 look-first (suc (suc i)) e = let z : _≡_ {A = ℕ} 0 1 = cc in absurd (omega arith)
@@ -61,36 +62,37 @@ module _ {s : Settings} {l : List ℕ} {m : Machine} {w : ℕ} (ready : Ready s 
   -- the directory is read: looks, readsD, checksD
   reads-directory :
       (o : Operation) → m .workers w .operation ≡ some o → (pc : PC) → (HasState pc → ⊥) → (HasDirectory pc → ⊥)
-      → stepIn l s w ≡ (heldAt l₁ s me, Stepped.Moved)
+      → stepIn l s w ≡ (bucketReadAt l₁ s me, Stepped.Moved)
       → Onward ready pc (withDirectory (k .reads) (m .cells .directory))
-  unfolding heldAt withDirectory
+  unfolding bucketReadAt withDirectory descriptorIn
   reads-directory o e pc no-state no-directory moved =
-      goes-on ready l₂ 5 6 pc _ moved changed
-      (toggle-kept ready l₂ (changed .behind 7 (omega arith) (omega arith))) (slots-kept ready l₂ (λ i h. changed .behind i (omega arith)))
+      goes-on ready l₂ workerHeld (suc workerHeld) pc _ moved changed
+      (toggle-kept ready l₂ (changed .behind workerToggle (omega arith) (omega arith)))
+      (slots-kept ready l₂ (λ i h. changed .behind i (omega arith)))
       (record {
         held = λ h. (D .0, refers, D .2 ∙ ap (leaf (m .cells)) (sym about-a));
         live = λ h r x. subst (Live s l m) (refers-once s l₂ w (D .0) r refers x) (current a (D .1));
         number = λ h. absurd (no-state h);
         directory = λ h. absurd (no-directory h);
-        few = few-kept ready l₂ (changed .behind 9 (omega arith) (omega arith));
+        few = few-kept ready l₂ (changed .behind workerMarks (omega arith) (omega arith));
         unmarked = λ h. absurd (no-directory h);
         marks = λ h. absurd (no-directory (work-directory pc h));
       })
     where
       v : ℕ
-      v = recordOf l₁ s (word l₁ (me + 1))
+      v = recordOf l₁ s (word l₁ (me + workerAccount))
 
       l₂ : List ℕ
-      l₂ = set l₁ (me + 5) v
+      l₂ = set l₁ (me + workerHeld) v
 
-      changed : Changed s l w (m .workers w .steps) l₂ 5 6
-      changed = one-word ready 5 v (omega arith) (omega arith)
+      changed : Changed s l w (m .workers w .steps) l₂ workerHeld (suc workerHeld)
+      changed = one-word ready workerHeld v (omega arith) (omega arith)
 
       a : ℕ
-      a = at s l (worker w) 1
+      a = at s l (worker w) workerAccount
 
       about-a : about (m .workers w .operation) ≡ a
-      about-a = ap about e ∙ is-about _ _ _ o (worker-means ready .operation ∙ e)
+      about-a = ap about e ∙ is-about (descriptorIn l me) o (worker-means ready .operation ∙ e)
 
       D : (r : ℕ) × Directs s l a r × (nameIn s l r ≡ leaf (m .cells) a)
       D = ready .means .directory a
@@ -98,9 +100,10 @@ module _ {s : Settings} {l : List ℕ} {m : Machine} {w : ℕ} (ready : Ready s 
       refers : Refers s l₂ w (D .0)
       refers =
           record {
-            within = D .1 .within;
+            inPool = D .1 .inPool;
             names =
-                word-here ready 5 v (omega arith) ∙ ap (recordOf l₁ s) (beside₁ ready 1 (omega arith) (λ g. omega arith))
+                word-here ready workerHeld v (omega arith)
+                ∙ ap (recordOf l₁ s) (beside₁ ready workerAccount (omega arith) (λ g. omega arith))
                 ∙ directed-record s l₁ (enough₁ ready) a (D .0) (directs-same s l l₁ a (D .0) (own-entry (own₁ ready) a) (D .1));
           }
 
@@ -110,17 +113,18 @@ module _ {s : Settings} {l : List ℕ} {m : Machine} {w : ℕ} (ready : Ready s 
       (p r : Two) → k .pc ≡ inB p r readS → Onward ready (inB p r readT) (withState (k .reads) (own (m .cells) k .state))
   unfolding updateAt stateReadAt withState
   readsS-means p r e =
-      goes-on ready l₂ 6 7 (inB p r readT) _ (plan-step ready _ a e) changed
-      (toggle-kept ready l₂ (changed .behind 7 (omega arith) (omega arith))) (slots-kept ready l₂ (λ i h. changed .behind i (omega arith)))
+      goes-on ready l₂ workerState (suc workerState) (inB p r readT) _ (plan-step ready _ a e) changed
+      (toggle-kept ready l₂ (changed .behind workerToggle (omega arith) (omega arith)))
+      (slots-kept ready l₂ (λ i h. changed .behind i (omega arith)))
       (record {
-        held = λ x. held-kept ready l₂ five h;
-        live = λ x. live-kept ready l₂ five h;
+        held = λ x. held-kept ready l₂ held-same h;
+        live = λ x. live-kept ready l₂ held-same h;
         number = λ x q y. record {
           to = λ z. refl;
-          from = λ z. number q (refers-once s l w (mine ready h .0) q (mine ready h .1) (refers-back ready l₂ five q y));
+          from = λ z. number q (refers-once s l w (mine ready h .0) q (mine ready h .1) (refers-back ready l₂ held-same q y));
         };
         directory = λ x. absurd x;
-        few = few-kept ready l₂ (changed .behind 9 (omega arith) (omega arith));
+        few = few-kept ready l₂ (changed .behind workerMarks (omega arith) (omega arith));
         unmarked = λ x. absurd x;
         marks = λ x. absurd x;
       })
@@ -128,38 +132,39 @@ module _ {s : Settings} {l : List ℕ} {m : Machine} {w : ℕ} (ready : Ready s 
       a : Announced s (m .cells) w k
       a = announced-at ready (inB p r readS) e
 
-      h : Holds (k .pc)
-      h = subst⁻¹ Holds e tt
+      h : HoldsBucket (k .pc)
+      h = subst⁻¹ HoldsBucket e tt
 
       v : ℕ
-      v = word l₁ (heldBy l₁ me + 5)
+      v = word l₁ (heldBy l₁ me + recordNumber)
 
       l₂ : List ℕ
-      l₂ = set l₁ (me + 6) v
+      l₂ = set l₁ (me + workerState) v
 
-      changed : Changed s l w (m .workers w .steps) l₂ 6 7
-      changed = one-word ready 6 v (omega arith) (omega arith)
+      changed : Changed s l w (m .workers w .steps) l₂ workerState (suc workerState)
+      changed = one-word ready workerState v (omega arith) (omega arith)
 
-      five : at s l₂ (worker w) 5 ≡ at s l (worker w) 5
-      five = changed .before 5 (omega arith) (omega arith)
+      held-same : at s l₂ (worker w) workerHeld ≡ at s l (worker w) workerHeld
+      held-same = changed .before workerHeld (omega arith) (omega arith)
 
-      number : (q : ℕ) → mine ready h .0 ≡ q → at s l₂ (worker w) 6 ≡ at s l (record′ q) 5
+      number : (q : ℕ) → mine ready h .0 ≡ q → at s l₂ (worker w) workerState ≡ at s l (record′ q) recordNumber
       number q g =
-          word-here ready 6 v (omega arith) ∙ word-mine ready h 5 (rw record-wide (omega arith)) ∙ ap (λ (o : ℕ). at s l (record′ o) 5) g
+          word-here ready workerState v (omega arith) ∙ word-mine ready h recordNumber (rw record-wide (omega arith))
+          ∙ ap (λ (o : ℕ). at s l (record′ o) recordNumber) g
 
   pub readsT-means :
       (p r : Two) → k .pc ≡ inB p r readT → Onward ready (inB p r (slotB 0)) (withToggle (k .reads) (own (m .cells) k .toggle))
   unfolding updateAt toggleReadAt withToggle
   readsT-means p r e =
-      goes-on ready l₂ 7 8 (inB p r (slotB 0)) _ (plan-step ready _ a e) changed
-      (λ i b. ap (λ (x : ℕ). bitsOf x i) seven ∙ keeps-mine ready h .toggle i b)
+      goes-on ready l₂ workerToggle (suc workerToggle) (inB p r (slotB 0)) _ (plan-step ready _ a e) changed
+      (λ i b. ap (λ (x : ℕ). bitsOf x i) toggle-read ∙ keeps-mine ready h .toggle i b)
       (slots-kept ready l₂ (λ i b. changed .behind i (omega arith)))
       (record {
-        held = λ x. held-kept ready l₂ five h;
-        live = λ x. live-kept ready l₂ five h;
-        number = λ x. number-kept ready l₂ five (changed .before 6 (omega arith) (omega arith)) (subst⁻¹ HasState e tt);
+        held = λ x. held-kept ready l₂ held-same h;
+        live = λ x. live-kept ready l₂ held-same h;
+        number = λ x. number-kept ready l₂ held-same (changed .before workerState (omega arith) (omega arith)) (subst⁻¹ HasState e tt);
         directory = λ x. absurd x;
-        few = few-kept ready l₂ (changed .behind 9 (omega arith) (omega arith));
+        few = few-kept ready l₂ (changed .behind workerMarks (omega arith) (omega arith));
         unmarked = λ x. absurd x;
         marks = λ x. absurd x;
       })
@@ -167,106 +172,117 @@ module _ {s : Settings} {l : List ℕ} {m : Machine} {w : ℕ} (ready : Ready s 
       a : Announced s (m .cells) w k
       a = announced-at ready (inB p r readT) e
 
-      h : Holds (k .pc)
-      h = subst⁻¹ Holds e tt
+      h : HoldsBucket (k .pc)
+      h = subst⁻¹ HoldsBucket e tt
 
       v : ℕ
-      v = word l₁ (heldBy l₁ me + 2)
+      v = word l₁ (heldBy l₁ me + recordToggle)
 
       l₂ : List ℕ
-      l₂ = set l₁ (me + 7) v
+      l₂ = set l₁ (me + workerToggle) v
 
-      changed : Changed s l w (m .workers w .steps) l₂ 7 8
-      changed = one-word ready 7 v (omega arith) (omega arith)
+      changed : Changed s l w (m .workers w .steps) l₂ workerToggle (suc workerToggle)
+      changed = one-word ready workerToggle v (omega arith) (omega arith)
 
-      five : at s l₂ (worker w) 5 ≡ at s l (worker w) 5
-      five = changed .before 5 (omega arith) (omega arith)
+      held-same : at s l₂ (worker w) workerHeld ≡ at s l (worker w) workerHeld
+      held-same = changed .before workerHeld (omega arith) (omega arith)
 
-      seven : at s l₂ (worker w) 7 ≡ at s l (record′ (mine ready h .0)) 2
-      seven = word-here ready 7 v (omega arith) ∙ word-mine ready h 2 (rw record-wide (omega arith))
+      toggle-read : at s l₂ (worker w) workerToggle ≡ at s l (record′ (mine ready h .0)) recordToggle
+      toggle-read = word-here ready workerToggle v (omega arith) ∙ word-mine ready h recordToggle (rw record-wide (omega arith))
 
   -- ---- slot i is read
 
   module _ (i : ℕ) (b : i < s .workers) where
     xs : List ℕ
-    xs = part l₁ (slotAt i) 4
+    xs = part l₁ (slotAt i) slotSize
 
     abbrev l₂ : List ℕ
     l₂ = slotReadAt l₁ me i
 
-    slot-read : l₂ ≡ overlay l₁ (me + (24 + 4 * i)) xs
+    slot-read : l₂ ≡ overlay l₁ (me + (slotRead i)) xs
     unfolding slotReadAt xs
-    slot-read = ap (λ (q : ℕ). overlay l₁ q (part l₁ (slotAt i) 4)) (add-assoc me 24 (4 * i))
+    slot-read = ap (λ (q : ℕ). overlay l₁ q (part l₁ (slotAt i) slotSize)) (add-assoc me workerSlots (slotSize * i))
 
-    xs-length : length xs ≡ 4
+    xs-length : length xs ≡ slotSize
     unfolding xs startOf
-    xs-length = length-part l₁ (slotAt i) 4 (omega (arith, region-inside s (slot i) b, enough₁ ready, slot-wide s i))
+    xs-length = length-part l₁ (slotAt i) slotSize (omega (arith, region-inside s (slot i) b, enough₁ ready, slot-wide s i))
 
-    inside : 24 + 4 * i + length xs ≤ sizeOf s (worker w)
+    inside : slotRead i + length xs ≤ regionSize s (worker w)
     inside = rw (xs-length, worker-wide) (omega arith)
 
-    slot-changed : Changed s l w (m .workers w .steps) l₂ (24 + 4 * i) (24 + 4 * i + 4)
+    slot-changed : Changed s l w (m .workers w .steps) l₂ (slotRead i) (slotRead i + slotSize)
     slot-changed =
         let c = changed₁ ready in
         rw slot-read (record {
-          own = inside-trans (own₁ ready) (overlay-inside s l₁ (enough₁ ready) (worker w) (ready .known) (24 + 4 * i) xs inside);
-          call = λ o h. over-before s l₁ (enough₁ ready) (worker w) (ready .known) (24 + 4 * i) xs inside o (omega arith) ∙ c .call o h;
-          count = over-before s l₁ (enough₁ ready) (worker w) (ready .known) (24 + 4 * i) xs inside 4 (omega arith) ∙ c .count;
-          before = λ o h g. over-before s l₁ (enough₁ ready) (worker w) (ready .known) (24 + 4 * i) xs inside o g ∙ c .behind o h (omega arith);
-          behind = λ o h g. over-behind s l₁ (enough₁ ready) (worker w) (ready .known) (24 + 4 * i) xs inside o (rw xs-length h) ∙ c .behind o (omega arith) g;
+          own = inside-trans (own₁ ready) (overlay-inside s l₁ (enough₁ ready) (worker w) (ready .known) (slotRead i) xs inside);
+          call = λ o h. over-before s l₁ (enough₁ ready) (worker w) (ready .known) (slotRead i) xs inside o (omega arith) ∙ c .call o h;
+          count = over-before s l₁ (enough₁ ready) (worker w) (ready .known) (slotRead i) xs inside workerSteps (omega arith) ∙ c .count;
+          before =
+              λ o h g. over-before s l₁ (enough₁ ready) (worker w) (ready .known) (slotRead i) xs inside o g ∙ c .behind o h (omega arith);
+          behind =
+              λ o h g. over-behind s l₁ (enough₁ ready) (worker w) (ready .known) (slotRead i) xs inside o (rw xs-length h)
+              ∙ c .behind o (omega arith) g;
         })
 
-    slot-word : (o : ℕ) → o < 4 → at s l₂ (worker w) (24 + 4 * i + o) ≡ at s l (slot i) o
+    -- word o of the slot
+    read-word : (o : ℕ) → o < slotSize → at s l₂ (worker w) (slotRead i + o) ≡ at s l (slot i) o
     unfolding xs startOf
-    slot-word o h =
-        rw slot-read (over-here s l₁ (enough₁ ready) (worker w) (ready .known) (24 + 4 * i) xs inside o (rw xs-length h))
-        ∙ getD-part l₁ (slotAt i) 4 o h ∙ own-slot (own₁ ready) i b o (rw slot-wide h)
+    read-word o h =
+        rw slot-read (over-here s l₁ (enough₁ ready) (worker w) (ready .known) (slotRead i) xs inside o (rw xs-length h))
+        ∙ getD-part l₁ (slotAt i) slotSize o h ∙ own-slot (own₁ ready) i b o (rw slot-wide h)
 
-    slot-first : at s l₂ (worker w) (24 + 4 * i) ≡ at s l (slot i) 0
-    slot-first = rw (add-zero (24 + 4 * i)) at (slot-word 0 (omega arith))
+    slot-word : (o : ℕ) → o < slotSize → word l₂ (readAt me i + o) ≡ at s l (slot i) o
+    slot-word o h = let e : readAt me i + o ≡ me + (slotRead i + o) = omega arith in ap (word l₂) e ∙ read-word o h
 
-    slot-whole : slotIn s l₂ (worker w) (24 + 4 * i) ≡ slotIn s l (slot i) 0
-    slot-whole = λ q. readSlot (slot-first q) (slot-word 1 (omega arith) q) (slot-word 2 (omega arith) q) (slot-word 3 (omega arith) q)
+    slot-whole : descriptorIn l₂ (readAt me i) ≡ descriptorIn l (startOf s (slot i))
+    unfolding descriptorIn
+    slot-whole = λ q. record {
+      kind = slot-word slotKind (omega arith) q;
+      account = slot-word slotAccount (omega arith) q;
+      total = slot-word slotTotal (omega arith) q;
+      ticket = slot-word slotTicket (omega arith) q;
+    }
 
     -- of the other slots
-    slot-beside : (j : ℕ) → j < s .workers → j ≢ i → (o : ℕ) → 24 + 4 * j ≤ o → o < 24 + 4 * j + 4 → at s l₂ (worker w) o ≡ at s l (worker w) o
-    slot-beside j h d o x y =
-        by-cases (decLt j i) (λ g. slot-changed .before o (omega arith) (omega arith))
-        (λ g. slot-changed .behind o (omega (arith, d)) (omega arith))
+    slot-beside : (j : ℕ) → j < s .workers → j ≢ i → (o : ℕ) → o < slotSize → word l₂ (readAt me j + o) ≡ word l (readAt me j + o)
+    slot-beside j h d = read-near s l l₂ w j
+        (λ o x y. by-cases (decLt j i) (λ g. slot-changed .before o (omega arith) (omega arith))
+        (λ g. slot-changed .behind o (omega (arith, d)) (omega arith)))
 
     slot-seen : SeenSlots s w l₂ (assign (k .reads .slots) i (m .cells .slots i))
     slot-seen =
         let y = slots-before ready in
         record {
-          slots = λ j h. assign-elim (λ (x : Slot). slotIn s l₂ (worker w) (24 + 4 * j) ≡ x) (k .reads .slots) i _ j
-              (λ e. rw e (slot-whole ∙ ready .means .slots i b))
-              (λ e. slot-near s l l₂ (worker w) (24 + 4 * j) (slot-beside j h e) ∙ y .slots j h);
-          narrow = λ j h. by-cases (ℕ-discrete j i) (λ e. rw (e, slot-word 1 (omega arith)) (ready .means .narrow i b))
-              (λ e. rw (slot-beside j h e (24 + 4 * j + 1) (omega arith) (omega arith)) (y .narrow j h));
-          fits = λ j h. by-cases (ℕ-discrete j i) (λ e. rw (e, slot-word 2 (omega arith)) (ready .means .fits i b))
-              (λ e. rw (slot-beside j h e (24 + 4 * j + 2) (omega arith) (omega arith)) (y .fits j h));
-          quiet = λ j h. by-cases (ℕ-discrete j i) (λ e. rw (e, slot-first, slot-word 3 (omega arith)) (ready .means .quiet i b))
-              (λ e. let same = slot-beside j h e in
-              rw (same (24 + 4 * j) (omega arith) (omega arith), same (24 + 4 * j + 3) (omega arith) (omega arith)) (y .quiet j h));
+          slots = λ j h. assign-elim (λ (x : Slot). slotIn l₂ (readAt me j) ≡ x) (k .reads .slots) i _ j
+              (λ e. rw e (ap slotFrom slot-whole ∙ ready .means .slots i b))
+              (λ e. ap slotFrom (descriptor-near s l l₂ (readAt me j) (slot-beside j h e)) ∙ y .slots j h);
+          narrow = λ j h. by-cases (ℕ-discrete j i) (λ e. rw (e, slot-word slotAccount (omega arith)) (ready .means .narrow i b))
+              (λ e. rw (slot-beside j h e slotAccount (omega arith)) (y .narrow j h));
+          fits = λ j h. by-cases (ℕ-discrete j i) (λ e. rw (e, slot-word slotTotal (omega arith)) (ready .means .fits i b))
+              (λ e. rw (slot-beside j h e slotTotal (omega arith)) (y .fits j h));
+          quiet = λ j h. by-cases (ℕ-discrete j i)
+              (λ e. rw (e, slot-word slotKind (omega arith), slot-word slotTicket (omega arith)) (ready .means .quiet i b))
+              (λ e. let same = slot-beside j h e in rw (same slotKind (omega arith), same slotTicket (omega arith)) (y .quiet j h));
         }
 
-  place-within : {u : Update} → m .workers w .operation ≡ some (update u) → {pc : PC} → k .pc ≡ pc → Counter.Within (s .workers) pc
-  place-within e f =
-      subst (Counter.Within (s .workers)) (place-is s m w e f) (counter-within (s .workers) (m .workers w .steps))
+  step-in-range : {u : Update} → m .workers w .operation ≡ some (update u) → {pc : PC} → k .pc ≡ pc → Counter.StepInRange (s .workers) pc
+  step-in-range e f =
+      subst (Counter.StepInRange (s .workers)) (counter-is s m w e f) (counter-in-range (s .workers) (m .workers w .steps))
 
   -- slotsB, lastB
   pub slotB-means :
       (p r : Two) (i : ℕ) (x : BStep) → k .pc ≡ inB p r (slotB i) → Onward ready (inB p r x) (withSlot (k .reads) i (m .cells .slots i))
   unfolding updateAt withSlot
   slotB-means p r i x e =
-      goes-on ready (l₂ i b) (24 + 4 * i) (24 + 4 * i + 4) (inB p r x) _ (plan-step ready _ a e) changed
-      (toggle-kept ready (l₂ i b) (changed .before 7 (omega arith) (omega arith))) (slot-seen i b)
+      goes-on ready (l₂ i b) (slotRead i) (slotRead i + slotSize) (inB p r x) _ (plan-step ready _ a e) changed
+      (toggle-kept ready (l₂ i b) (changed .before workerToggle (omega arith) (omega arith))) (slot-seen i b)
       (record {
-        held = λ q. held-kept ready (l₂ i b) five (subst⁻¹ Holds e tt);
-        live = λ q. live-kept ready (l₂ i b) five (subst⁻¹ Holds e tt);
-        number = λ q. number-kept ready (l₂ i b) five (changed .before 6 (omega arith) (omega arith)) (subst⁻¹ HasState e tt);
+        held = λ q. held-kept ready (l₂ i b) held-same (subst⁻¹ HoldsBucket e tt);
+        live = λ q. live-kept ready (l₂ i b) held-same (subst⁻¹ HoldsBucket e tt);
+        number =
+            λ q. number-kept ready (l₂ i b) held-same (changed .before workerState (omega arith) (omega arith)) (subst⁻¹ HasState e tt);
         directory = λ q. absurd q;
-        few = few-kept ready (l₂ i b) (changed .before 9 (omega arith) (omega arith));
+        few = few-kept ready (l₂ i b) (changed .before workerMarks (omega arith) (omega arith));
         unmarked = λ q. absurd q;
         marks = λ q. absurd q;
       })
@@ -275,13 +291,13 @@ module _ {s : Settings} {l : List ℕ} {m : Machine} {w : ℕ} (ready : Ready s 
       a = announced-at ready (inB p r (slotB i)) e
 
       b : i < s .workers
-      b = place-within (a .asks) e
+      b = step-in-range (a .asks) e
 
-      changed : Changed s l w (m .workers w .steps) (l₂ i b) (24 + 4 * i) (24 + 4 * i + 4)
+      changed : Changed s l w (m .workers w .steps) (l₂ i b) (slotRead i) (slotRead i + slotSize)
       changed = slot-changed i b
 
-      five : at s (l₂ i b) (worker w) 5 ≡ at s l (worker w) 5
-      five = changed .before 5 (omega arith) (omega arith)
+      held-same : at s (l₂ i b) (worker w) workerHeld ≡ at s l (worker w) workerHeld
+      held-same = changed .before workerHeld (omega arith) (omega arith)
 
   -- ---- a swap that fails
 
@@ -290,14 +306,15 @@ module _ {s : Settings} {l : List ℕ} {m : Machine} {w : ℕ} (ready : Ready s 
   unfolding updateAt swappedAt
   misses-means p r e stale = by r
     where
-      h : Holds (k .pc)
-      h = subst⁻¹ Holds e tt
+      h : HoldsBucket (k .pc)
+      h = subst⁻¹ HoldsBucket e tt
 
-      differ : word l₁ (me + 6) ≢ word l₁ (heldBy l₁ me + 5)
+      differ : word l₁ (me + workerState) ≢ word l₁ (heldBy l₁ me + recordNumber)
       differ g =
-          let six = beside₁ ready 6 (omega arith) (λ g. omega arith) in
-          let five = word-mine ready h 5 (rw record-wide (omega arith)) in
-          stale (worker-means ready .number (subst⁻¹ HasState e tt) (mine ready h .0) (mine ready h .1) .to (sym six ∙ g ∙ five))
+          let state-same = beside₁ ready workerState (omega arith) (λ g. omega arith) in
+          let held-same = word-mine ready h recordNumber (rw record-wide (omega arith)) in
+          stale (worker-means ready .number (subst⁻¹ HasState e tt) (mine ready h .0) (mine ready h .1) .to
+          (sym state-same ∙ g ∙ held-same))
 
       a : Announced s (m .cells) w k
       a = announced-at ready (inB p r swap) e
@@ -314,10 +331,11 @@ module _ {s : Settings} {l : List ℕ} {m : Machine} {w : ℕ} (ready : Ready s 
   unfolding updateAt redirectedAt
   missesD-means p r e stale = by r
     where
-      differ : word l₁ (me + 8) ≢ word l₁ 3
+      differ : word l₁ (me + workerDirectory) ≢ word l₁ headerNumber
       differ g =
-          let eight = beside₁ ready 8 (omega arith) (λ g. omega arith) in
-          stale (worker-means ready .directory (subst⁻¹ HasDirectory e tt) .to (sym eight ∙ g ∙ own-head (own₁ ready) 3 (omega arith)))
+          let directory-same = beside₁ ready workerDirectory (omega arith) (λ g. omega arith) in
+          stale (worker-means ready .directory (subst⁻¹ HasDirectory e tt) .to
+          (sym directory-same ∙ g ∙ own-head (own₁ ready) headerNumber (omega arith)))
 
       a : Announced s (m .cells) w k
       a = announced-at ready (inD p r swapD) e
@@ -336,15 +354,16 @@ module _ {s : Settings} {l : List ℕ} {m : Machine} {w : ℕ} (ready : Ready s 
       → Onward ready (inD p r (slotD 0)) (withCopy (withDirectory (k .reads) (m .cells .directory)) (copyOf (m .cells .directory .value)))
   unfolding updateAt directoryReadAt withDirectory withCopy
   copies-means p r e =
-      goes-on ready l₃ 8 10 (inD p r (slotD 0)) _ (plan-step ready _ a e) changed
-      (toggle-kept ready l₃ (changed .before 7 (omega arith) (omega arith))) (slots-kept ready l₃ (λ i h. changed .behind i (omega arith)))
+      goes-on ready l₃ workerDirectory (suc workerMarks) (inD p r (slotD 0)) _ (plan-step ready _ a e) changed
+      (toggle-kept ready l₃ (changed .before workerToggle (omega arith) (omega arith)))
+      (slots-kept ready l₃ (λ i h. changed .behind i (omega arith)))
       (record {
         held = λ q. absurd q;
         live = λ q. absurd q;
         number = λ q. absurd q;
-        directory = λ q. record { to = λ z. refl; from = λ z. eight };
-        few = rw nine (pow-pos (s .workers));
-        unmarked = λ q i b h. rw nine (bit-zero i);
+        directory = λ q. record { to = λ z. refl; from = λ z. directory-read };
+        few = rw marks-none (pow-pos (s .workers));
+        unmarked = λ q i b h. rw marks-none (bit-zero i);
         marks = λ q. absurd q;
       })
     where
@@ -352,43 +371,46 @@ module _ {s : Settings} {l : List ℕ} {m : Machine} {w : ℕ} (ready : Ready s 
       a = announced-at ready (inD p r copyD) e
 
       v : ℕ
-      v = word l₁ 3
+      v = word l₁ headerNumber
 
       l₂′ : List ℕ
-      l₂′ = set l₁ (me + 8) v
+      l₂′ = set l₁ (me + workerDirectory) v
 
       l₃ : List ℕ
-      l₃ = set l₂′ (me + 9) 0
+      l₃ = set l₂′ (me + workerMarks) 0
 
-      changed₂ : Changed s l w (m .workers w .steps) l₂′ 8 9
-      changed₂ = one-word ready 8 v (omega arith) (omega arith)
+      changed₂ : Changed s l w (m .workers w .steps) l₂′ workerDirectory (suc workerDirectory)
+      changed₂ = one-word ready workerDirectory v (omega arith) (omega arith)
 
-      changed : Changed s l w (m .workers w .steps) l₃ 8 10
+      changed : Changed s l w (m .workers w .steps) l₃ workerDirectory (suc workerMarks)
       changed =
-          word-changed s l (ready .means .lent) w (ready .known) _ l₂′ 8 9 0 changed₂ 9 8 (omega arith) (omega arith) (omega arith) (omega arith)
+          word-changed s l (ready .means .lent) w (ready .known) _ l₂′ workerDirectory workerMarks 0 changed₂ workerMarks workerDirectory
+          (omega arith) (omega arith) (omega arith) (omega arith)
           (λ o x y z. absurd (omega arith))
 
-      eight : at s l₃ (worker w) 8 ≡ word l 3
-      eight =
-          put-beside s l (ready .means .lent) w (ready .known) _ l₂′ 8 9 0 changed₂ 9 8 (omega arith) (omega arith) (λ g. omega arith)
-          ∙ word-here ready 8 v (omega arith) ∙ own-head (own₁ ready) 3 (omega arith)
+      directory-read : at s l₃ (worker w) workerDirectory ≡ word l headerNumber
+      directory-read =
+          put-beside s l (ready .means .lent) w (ready .known) _ l₂′ workerDirectory workerMarks 0 changed₂ workerMarks workerDirectory
+          (omega arith) (omega arith) (λ g. omega arith)
+          ∙ word-here ready workerDirectory v (omega arith) ∙ own-head (own₁ ready) headerNumber (omega arith)
 
-      nine : at s l₃ (worker w) 9 ≡ 0
-      nine = put-here s l (ready .means .lent) w (ready .known) _ l₂′ 8 9 0 changed₂ 9 (omega arith)
+      marks-none : at s l₃ (worker w) workerMarks ≡ 0
+      marks-none = put-here s l (ready .means .lent) w (ready .known) _ l₂′ workerDirectory workerMarks 0 changed₂ workerMarks (omega arith)
 
   -- slotsD, lastD
   pub slotD-means :
       (p r : Two) (i : ℕ) (x : DStep) → k .pc ≡ inD p r (slotD i) → Onward ready (inD p r x) (withSlot (k .reads) i (m .cells .slots i))
   unfolding updateAt withSlot leafOf copyOf
   slotD-means p r i x e =
-      goes-on ready (l₂ i b) (24 + 4 * i) (24 + 4 * i + 4) (inD p r x) _ (plan-step ready _ a e) changed
-      (toggle-kept ready (l₂ i b) (changed .before 7 (omega arith) (omega arith))) (slot-seen i b)
+      goes-on ready (l₂ i b) (slotRead i) (slotRead i + slotSize) (inD p r x) _ (plan-step ready _ a e) changed
+      (toggle-kept ready (l₂ i b) (changed .before workerToggle (omega arith) (omega arith))) (slot-seen i b)
       (record {
         held = λ q. absurd q;
         live = λ q. absurd q;
         number = λ q. absurd q;
-        directory = λ q. directory-kept ready (l₂ i b) (changed .before 8 (omega arith) (omega arith)) (subst⁻¹ HasDirectory e tt);
-        few = few-kept ready (l₂ i b) (changed .before 9 (omega arith) (omega arith));
+        directory =
+            λ q. directory-kept ready (l₂ i b) (changed .before workerDirectory (omega arith) (omega arith)) (subst⁻¹ HasDirectory e tt);
+        few = few-kept ready (l₂ i b) (changed .before workerMarks (omega arith) (omega arith));
         unmarked = λ q j h z. none-marked j h;
         marks = λ q z. record {
           to = λ c g. absurd (no-mark (g .by) (g .below) (g .set));
@@ -402,17 +424,17 @@ module _ {s : Settings} {l : List ℕ} {m : Machine} {w : ℕ} (ready : Ready s 
       a = announced-at ready (inD p r (slotD i)) e
 
       b : i < s .workers
-      b = place-within (a .asks) e
+      b = step-in-range (a .asks) e
 
-      changed : Changed s l w (m .workers w .steps) (l₂ i b) (24 + 4 * i) (24 + 4 * i + 4)
+      changed : Changed s l w (m .workers w .steps) (l₂ i b) (slotRead i) (slotRead i + slotSize)
       changed = slot-changed i b
 
-      none-marked : (j : ℕ) → j < s .workers → bit (at s (l₂ i b) (worker w) 9) j ≡ 0
+      none-marked : (j : ℕ) → j < s .workers → bit (at s (l₂ i b) (worker w) workerMarks) j ≡ 0
       none-marked j h =
-          rw (changed .before 9 (omega arith) (omega arith))
-          (worker-means ready .unmarked (subst⁻¹ HasDirectory e tt) j h (λ z. subst (Past (s .workers) j) e z))
+          rw (changed .before workerMarks (omega arith) (omega arith))
+          (worker-means ready .unmarked (subst⁻¹ HasDirectory e tt) j h (λ z. subst (PastState (s .workers) j) e z))
 
-      no-mark : (j : ℕ) → j < s .workers → bit (at s (l₂ i b) (worker w) 9) j ≡ 1 → ⊥
+      no-mark : (j : ℕ) → j < s .workers → bit (at s (l₂ i b) (worker w) workerMarks) j ≡ 1 → ⊥
       no-mark j h g = omega (arith, none-marked j h)
 
       after : Worker
@@ -433,7 +455,7 @@ module _ {s : Settings} {l : List ℕ} {m : Machine} {w : ℕ} (ready : Ready s 
   unfolding lookupAt
   looks-means e =
       let a : Looking s (m .cells) w k = announced-at ready look₁ e in
-      let first : m .workers w .steps ≡ 0 = look-first _ (place-is s m w (a .asks) e) in
+      let first : m .workers w .steps ≡ 0 = look-first _ (counter-is s m w (a .asks) e) in
       reads-directory (lookup (a .wanted)) (a .asks) look₂ (λ q. q) (λ q. q)
       (lookup-enters s (ready .range) l m (ready .means) (ready .good) w (ready .known) (a .wanted) (a .asks) ∙ ap (lookupAt l₁ s me) first)
 

@@ -14,13 +14,13 @@ use Rattle.interface.specs.declared.Settings.{Settings}
 use Rattle.machine.specs.Choice.{if_then_else_, assign}
 use Rattle.machine.specs.Records.{Copy, Slot, Cells, Reads, Worker, Machine}
 use Rattle.machine.specs.DirectoryPass.{leafOf}
-use Rattle.machine.specs.Words.{wordsNeeded}
-use Rattle.machine.specs.Steps.{counted, reported}
+use Rattle.fields.specs.Fields.{headerNumber, workerDirectory, workerMarks}
+use Rattle.fields.specs.Regions.{wordsNeeded, startOf, worker}
+use Rattle.machine.specs.Steps.{counted, stepReply}
 use Rattle.machine.proofs.Base.{if-eq, eq-elim}
 use Rattle.machine.proofs.Counter.{Two, inD, swapD, afterD}
-use Rattle.machine.proofs.Inv.{Task, leaf, leafBody, DirectoryFresh, IsMade, Grown, Worked}
+use Rattle.machine.proofs.Inv.{Task, leaf, leafBody, DirectoryFresh, IsMade, ResolvedTo, KeptOrResolved}
 use Rattle.machine.proofs.Transitions.{taskOf, tasksOf, redirectedCells}
-use Rattle.memory.specs.Layout.{worker, startOf}
 use Rattle.layout.specs.Shape.{word}
 use Rattle.layout.specs.Numbers.{freshDirectory}
 use Rattle.engine.specs.Splits.{resolvedAt, nothingToSplit, redirectedAt}
@@ -28,8 +28,8 @@ use Rattle.simulation.specs.Meaning.{at, current, HasDirectory, HasWork,
 use Rattle.simulation.proofs.Frames.{own-head}
 use Rattle.simulation.proofs.Entering.{raised}
 use Rattle.simulation.proofs.OwnWorker.{worker-means, Ready, Next, slots-kept, own₁, beside₁, announced-at, plan-step}
-use Rattle.simulation.proofs.Landing.{means₁, work, made-leaf, directed-keeps, landed}
-use Rattle.machine.proofs.Keeping.{goes}
+use Rattle.simulation.proofs.DirectorySwapped.{means₁, work, made-leaf, directed-keeps, directory-swapped}
+use Rattle.machine.proofs.Preservation.{goes}
 use Rattle.table.specs.Turns.{updateAt}
 use Rattle.simulation.proofs.Resolving as Resolving
 use Rattle.simulation.proofs.Resolving.{Start, Resolved, resolves, unmarked}
@@ -58,8 +58,8 @@ module _ {s : Settings} {l : List ℕ} {m : Machine} {w : ℕ} (ready : Ready s 
   abbrev v : Worker
   v = counted (m .workers w) (m .workers w .reads) none
 
-  nine : at s l₁ (worker w) 9 ≡ at s l (worker w) 9
-  nine = beside₁ ready 9 (omega arith) (λ e. omega arith)
+  marks-same : at s l₁ (worker w) workerMarks ≡ at s l (worker w) workerMarks
+  marks-same = beside₁ ready workerMarks (omega arith) (λ e. omega arith)
 
   module _ (p r : Two) (here : k .pc ≡ inD p r swapD) (fresh : DirectoryFresh c k)
       (next : taskOf (s .workers) v .pc ≡ afterD p r) where
@@ -71,11 +71,11 @@ module _ {s : Settings} {l : List ℕ} {m : Machine} {w : ℕ} (ready : Ready s 
 
     -- a mark on the words is one of the working copy
     marked : (i a : ℕ) → i < s .workers → Resolving.Marks s l₁ c w slots o i a → Marked s l m w a
-    marked i a h e = record { by = i; below = h; set = rw nine at (e .marked); here = e .here }
+    marked i a h e = record { by = i; below = h; set = rw marks-same at (e .marked); here = e .here }
 
     start : Start s l₁ c w slots o
     start = record {
-      begun = record {
+      swap-ready = record {
         range = ready .range;
         enough = means₀ .lent;
         keeps = directed-keeps ready p r here fresh next;
@@ -87,11 +87,11 @@ module _ {s : Settings} {l : List ℕ} {m : Machine} {w : ℕ} (ready : Ready s 
       apart = λ a e t u h g. means₀ .apart t u (current a h) (current e g);
       depth = means₀ .depth;
       grown = λ i a h e. grown a (marks .to a (marked i a h e)) (work ready p r here fresh next a);
-      once = λ i j a h g e f. marks .once i j h g (rw nine at (e .marked)) (rw nine at (f .marked)) (e .here ∙ sym (f .here));
-      full = λ i h e f. marks .full i h (rw nine at e) f;
+      once = λ i j a h g e f. marks .once i j h g (rw marks-same at (e .marked)) (rw marks-same at (f .marked)) (e .here ∙ sym (f .here));
+      full = λ i h e f. marks .full i h (rw marks-same at e) f;
     }
       where
-        grown : (a : ℕ) → IsMade (leafOf o a) → Worked s c k a → Grown s slots (leaf c a) (leafBody c a) a (leafOf o a)
+        grown : (a : ℕ) → IsMade (leafOf o a) → KeptOrResolved s c k a → ResolvedTo s slots (leaf c a) (leafBody c a) a (leafOf o a)
         grown a h (inl e) = absurd (subst IsMade e h)
         grown a h (inr g) = g
 
@@ -99,43 +99,45 @@ module _ {s : Settings} {l : List ℕ} {m : Machine} {w : ℕ} (ready : Ready s 
 
     -- resolved, if there is a mark
     l₂ : List ℕ
-    l₂ = if eqb (word l₁ (q + 9)) 0 then l₁ else resolvedAt l₁ s q (s .workers)
+    l₂ = if eqb (word l₁ (q + workerMarks)) 0 then l₁ else resolvedAt l₁ s q (s .workers)
 
     resolution : Resolved s l₁ c w slots o (s .workers) l₂
     unfolding l₂
     resolution =
-        eq-elim (Resolved s l₁ c w slots o (s .workers)) (word l₁ (q + 9)) 0 _ _ (unmarked start) (λ d. resolves start (s .workers) (omega arith))
+        eq-elim (Resolved s l₁ c w slots o (s .workers)) (word l₁ (q + workerMarks)) 0 _ _ (unmarked start)
+        (λ d. resolves start (s .workers) (omega arith))
 
     -- they stand for the working copy
     leaves : (a : ℕ) → leafOf (resolution .copy) a ≡ leafOf o a
     leaves a = by (work ready p r here fresh next a)
       where
-        by : Worked s c k a → leafOf (resolution .copy) a ≡ leafOf o a
+        by : KeptOrResolved s c k a → leafOf (resolution .copy) a ≡ leafOf o a
         by (inl e) = resolution .rest a (λ i h f. subst IsMade e (marks .to a (marked i a h f))) ∙ sym e
         by (inr g) =
             let f = marks .from a (subst⁻¹ IsMade (made-leaf ready p r here fresh next a g) tt) in
-            resolution .done a (f .by) (f .below) (record { marked = rw nine (f .set); here = f .here })
+            resolution .done a (f .by) (f .below) (record { marked = rw marks-same (f .set); here = f .here })
 
     -- the words are long enough for every record
-    long-enough : nothingToSplit l₁ s q ≡ eqb (word l₁ (q + 9)) 0
+    long-enough : nothingToSplit l₁ s q ≡ eqb (word l₁ (q + workerMarks)) 0
     unfolding nothingToSplit
-    long-enough = rw (le-ltb (length l₁) (wordsNeeded s) (means₀ .lent)) (or-false (eqb (word l₁ (q + 9)) 0))
+    long-enough = rw (le-ltb (length l₁) (wordsNeeded s) (means₀ .lent)) (or-false (eqb (word l₁ (q + workerMarks)) 0))
 
-    swapped : redirectedAt l₁ s q ≡ set l₂ 3 (freshDirectory l₁ (s .workers))
+    swapped : redirectedAt l₁ s q ≡ set l₂ headerNumber (freshDirectory l₁ (s .workers))
     unfolding redirectedAt l₂
     swapped =
-        let three = own-head (own₁ ready) 3 (omega arith) in
-        rw (← long-enough) (if-eq (word l₁ (q + 8)) (word l₁ 3) _ _
-        (beside₁ ready 8 (omega arith) (λ e. omega arith) ∙ worker-means ready .directory (subst⁻¹ HasDirectory here tt) .from fresh ∙ sym three))
+        let number-same = own-head (own₁ ready) headerNumber (omega arith) in
+        rw (← long-enough) (if-eq (word l₁ (q + workerDirectory)) (word l₁ headerNumber) _ _
+        (beside₁ ready workerDirectory (omega arith) (λ e. omega arith)
+        ∙ worker-means ready .directory (subst⁻¹ HasDirectory here tt) .from fresh ∙ sym number-same))
 
     redirected-means : Meaning s (redirectedAt l₁ s q) (record { cells = redirectedCells c k; workers = assign (m .workers) w v })
-    redirected-means = rw swapped (landed ready p r here fresh next l₂ (resolution .copy) (resolution .mid) leaves)
+    redirected-means = rw swapped (directory-swapped ready p r here fresh next l₂ (resolution .copy) (resolution .mid) leaves)
 
   pub redirects-means :
       (p r : Two) → tasksOf s m w .pc ≡ inD p r swapD → DirectoryFresh (m .cells) (tasksOf s m w) → (y : Reads)
       → taskOf (s .workers) (counted (m .workers w) y none) ≡ goes (tasksOf s m w) (afterD p r) (m .workers w .reads)
       → Next ready (redirectedCells (m .cells) (tasksOf s m w)) y none
-  unfolding updateAt counted reported
+  unfolding updateAt counted stepReply
   redirects-means p r e fresh y f =
       let a = announced-at ready (inD p r swapD) e in
       let g : y ≡ m .workers w .reads = ap (λ (x : Task). x .reads) f in

@@ -22,26 +22,24 @@ use Rattle.interface.specs.declared.Built.{Built}
 use Rattle.machine.specs.Choice.{if_then_else_}
 use Rattle.machine.specs.Sequential.{Table, having}
 use Rattle.machine.specs.Records.{Machine, newBucket, firstCells, opened}
-use Rattle.machine.specs.Words.{wordsNeeded}
+use Rattle.fields.specs.Regions.{wordsNeeded, startOf, worker}
 use Rattle.machine.specs.Steps.{step}
 use Rattle.machine.specs.Calls.{Opening, opens, refuses, openingOf, opening, call, lists, declines, listingOf, listing}
 use Rattle.machine.specs.History.{machines, Entry, calling, stepping, showing, reopening, next, entryAt, stateAt, Linearizable}
 use Rattle.machine.proofs.Base.{if-ap}
 use Rattle.machine.proofs.Openings.{opening-opens, call-stranger, step-stranger}
 use Rattle.machine.proofs.Tasks.{Good, opened-good, call-good, step-good}
-use Rattle.machine.proofs.Explain.{Parts, feed}
+use Rattle.machine.proofs.Explain.{Parts, serveAll}
 use Rattle.machine.proofs.Advance.{advance}
 use Rattle.machine.proofs.Transfer.{RepliesAlike, transfer}
 use Rattle.machine.proofs.Claim.{demand3}
 use Rattle.machine.proofs.Transitions.{tasksOf}
 use Rattle.lists.specs.Parts.{overlay}
-use Rattle.memory.specs.Layout.{worker, startOf}
 use Rattle.layout.specs.Shape.{strange, shapeOf}
 use Rattle.table.specs.Turns.{stepIn, stepWords, callIn, callWords, freshWords, openedWords, openWords}
 use Rattle.rows.specs.Rows.{shown, rows, listingWords}
 use Rattle.simulation.specs.Lent.{Typed, AllTyped, listingOn, shownAs, lentWords, Demand3OnWords}
 use Rattle.simulation.specs.Meaning.{Meaning}
-use Rattle.simulation.proofs.Entering.{worker-start}
 use Rattle.simulation.proofs.OwnWorker.{Ready}
 use Rattle.simulation.proofs.CallMeans.{call-means}
 use Rattle.simulation.proofs.StepMeans.{step-means}
@@ -76,33 +74,38 @@ pub shown-alike :
     → shown accounts totals t ≡ shownAs accounts totals (listingOf t (length accounts) (length totals))
 unfolding shown listingOf
 shown-alike accounts totals t =
-    sym (if-ap (shownAs accounts totals) (ltb (length accounts) (length t) || ltb (length totals) (length t)) (declines Refusal.Narrow) (lists t))
+    sym (if-ap (shownAs accounts totals) (ltb (length accounts) (length t) || ltb (length totals) (length t)) (declines Refusal.Narrow)
+    (lists t))
 
 -- what the two lists become is what the listing shows, for any words
-pub shown-on : (l accounts : List ℕ) (totals : List ℤ) → listingWords l accounts totals ≡ shownAs accounts totals (listingOn l (length accounts) (length totals))
+pub shown-on :
+    (l accounts : List ℕ) (totals : List ℤ)
+    → listingWords l accounts totals ≡ shownAs accounts totals (listingOn l (length accounts) (length totals))
 unfolding listingWords listingOn if_then_else_
 shown-on l accounts totals = go (strange l) refl
   where
-    go : (b : Bool) → strange l ≡ b → listingWords l accounts totals ≡ shownAs accounts totals (listingOn l (length accounts) (length totals))
+    go :
+        (b : Bool) → strange l ≡ b
+        → listingWords l accounts totals ≡ shownAs accounts totals (listingOn l (length accounts) (length totals))
     go true e = rw e
     go false e = rw e (shown-alike accounts totals (rows l (shapeOf l)))
 
 -- ---- one entry
 
--- the words mean a good machine that holds a plain table
-pub record Holds (s : Settings) (l : List ℕ) (m : Machine) : Type 0 where
+-- the words mean a good machine whose buckets together are a plain table
+pub record Represents (s : Settings) (l : List ℕ) (m : Machine) : Type 0 where
   pub means : Meaning s l m
   pub good : Good s m
   pub table : Table
   pub parts : Parts (m .cells) table
 
 module _ (s : Settings) (range : inRange (s .workers) (s .capacity) (s .depth) ≡ true) where
-  module _ (l : List ℕ) (m : Machine) (h : Holds s l m) where
+  module _ (l : List ℕ) (m : Machine) (h : Represents s l m) where
     ready : (w : ℕ) → w < s .workers → Ready s l m w
     ready w known = record { range = range; means = h .means; good = h .good; known = known }
 
-    sane : strange l ≡ false
-    sane = strange-never s range l m (h .means)
+    not-strange : strange l ≡ false
+    not-strange = strange-never s range l m (h .means)
 
     shape : shapeOf l ≡ s
     shape = shape-is s range l m (h .means)
@@ -113,31 +116,32 @@ module _ (s : Settings) (range : inRange (s .workers) (s .capacity) (s .depth) �
       where
         go : Dec (w < s .workers) → Meaning s (stepWords l w .0) (step s m w .0) × (stepWords l w .1 ≡ step s m w .1)
         go (yes known) =
-            let e : stepWords l w ≡ stepIn l s w = rw (sane, shape, lt-leb (s .workers) w known) in
+            let e : stepWords l w ≡ stepIn l s w = rw (not-strange, shape, lt-leb (s .workers) w known) in
             rw e (step-means (ready w known))
         go (no beyond) =
-            let e : stepWords l w ≡ (l, Stepped.Refused Refusal.Stranger) = rw (sane, shape, le-leb (s .workers) w (omega arith)) in
+            let e : stepWords l w ≡ (l, Stepped.Refused Refusal.Stranger) = rw (not-strange, shape, le-leb (s .workers) w (omega arith)) in
             rw (e, step-stranger s m w (omega arith)) (h .means, refl)
 
     module _ (w kind a : ℕ) (v : ℤ) (narrow : a < 2 ^ 32) (fits : SFits w64 v) where
       pub call-alike : Meaning s (callWords l w kind a v .0) (call s m w kind a v .0) × (callWords l w kind a v .1 ≡ call s m w kind a v .1)
-      unfolding callWords if_then_else_
+      unfolding callWords startOf if_then_else_
       call-alike = go (decLt w (s .workers))
         where
           go : Dec (w < s .workers)
               → Meaning s (callWords l w kind a v .0) (call s m w kind a v .0) × (callWords l w kind a v .1 ≡ call s m w kind a v .1)
           go (yes known) =
               let e : callWords l w kind a v ≡ callIn l (startOf s (worker w)) kind a v =
-              rw (sane, shape, lt-leb (s .workers) w known, worker-start s w) in
+              rw (not-strange, shape, lt-leb (s .workers) w known) in
               rw e (call-means (ready w known) kind a v narrow fits)
           go (no beyond) =
-              let e : callWords l w kind a v ≡ (l, Called.Refused Refusal.Stranger) = rw (sane, shape, le-leb (s .workers) w (omega arith)) in
+              let e : callWords l w kind a v ≡ (l, Called.Refused Refusal.Stranger) =
+              rw (not-strange, shape, le-leb (s .workers) w (omega arith)) in
               rw (e, call-stranger s m w kind a v (omega arith)) (h .means, refl)
 
     pub listing-alike : (x y : ℕ) → listing m x y ≡ listingOn l x y
     unfolding listingOn listing if_then_else_
     listing-alike x y =
-        let e : listingOn l x y ≡ listingOf (rows l s) x y = rw (sane, shape) in
+        let e : listingOn l x y ≡ listingOf (rows l s) x y = rw (not-strange, shape) in
         sym (e ∙ ap (λ t. listingOf t x y) (rows-are s range l m (h .means) (h .good) (h .table) (h .parts)))
 
     -- the entry is answered alike
@@ -162,11 +166,11 @@ module _ (s : Settings) (range : inRange (s .workers) (s .capacity) (s .depth) �
     good-next (reopening n b M lent r e) = h .good
 
     -- and the words go on to mean the machine
-    pub holds-next : (e : Entry) → Typed e → Holds s (next lentWords l e) (next (machines s) m e)
-    holds-next e t = record {
+    pub represents-next : (e : Entry) → Typed e → Represents s (next lentWords l e) (next (machines s) m e)
+    represents-next e t = record {
       means = means-next e t;
       good = good-next e;
-      table = feed s (tasksOf s m) (h .table) (advance s range m (h .table) (h .good) (h .parts) e .explained .effects);
+      table = serveAll s (tasksOf s m) (h .table) (advance s range m (h .table) (h .good) (h .parts) e .explained .effects);
       parts = advance s range m (h .table) (h .good) (h .parts) e .explained .parts;
     }
 
@@ -187,26 +191,27 @@ module _ (s : Settings) (range : inRange (s .workers) (s .capacity) (s .depth) �
     machineAt = stateAt s (machines s) opened [] es
 
     -- at every place the words mean a good machine
-    pub holds-at : (i : ℕ) → Holds s (wordsAt i) (machineAt i)
+    pub represents-at : (i : ℕ) → Represents s (wordsAt i) (machineAt i)
     unfolding stateAt opened firstCells newBucket having
-    holds-at zero = record {
+    represents-at zero = record {
       means = opened-means s range l enough;
       good = opened-good s range;
       table = [];
       parts = record { ascending = tt; part = λ a. refl };
     }
-    holds-at (suc i) = holds-next (wordsAt i) (machineAt i) (holds-at i) (entryAt es i) (typed-at es typed i)
+    represents-at (suc i) = represents-next (wordsAt i) (machineAt i) (represents-at i) (entryAt es i) (typed-at es typed i)
 
     -- refusal 8 never occurs there
     pub never-strange : (i : ℕ) → strange (wordsAt i) ≡ false
-    never-strange i = strange-never s range (wordsAt i) (machineAt i) (holds-at i .means)
+    never-strange i = strange-never s range (wordsAt i) (machineAt i) (represents-at i .means)
 
     pub linearizable : Linearizable s lentWords start [] es
     linearizable = transfer s (machines s) lentWords opened start [] es
-        (λ i. alike (wordsAt i) (machineAt i) (holds-at i) (entryAt es i) (typed-at es typed i))
-        (λ i x y b. listing-alike (wordsAt i) (machineAt i) (holds-at i) x y) (demand3 s range es)
+        (λ i. alike (wordsAt i) (machineAt i) (represents-at i) (entryAt es i) (typed-at es typed i))
+        (λ i x y b. listing-alike (wordsAt i) (machineAt i) (represents-at i) x y) (demand3 s range es)
 
 -- Demand 3 for the calls.
 pub demand3-on-words : Demand3OnWords
 demand3-on-words s range l enough es typed =
-    subst⁻¹ (λ (k : List ℕ). Linearizable s lentWords k [] es) (ap (λ r. r .0) (accepted s range l enough es typed)) (linearizable s range l enough es typed)
+    subst⁻¹ (λ (k : List ℕ). Linearizable s lentWords k [] es) (ap (λ r. r .0) (accepted s range l enough es typed))
+    (linearizable s range l enough es typed)

@@ -1,5 +1,5 @@
 -- The marked buckets resolved in place, one after the other: the words then stand for the machine's working copy.
--- Rests on taking the updates of one bucket, and on what a round makes of a full bucket.
+-- Rests on the taken updates of one bucket, and on what a round makes of a full bucket.
 use Prim.Native.Nat.{ℕ, zero, suc, _+_, _≤_, _<_}
 use native.Mathlib.Omega.{arith}
 use native.Mathlib.Decide.{ℕ-discrete}
@@ -14,15 +14,15 @@ use Rattle.machine.specs.Choice.{if_then_else_}
 use Rattle.machine.specs.Sequential.{Update, account}
 use Rattle.machine.specs.Records.{bucketOf, Name, Body, kept, made, Copy, Slot, empty, announced, Cells}
 use Rattle.machine.specs.BucketPass.{splittable}
-use Rattle.machine.specs.DirectoryPass.{copyOf, leafOf, nameOf, plant, takeSlots}
+use Rattle.machine.specs.DirectoryPass.{copyOf, leafOf, nameOf, replaceLeaf, takeSlots}
 use Rattle.machine.proofs.Base.{if-elim}
-use Rattle.machine.proofs.Copies.{Inside, Coherent, Grove, grove-name, grove-of, same-leaf, leafOf-copyOf, due}
-use Rattle.machine.proofs.Inv.{leaf, leafBody, body, resolved, Grown}
+use Rattle.machine.proofs.Copies.{InBucket, Coherent, Partition, partition-name, partition-of, same-leaf, leafOf-copyOf, due}
+use Rattle.machine.proofs.Inv.{leaf, leafBody, body, resolved, ResolvedTo}
 use Rattle.machine.proofs.Resolve.{taken-inside, taken-outside}
-use Rattle.memory.specs.Layout.{worker, record′, startOf}
-use Rattle.bucket.specs.State.{bit}
+use Rattle.fields.specs.Fields.{headerDepth, workerMarks}
+use Rattle.fields.specs.Regions.{record′, startOf, worker}
+use Rattle.bucket.specs.State.{bit, descriptorIn}
 use Rattle.layout.specs.Shape.{word}
-use Rattle.layout.specs.Places.{readAt, recordOf}
 use Rattle.engine.specs.Engine.{markedAt, recordFor}
 use Rattle.engine.specs.Splits.{duesAt, takenAll, resolvedAt}
 use Rattle.simulation.specs.Meaning.{at, nameIn, accountIn, Directs}
@@ -30,28 +30,28 @@ use Rattle.simulation.proofs.Frames.{keeps-same, worker-wide}
 use Rattle.simulation.proofs.Entering.{depth-bound, directed-record}
 use Rattle.simulation.proofs.Halves.{frame-refl}
 use Rattle.simulation.proofs.InPlace.{Old, Content, Mid}
-use Rattle.simulation.proofs.Replanting.{replant}
-use Rattle.simulation.proofs.Taking.{Begun, slot-read, slot-is, takes-mid}
-use Rattle.simulation.proofs.Dues.{dues-bits, due-at}
+use Rattle.simulation.proofs.LeafReplaced.{replaced-mid}
+use Rattle.simulation.proofs.TakenUpdates.{SwapReady, slot-read, slot-is, takes-mid}
+use Rattle.simulation.proofs.DueUpdates.{dues-bits, due-at}
 use Rattle.simulation.proofs.WordBits.{bit-zero}
 
 -- words l₀, cells c₀, the slots that worker w has read, and its working copy o
 module _ (s : Settings) (l₀ : List ℕ) (c₀ : Cells) (w : ℕ) (slots : ℕ → Slot) (o : Copy) where
   -- worker i's slot is marked, and its account is of account a's bucket
   pub record Marks (i a : ℕ) : Type 0 where
-    pub marked : bit (at s l₀ (worker w) 9) i ≡ 1
+    pub marked : bit (at s l₀ (worker w) workerMarks) i ≡ 1
     pub here : leaf c₀ (accountIn (slots i)) ≡ leaf c₀ a
 
   -- what is asked of them
   pub record Start : Type 0 where
-    pub begun : Begun s l₀ c₀ w slots
+    pub swap-ready : SwapReady s l₀ c₀ w slots
     pub coherent : Coherent (s .depth) (copyOf (c₀ .directory .value))
     pub directory : (a : ℕ) → (r : ℕ) × Directs s l₀ a r × (nameIn s l₀ r ≡ leaf c₀ a)
     pub apart : (a e r t : ℕ) → Directs s l₀ a r → Directs s l₀ e t → nameIn s l₀ r ≡ nameIn s l₀ t → r ≡ t
-    pub depth : word l₀ 2 ≡ c₀ .directory .value .depth
-    pub grown : (i a : ℕ) → i < s .workers → Marks i a → Grown s slots (leaf c₀ a) (leafBody c₀ a) a (leafOf o a)
+    pub depth : word l₀ headerDepth ≡ c₀ .directory .value .depth
+    pub grown : (i a : ℕ) → i < s .workers → Marks i a → ResolvedTo s slots (leaf c₀ a) (leafBody c₀ a) a (leafOf o a)
     pub once : (i k a : ℕ) → i < s .workers → k < s .workers → Marks i a → Marks k a → i ≡ k
-    pub full : (i : ℕ) → i < s .workers → bit (at s l₀ (worker w) 9) i ≡ 1 → slots i ≡ empty → ⊥
+    pub full : (i : ℕ) → i < s .workers → bit (at s l₀ (worker w) workerMarks) i ≡ 1 → slots i ≡ empty → ⊥
 
   -- in words l the buckets of the marks below j are resolved
   pub record Resolved (j : ℕ) (l : List ℕ) : Type 0 where
@@ -61,14 +61,14 @@ module _ (s : Settings) (l₀ : List ℕ) (c₀ : Cells) (w : ℕ) (slots : ℕ 
     pub rest : (a : ℕ) → ((i : ℕ) → i < j → Marks i a → ⊥) → leafOf copy a ≡ kept (leaf c₀ a)
 
 module _ {s : Settings} {l₀ : List ℕ} {c₀ : Cells} {w : ℕ} {slots : ℕ → Slot} {o : Copy} (b₀ : Start s l₀ c₀ w slots o) where
-  abbrev begun : Begun s l₀ c₀ w slots
-  begun = b₀ .begun
+  abbrev swap-ready : SwapReady s l₀ c₀ w slots
+  swap-ready = b₀ .swap-ready
 
   abbrev Middle : List ℕ → Copy → Type 0
   Middle = Mid s l₀ c₀
 
   small : s .depth ≤ 32
-  small = depth-bound s (begun .range)
+  small = depth-bound s (swap-ready .range)
 
   start-mid : Middle l₀ (copyOf (c₀ .directory .value))
   unfolding leafOf copyOf bucketOf
@@ -76,8 +76,8 @@ module _ {s : Settings} {l₀ : List ℕ} {c₀ : Cells} {w : ℕ} {slots : ℕ 
     frame = frame-refl s l₀;
     depth = b₀ .depth;
     coherent = b₀ .coherent;
-    place = λ a. b₀ .directory a .0;
-    stands = λ a. record {
+    index = λ a. b₀ .directory a .0;
+    keeps = λ a. record {
       directs = b₀ .directory a .1;
       named = b₀ .directory a .2;
       content = (record { was = b₀ .directory a .1; same = λ i h. refl }, refl);
@@ -99,12 +99,13 @@ module _ {s : Settings} {l₀ : List ℕ} {c₀ : Cells} {w : ℕ} {slots : ℕ 
   abbrev p : ℕ
   p = startOf s (worker w)
 
-  grove : Grove (s .depth) (leaf c₀)
-  grove = grove-of _ (b₀ .coherent)
+  partition : Partition (s .depth) (leaf c₀)
+  partition = partition-of _ (b₀ .coherent)
 
   -- the bucket of account a₀, whose worker j has marked it
-  module _ (j : ℕ) (jn : j < s .workers) (l : List ℕ) (h : Resolved s l₀ c₀ w slots o j l) (u : Update) (t : ℕ) (read : slots j ≡ announced u t)
-      (m : bit (at s l₀ (worker w) 9) j ≡ 1) where
+  module _ (j : ℕ) (jn : j < s .workers) (l : List ℕ) (h : Resolved s l₀ c₀ w slots o j l) (u : Update) (t : ℕ)
+      (read : slots j ≡ announced u t)
+      (m : bit (at s l₀ (worker w) workerMarks) j ≡ 1) where
     abbrev a₀ : ℕ
     a₀ = account u
 
@@ -126,14 +127,14 @@ module _ {s : Settings} {l₀ : List ℕ} {c₀ : Cells} {w : ℕ} {slots : ℕ 
     splits : splittable s (x .depth) b ≡ true
     splits = b₀ .grown j a₀ jn (mine a₀ refl) .splits
 
-    old : (a : ℕ) → Inside x a → Old s l₀ c₀ l (mid .place a₀) a × (x ≡ leaf c₀ a)
+    old : (a : ℕ) → InBucket x a → Old s l₀ c₀ l (mid .index a₀) a × (x ≡ leaf c₀ a)
     old a i =
         let e : leafOf (h .copy) a ≡ kept x = same-leaf (mid .coherent) a₀ x (ap nameOf there) a i ∙ there in
-        let q : mid .place a ≡ mid .place a₀ = mid .apart a a₀ (ap nameOf (e ∙ sym there)) in
-        subst (λ (r : ℕ). Old s l₀ c₀ l r a × (x ≡ leaf c₀ a)) q (subst (Content s l₀ c₀ l (mid .place a) a) e (mid .stands a .content))
+        let q : mid .index a ≡ mid .index a₀ = mid .apart a a₀ (ap nameOf (e ∙ sym there)) in
+        subst (λ (r : ℕ). Old s l₀ c₀ l r a × (x ≡ leaf c₀ a)) q (subst (Content s l₀ c₀ l (mid .index a) a) e (mid .keeps a .content))
 
-    planted : Middle l (plant x (made x b) (h .copy))
-    planted = replant s l₀ c₀ small l l (h .copy) mid a₀ x (ap nameOf there) b
+    made-mid : Middle l (replaceLeaf x (made x b) (h .copy))
+    made-mid = replaced-mid s l₀ c₀ small l l (h .copy) mid a₀ x (ap nameOf there) b
         (record {
           frame = frame-refl s l;
           depth = refl;
@@ -145,35 +146,35 @@ module _ {s : Settings} {l₀ : List ℕ} {c₀ : Cells} {w : ℕ} {slots : ℕ 
         (λ i r g k n v. refl)
 
     abbrev dues : ℕ
-    dues = duesAt l s p (startOf s (record′ (mid .place a₀))) (s .workers)
+    dues = duesAt l s p (startOf s (record′ (mid .index a₀))) (s .workers)
 
     flags : (i : ℕ) → i < s .workers → eqb (bit dues i) 1 ≡ due x b i (slots i)
     flags i k =
-        let z = old a₀ (grove .named a₀) .0 in
-        let d = grove .bound a₀ in
-        let c = small in
+        let z = old a₀ (partition .named a₀) .0 in
         dues-bits l s p _ (s .workers) i k
-        ∙ due-at s (begun .range) l (mid .place a₀) x (c₀ .buckets x) (mid .stands a₀ .named ∙ ap nameOf there) (omega arith)
-        (keeps-same s l₀ l _ _ (z .same) (begun .keeps a₀ _ (z .was))) p i k
-        ∙ ap (due x b i) (slot-read begun l (h .copy) mid i k)
+        ∙ due-at s (swap-ready .range) l (mid .index a₀) x (c₀ .buckets x) (mid .keeps a₀ .named ∙ ap nameOf there)
+        (keeps-same s l₀ l _ _ (z .same) (swap-ready .keeps a₀ _ (z .was))) p i k
+        ∙ ap (due x b i) (slot-read swap-ready l (h .copy) mid i k)
 
     abbrev after : Copy
-    after = takeSlots s x b slots (s .workers) (plant x (made x b) (h .copy))
+    after = takeSlots s x b slots (s .workers) (replaceLeaf x (made x b) (h .copy))
 
     taken : Middle (takenAll l s p dues (s .workers)) after
-    taken = takes-mid begun x b (h .copy) (mid .coherent) a₀ there dues flags
-        (s .workers) (omega arith) l planted
+    taken = takes-mid swap-ready x b (h .copy) (mid .coherent) a₀ there dues flags
+        (s .workers) (omega arith) l made-mid
 
     after-inside : (a : ℕ) → leaf c₀ a ≡ x → leafOf after a ≡ leafOf o a
     after-inside a e =
-        let i : Inside x a = subst (λ (y : Name). Inside y a) e (grove .named a) in
-        taken-inside s small x a₀ (grove-name grove a₀) (grove .bound a₀) b slots (h .copy) (mid .coherent) there (s .workers) a i
+        let i : InBucket x a = subst (λ (y : Name). InBucket y a) e (partition .named a) in
+        taken-inside s small x a₀ (partition-name partition a₀) (partition .bound a₀) b slots (h .copy) (mid .coherent) there
+        (s .workers) a i
         ∙ ap (λ (y : Name). leafOf (resolved s y (body c₀ y) slots (s .workers)) a) (sym e) ∙ sym (b₀ .grown j a jn (mine a e) .is)
 
     after-outside : (a : ℕ) → leaf c₀ a ≢ x → leafOf after a ≡ leafOf (h .copy) a
     after-outside a d =
-        taken-outside s small x a₀ (grove-name grove a₀) (grove .bound a₀) b slots (h .copy) (mid .coherent) there (s .workers) a
-        (λ i. d (grove .shared a₀ a i))
+        taken-outside s small x a₀ (partition-name partition a₀) (partition .bound a₀) b slots (h .copy) (mid .coherent) there
+        (s .workers) a
+        (λ i. d (partition .shared a₀ a i))
 
     next : Resolved s l₀ c₀ w slots o (suc j) (takenAll l s p dues (s .workers))
     next = record {
@@ -190,11 +191,12 @@ module _ {s : Settings} {l₀ : List ℕ} {c₀ : Cells} {w : ℕ} {slots : ℕ 
 
     marked-step :
         Resolved s l₀ c₀ w slots o (suc j) (takenAll l s (startOf s (worker w))
-        (duesAt l s (startOf s (worker w)) (recordOf l s (word l (readAt (startOf s (worker w)) j + 1))) (s .workers)) (s .workers))
+        (duesAt l s (startOf s (worker w)) (recordFor l s (startOf s (worker w)) j) (s .workers)) (s .workers))
+    unfolding descriptorIn
     marked-step =
         rw (
-          slot-is begun j jn u t read l (h .copy) mid .account,
-          directed-record s l (omega (arith, mid .frame .same-length, begun .enough)) a₀ (mid .place a₀) (mid .stands a₀ .directs),
+          slot-is swap-ready j jn u t read l (h .copy) mid .account,
+          directed-record s l (omega (arith, mid .frame .same-length, swap-ready .enough)) a₀ (mid .index a₀) (mid .keeps a₀ .directs),
         ) next
 
   -- ---- all of them
@@ -212,19 +214,19 @@ module _ {s : Settings} {l₀ : List ℕ} {c₀ : Cells} {w : ℕ} {slots : ℕ 
           → Resolved s l₀ c₀ w slots o (suc j)
           (if markedAt l′ p j then takenAll l′ s p (duesAt l′ s p (recordFor l′ s p j) (s .workers)) (s .workers) else l′)
       by q = if-elim (Resolved s l₀ c₀ w slots o (suc j)) (markedAt l′ p j) _ l′
-          (λ e. on (slots j) refl (sym same ∙ eqb-true (bit (word l′ (p + 9)) j) 1 e))
-          (λ e. off (λ f. eqb-false (bit (word l′ (p + 9)) j) 1 e (same ∙ f)))
+          (λ e. on (slots j) refl (sym same ∙ eqb-true (bit (word l′ (p + workerMarks)) j) 1 e))
+          (λ e. off (λ f. eqb-false (bit (word l′ (p + workerMarks)) j) 1 e (same ∙ f)))
         where
-          same : bit (word l′ (p + 9)) j ≡ bit (at s l₀ (worker w) 9) j
-          same = ap (λ (x : ℕ). bit x j) (q .mid .frame .left (worker w) 9 (begun .known) tt (rw worker-wide (omega arith)))
+          same : bit (word l′ (p + workerMarks)) j ≡ bit (at s l₀ (worker w) workerMarks) j
+          same = ap (λ (x : ℕ). bit x j) (q .mid .frame .left (worker w) workerMarks (swap-ready .known) tt (rw worker-wide (omega arith)))
 
           on :
-              (y : Slot) → slots j ≡ y → bit (at s l₀ (worker w) 9) j ≡ 1
+              (y : Slot) → slots j ≡ y → bit (at s l₀ (worker w) workerMarks) j ≡ 1
               → Resolved s l₀ c₀ w slots o (suc j) (takenAll l′ s p (duesAt l′ s p (recordFor l′ s p j) (s .workers)) (s .workers))
           on empty e f = absurd (b₀ .full j h f e)
           on (announced u t) e f = marked-step j h l′ q u t e f
 
-          off : bit (at s l₀ (worker w) 9) j ≢ 1 → Resolved s l₀ c₀ w slots o (suc j) l′
+          off : bit (at s l₀ (worker w) workerMarks) j ≢ 1 → Resolved s l₀ c₀ w slots o (suc j) l′
           off d = record {
             copy = q .copy;
             mid = q .mid;
@@ -233,7 +235,7 @@ module _ {s : Settings} {l₀ : List ℕ} {c₀ : Cells} {w : ℕ} {slots : ℕ 
           }
 
   -- where there is no mark there is nothing to do
-  pub unmarked : at s l₀ (worker w) 9 ≡ 0 → Resolved s l₀ c₀ w slots o (s .workers) l₀
+  pub unmarked : at s l₀ (worker w) workerMarks ≡ 0 → Resolved s l₀ c₀ w slots o (s .workers) l₀
   unmarked e = record {
     copy = start .copy;
     mid = start .mid;

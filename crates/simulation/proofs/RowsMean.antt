@@ -22,24 +22,24 @@ use Rattle.machine.specs.DirectoryPass.{copyOf, nameOf}
 use Rattle.machine.specs.Calls.{contents}
 use Rattle.machine.proofs.Base.{if-elim, if-false, if-eq, if-ne}
 use Rattle.machine.proofs.Bits.{bits-below, representative, bits-representative}
-use Rattle.machine.proofs.Tables.{Above, Ascending, having-having}
-use Rattle.machine.proofs.Copies.{Coherent, within, leafOf-copyOf, grove-name, grove-of}
+use Rattle.machine.proofs.Tables.{AccountsAbove, Ascending, having-having}
+use Rattle.machine.proofs.Copies.{Coherent, depthAt-le, leafOf-copyOf, partition-name, partition-of}
 use Rattle.machine.proofs.Listing.{contents-is}
 use Rattle.machine.proofs.Inv.{leaf, leafBody}
 use Rattle.machine.proofs.Tasks.{Good}
 use Rattle.machine.proofs.Explain.{Parts}
 use Rattle.bucket.specs.declared.BucketState.{BucketState}
-use Rattle.bucket.specs.State as State
 use Rattle.bucket.specs.Items.{signed, pairs, itemsOf, Below, Sound, Means}
-use Rattle.memory.specs.Layout.{record′, startOf, totalsFrom}
+use Rattle.bucket.proofs.Laws.{size-is}
+use Rattle.fields.specs.Fields.{recordCount, accountsFrom, totalsFrom}
+use Rattle.fields.specs.Regions.{directoryStart, record′, startOf}
 use Rattle.memory.specs.Loads.{least, copied, loadedState}
 use Rattle.memory.proofs.Runs.{getD-copied}
-use Rattle.memory.proofs.States.{least-same}
-use Rattle.layout.specs.Shape.{word, directoryStart}
-use Rattle.layout.specs.Places as Places
+use Rattle.layout.specs.Shape.{word}
+use Rattle.layout.specs.Addresses.{recordIn, recordOf}
 use Rattle.rows.specs.Rows.{entryRecord, rowAt, rowsIn, rowsOf, rowsFrom, rows}
 use Rattle.simulation.specs.Meaning.{at, current, Meaning}
-use Rattle.simulation.proofs.Entering.{directed-record, at-first}
+use Rattle.simulation.proofs.Entering.{directed-record}
 
 -- ---- a table by the first bits of its accounts
 
@@ -59,7 +59,7 @@ module _ (d : ℕ) where
   bits-rise a c h k g = rw (mod-eq-of-lt k, mod-eq-of-lt g) (shr-mono (32 - d) h)
 
   -- past an account with more
-  none-left : (e x : ℕ) (t : Table) → Above x t → Narrow t → x < 2 ^ 32 → e < firstBits d x → having d e t ≡ []
+  none-left : (e x : ℕ) (t : Table) → AccountsAbove x t → Narrow t → x < 2 ^ 32 → e < firstBits d x → having d e t ≡ []
   unfolding having
   none-left e x [] h k g b = refl
   none-left e x (y ∷ t) h k g b =
@@ -117,8 +117,8 @@ narrow-pairs (a ∷ xs) [] h = tt
 narrow-pairs (a ∷ xs) (v ∷ vs) h = (h .0, narrow-pairs xs vs (h .1))
 
 items-are : (x : BucketState) → Sound x → itemsOf x ≡ pairs (take (x .count) (x .accounts)) (take (x .count) (x .totals))
-unfolding itemsOf State.sizeOf least
-items-are x h = ap (λ (c : ℕ). pairs (take c (x .accounts)) (take c (x .totals))) (least-same (x .count) 16 (h .count))
+unfolding itemsOf
+items-are x h = ap (λ (c : ℕ). pairs (take c (x .accounts)) (take c (x .totals))) (size-is x (h .count))
 
 -- ---- the rows of one entry
 
@@ -126,15 +126,15 @@ module _ (l : List ℕ) (s : Settings) (e q : ℕ) where
   -- the accounts and totals from place i on are those of two lists
   rows-pairs :
       (xs vs : List ℕ) (i : ℕ) → length vs ≡ length xs → Below (2 ^ 32) xs
-      → ((k : ℕ) → k < length xs → word l (q + 6 + (i + k)) ≡ getD xs k 0)
-      → ((k : ℕ) → k < length xs → word l (q + 6 + s .capacity + (i + k)) ≡ getD vs k 0)
+      → ((k : ℕ) → k < length xs → word l (accountsFrom q + (i + k)) ≡ getD xs k 0)
+      → ((k : ℕ) → k < length xs → word l (totalsFrom q (s .capacity) + (i + k)) ≡ getD vs k 0)
       → rowsIn l s e q i (length xs) ≡ having (s .depth) e (pairs xs vs)
-  unfolding rowsIn rowAt pairs having signed Places.placeOf firstBits place
+  unfolding rowsIn rowAt pairs having signed
   rows-pairs [] vs i same narrow accounts totals = refl
   rows-pairs (a ∷ xs) [] i same narrow accounts totals = absurd (omega arith)
   rows-pairs (a ∷ xs) (v ∷ vs) i same narrow accounts totals =
-      let account : word l (q + 6 + i) ≡ a = rw add-zero at (accounts 0 (omega arith)) in
-      let total : word l (q + 6 + s .capacity + i) ≡ v = rw add-zero at (totals 0 (omega arith)) in
+      let account : word l (accountsFrom q + i) ≡ a = rw add-zero at (accounts 0 (omega arith)) in
+      let total : word l (totalsFrom q (s .capacity) + i) ≡ v = rw add-zero at (totals 0 (omega arith)) in
       let next : (k : ℕ) → i + suc k ≡ suc i + k = λ k. omega arith in
       let again = rows-pairs xs vs (suc i) (omega arith) (narrow .1)
       (λ k h. rw (← next k) (accounts (suc k) (omega arith))) (λ k h. rw (← next k) (totals (suc k) (omega arith))) in
@@ -150,7 +150,7 @@ module _ (s : Settings) (range : inRange (s .workers) (s .capacity) (s .depth) �
 
   shallow : (a : ℕ) → leaf (m .cells) a .depth ≤ m .cells .directory .value .depth
   unfolding copyOf
-  shallow a = subst (λ (x : Leaf). nameOf x .depth ≤ m .cells .directory .value .depth) (leafOf-copyOf _ a) (within coherent a)
+  shallow a = subst (λ (x : Leaf). nameOf x .depth ≤ m .cells .directory .value .depth) (leafOf-copyOf _ a) (depthAt-le coherent a)
 
   pub contents-are : contents m ≡ t
   unfolding copyOf
@@ -158,36 +158,35 @@ module _ (s : Settings) (range : inRange (s .workers) (s .capacity) (s .depth) �
       (λ a. parts .part a ∙ ap (λ (q : ℕ). having (leaf (m .cells) a .depth) q t) (sym (prefix a))) (parts .ascending)
     where
       prefix : (a : ℕ) → leaf (m .cells) a .prefix ≡ firstBits (leaf (m .cells) a .depth) a
-      prefix a = ap (λ (x : Name). x .prefix) (grove-name (grove-of (m .cells .directory .value) coherent) a)
+      prefix a = ap (λ (x : Name). x .prefix) (partition-name (partition-of (m .cells .directory .value) coherent) a)
 
   -- account a's record
-  record Place (a : ℕ) : Type 0 where
+  record RecordOf (a : ℕ) : Type 0 where
     start : ℕ
-    directed : Places.recordOf l s a ≡ start
-    few : word l start ≤ s .capacity
+    directed : recordOf l s a ≡ start
     state : Means (loadedState l start (s .capacity) (s .workers)) (m .cells .buckets (leaf (m .cells) a) .state .value) (s .workers)
 
-  placed : (a : ℕ) → Place a
-  placed a =
+  recorded : (a : ℕ) → RecordOf a
+  recorded a =
       let x = means .directory a in
       let k = means .cells (x .0) (current a (x .1)) in
       record {
         start = startOf s (record′ (x .0));
         directed = directed-record s l (means .lent) a (x .0) (x .1);
-        few = rw (at-first s l (record′ (x .0))) (k .size);
         state = rw (x .2) at (k .state);
       }
 
   narrow : Narrow t
-  narrow = narrow-parts t (λ a. leaf (m .cells) a .depth) (λ a. rw (← parts .part a) (items a (placed a)))
+  narrow = narrow-parts t (λ a. leaf (m .cells) a .depth) (λ a. rw (← parts .part a) (items a (recorded a)))
     where
-      items : (a : ℕ) → Place a → Narrow (leafBody (m .cells) a .items)
+      items : (a : ℕ) → RecordOf a → Narrow (leafBody (m .cells) a .items)
       items a p = rw (← p .state .items, items-are _ (p .state .sound)) (narrow-pairs _ _ (p .state .sound .narrow))
 
   -- the rows that a record's words are
   record-rows :
-      (e a : ℕ) (p : Place a)
-      → rowsIn l s e (p .start) 0 (least (word l (p .start)) (s .capacity)) ≡ having (s .depth) e (leafBody (m .cells) a .items)
+      (e a : ℕ) (p : RecordOf a)
+      → rowsIn l s e (p .start) 0 (least (word l (p .start + recordCount)) (s .capacity))
+      ≡ having (s .depth) e (leafBody (m .cells) a .items)
   unfolding loadedState
   record-rows e a p = (rw long at is) ∙ ap (having (s .depth) e) (sym (items-are x sound) ∙ p .state .items)
     where
@@ -215,20 +214,21 @@ module _ (s : Settings) (range : inRange (s .workers) (s .capacity) (s .depth) �
 
       is : rowsIn l s e (p .start) 0 (length accounts) ≡ having (s .depth) e (pairs accounts totals)
       is = rows-pairs l s e (p .start) accounts totals 0 (wide ∙ sym long) (sound .narrow)
-          (λ i h. rw (zero-add i) (sym (item (p .start + 6) i (omega (arith, long)))))
-          (λ i h. rw (zero-add i) (sym (item (p .start + totalsFrom (s .capacity)) i (omega (arith, long)) ∙ ap (word l) (omega arith))))
+          (λ i h. rw (zero-add i) (sym (item (accountsFrom (p .start)) i (omega (arith, long)))))
+          (λ i h. rw (zero-add i) (sym (item (totalsFrom (p .start) (s .capacity)) i (omega (arith, long)))))
 
   entry-rows : (e : ℕ) → e < 2 ^ s .depth → rowsOf l s e ≡ having (s .depth) e t
-  unfolding rowsOf entryRecord Places.recordOf Places.placeOf firstBits place
+  unfolding rowsOf entryRecord recordOf
   entry-rows e h =
       let k = limits in
       let a : ℕ = representative (s .depth) e in
-      let p = placed a in
+      let p = recorded a in
       let bits : firstBits (s .depth) a ≡ e = bits-representative (s .depth) e (omega arith) h in
       let start : entryRecord l s e ≡ p .start =
-      subst (λ (x : ℕ). Places.within l (word l (directoryStart (s .workers) + x)) ≡ p .start) bits (p .directed) in
-      let part = having-having (leaf (m .cells) a .depth) (s .depth) a t (grove-of (m .cells .directory .value) coherent .bound a) (omega arith) in
-      subst⁻¹ (λ (q : ℕ). rowsIn l s e q 0 (least (word l q) (s .capacity)) ≡ having (s .depth) e t) start
+      subst (λ (x : ℕ). recordIn l (word l (directoryStart (s .workers) + x)) ≡ p .start) bits (p .directed) in
+      let part =
+      having-having (leaf (m .cells) a .depth) (s .depth) a t (partition-of (m .cells .directory .value) coherent .bound a) (omega arith) in
+      subst⁻¹ (λ (q : ℕ). rowsIn l s e q 0 (least (word l (q + recordCount)) (s .capacity)) ≡ having (s .depth) e t) start
       (record-rows e a p ∙ subst (λ (x : ℕ). having (s .depth) x (leafBody (m .cells) a .items) ≡ having (s .depth) x t) bits
       (ap (having (s .depth) (firstBits (s .depth) a)) (parts .part a) ∙ part))
 

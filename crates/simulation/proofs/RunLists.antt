@@ -11,14 +11,14 @@ use lib.Seq.{getD-append-add}
 use Rattle.interface.specs.Limits.{inRange}
 use Rattle.interface.specs.declared.Settings.{Settings}
 use Rattle.machine.specs.Records.{Machine, opened}
-use Rattle.machine.specs.Words.{wordsNeeded}
+use Rattle.fields.specs.Regions.{wordsNeeded}
 use Rattle.machine.specs.Steps.{step}
 use Rattle.machine.specs.History.{machines, Entry, stepping, next, entryAt, stateAt}
 use Rattle.table.specs.Turns.{stepWords, openWords}
 use Rattle.simulation.specs.Lent.{AllTyped, lentWords}
 use Rattle.simulation.specs.Runs.{afterSteps, stepsTaken, Request, plain, running, TypedRequest, TypedRequests, left, leftByAll}
 use Rattle.simulation.specs.Runs.{entriesOf, spread, requestAt, LinearizableAsSteps, Demand3WithRuns}
-use Rattle.simulation.proofs.Replies.{Holds, holds-next, holds-at, accepted, demand3-on-words}
+use Rattle.simulation.proofs.Replies.{Represents, represents-next, represents-at, accepted, demand3-on-words}
 use Rattle.simulation.proofs.Runs.{run-iterates}
 use Rattle.simulation.proofs.RunSteps.{run-as-steps}
 
@@ -60,7 +60,8 @@ entries-stand [] l i k h q = absurd (omega arith)
 entries-stand (r ∷ qs) l zero k h q = rw zero-add (List·getD-append (entriesOf l r) (spread (left l r) qs) _ k q)
 entries-stand (r ∷ qs) l (suc i) k h q =
     let before : List Entry = spread (left l r) (take i qs) in
-    let e : length (entriesOf l r ++ before) + k ≡ length (entriesOf l r) + (length before + k) = omega (arith, length-append (entriesOf l r) before) in
+    let e : length (entriesOf l r ++ before) + k ≡ length (entriesOf l r) + (length before + k) =
+    omega (arith, length-append (entriesOf l r) before) in
     ap (entryAt (entriesOf l r ++ spread (left l r) qs)) e ∙ getD-append-add (entriesOf l r) (spread (left l r) qs) (length before + k) _
     ∙ entries-stand qs (left l r) i k (omega arith) q
 
@@ -80,24 +81,26 @@ typed-entries (running w most) l t = typed-steps w (stepsTaken l w most)
 spread-typed : (qs : List Request) (l : List ℕ) → TypedRequests qs → AllTyped (spread l qs)
 unfolding spread
 spread-typed [] l t = tt
-spread-typed (q ∷ qs) l t = typed-append (entriesOf l q) (spread (left l q) qs) (typed-entries q l (t .0)) (spread-typed qs (left l q) (t .1))
+spread-typed (q ∷ qs) l t =
+    typed-append (entriesOf l q) (spread (left l q) qs) (typed-entries q l (t .0)) (spread-typed qs (left l q) (t .1))
 
 -- ---- on words that mean a machine
 
 module _ (s : Settings) (range : inRange (s .workers) (s .capacity) (s .depth) ≡ true) where
   -- the words mean some machine
   abbrev Meaningful : List ℕ → Type 0
-  Meaningful l = (m : Machine) × Holds s l m
+  Meaningful l = (m : Machine) × Represents s l m
 
   -- so do the words that steps and requests leave
   after-steps : (w n : ℕ) (l : List ℕ) → Meaningful l → Meaningful (afterSteps l w n)
   unfolding afterSteps next
   after-steps w zero l h = h
-  after-steps w (suc n) l h = after-steps w n (stepWords l w .0) (step s (h .0) w .0, holds-next s range l (h .0) (h .1) (stepping w) tt)
+  after-steps w (suc n) l h =
+      after-steps w n (stepWords l w .0) (step s (h .0) w .0, represents-next s range l (h .0) (h .1) (stepping w) tt)
 
   after-request : (q : Request) (l : List ℕ) → TypedRequest q → Meaningful l → Meaningful (left l q)
   unfolding left
-  after-request (plain e) l t h = (next (machines s) (h .0) e, holds-next s range l (h .0) (h .1) e t)
+  after-request (plain e) l t h = (next (machines s) (h .0) e, represents-next s range l (h .0) (h .1) e t)
   after-request (running w most) l t h =
       subst⁻¹ Meaningful (run-as-steps s range l (h .0) (h .1) w most .words) (after-steps w (stepsTaken l w most) l h)
 
@@ -122,24 +125,27 @@ module _ (s : Settings) (range : inRange (s .workers) (s .capacity) (s .depth) �
   words-stand [] l t h (suc i) = refl
   words-stand (q ∷ qs) l t h (suc i) =
       words-stand qs (left l q) (t .1) (after-request q l (t .0) h) i
-      ∙ ap (λ (k : List ℕ). stateAt s lentWords k [] (spread (left l q) qs) (length (spread (left l q) (take i qs)))) (sym (request-left q l h))
+      ∙ ap (λ (k : List ℕ). stateAt s lentWords k [] (spread (left l q) qs) (length (spread (left l q) (take i qs))))
+      (sym (request-left q l h))
       ∙ sym (state-append s l (entriesOf l q) (spread (left l q) qs) (length (spread (left l q) (take i qs))))
-      ∙ ap (stateAt s lentWords l [] (entriesOf l q ++ spread (left l q) qs)) (sym (length-append (entriesOf l q) (spread (left l q) (take i qs))))
+      ∙ ap (stateAt s lentWords l [] (entriesOf l q ++ spread (left l q) qs))
+      (sym (length-append (entriesOf l q) (spread (left l q) (take i qs))))
 
   module _ (l : List ℕ) (enough : wordsNeeded s ≤ length l) where
     abbrev opening : List ℕ
     opening = openWords l (s .workers) (s .capacity) (s .depth) .0
 
-    opening-holds : Meaningful opening
+    opening-represents : Meaningful opening
     unfolding stateAt
-    opening-holds = subst⁻¹ Meaningful (ap (λ r. r .0) (accepted s range l enough [] tt)) (opened, holds-at s range l enough [] tt 0)
+    opening-represents =
+        subst⁻¹ Meaningful (ap (λ r. r .0) (accepted s range l enough [] tt)) (opened, represents-at s range l enough [] tt 0)
 
     as-steps : (qs : List Request) → TypedRequests qs → LinearizableAsSteps s opening qs
     as-steps qs typed = record {
-      words = words-stand qs opening typed opening-holds;
+      words = words-stand qs opening typed opening-represents;
       entries = entries-stand qs opening;
-      iterates = λ i w most. let x = before-request qs opening typed opening-holds i in run-iterates s range _ (x .0) (x .1) w most;
-      runs = λ i w most. let x = before-request qs opening typed opening-holds i in run-as-steps s range _ (x .0) (x .1) w most;
+      iterates = λ i w most. let x = before-request qs opening typed opening-represents i in run-iterates s range _ (x .0) (x .1) w most;
+      runs = λ i w most. let x = before-request qs opening typed opening-represents i in run-as-steps s range _ (x .0) (x .1) w most;
       linearizable = demand3-on-words s range l enough (spread opening qs) (spread-typed qs opening typed);
     }
 

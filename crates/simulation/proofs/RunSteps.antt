@@ -12,7 +12,7 @@ use Rattle.interface.specs.declared.Ran.{Ran}
 use Rattle.machine.specs.Records.{Machine}
 use Rattle.table.specs.Turns.{stepWords, runWords}
 use Rattle.simulation.specs.Runs.{goesOn, iterated, bySteps, afterSteps, replyAt, counting, stepsTaken, ranAs, RunAsSteps}
-use Rattle.simulation.proofs.Replies.{Holds}
+use Rattle.simulation.proofs.Replies.{Represents}
 use Rattle.simulation.proofs.Runs.{run-iterates}
 
 -- ---- for any words
@@ -114,5 +114,5 @@ module _ (w : ℕ) where
 -- ---- on words that mean a machine
 
 module _ (s : Settings) (range : inRange (s .workers) (s .capacity) (s .depth) ≡ true) where
-  pub run-as-steps : (l : List ℕ) (m : Machine) → Holds s l m → (w most : ℕ) → RunAsSteps l w most
+  pub run-as-steps : (l : List ℕ) (m : Machine) → Represents s l m → (w most : ℕ) → RunAsSteps l w most
   run-as-steps l m h w most = steps-of w l most (run-iterates s range l m h w most)

@@ -51,6 +51,8 @@ module _ {s : Settings} {l : List ℕ} {m : Machine} {w : ℕ} (ready : Ready s 
   pub step-means : Meaning s (stepIn l s w .0) (step s m w .0) × (stepIn l s w .1 ≡ step s m w .1)
   step-means = by (m .workers w .operation) refl
     where
-      by : (o : Option Operation) → m .workers w .operation ≡ o → Meaning s (stepIn l s w .0) (step s m w .0) × (stepIn l s w .1 ≡ step s m w .1)
+      by :
+          (o : Option Operation) → m .workers w .operation ≡ o
+          → Meaning s (stepIn l s w .0) (step s m w .0) × (stepIn l s w .1 ≡ step s m w .1)
       by none e = simulated-idle s (ready .range) l m (ready .means) (ready .good) w (ready .known) e
       by (some o) e = simulated s (ready .range) l m (ready .means) (ready .good) w (ready .known) o e transition-means

@@ -11,10 +11,10 @@ use lib.ListN.{length, set}
 use lib.Seq.{getD-set-same, getD-set-other}
 use Rattle.interface.specs.declared.Settings.{Settings}
 use Rattle.machine.specs.Records.{State}
-use Rattle.machine.specs.Words.{wordsNeeded}
+use Rattle.fields.specs.Fields.{headerDepth, headerSpare, headerSize, recordToggle, recordDepth, recordPrefix, recordAccounts}
+use Rattle.fields.specs.Regions.{poolSize, wordsNeeded, record′, startOf, header, entry}
 use Rattle.machine.proofs.Base.{if-elim, if-true, if-false}
-use Rattle.memory.specs.Layout.{header, entry, record′, poolSize, startOf}
-use Rattle.memory.proofs.Regions.{region-inside}
+use Rattle.fields.proofs.Regions.{region-inside}
 use Rattle.layout.specs.Shape.{word}
 use Rattle.engine.specs.Splits.{deepenedAt}
 use Rattle.simulation.specs.Meaning.{at}
@@ -26,7 +26,7 @@ use Rattle.simulation.proofs.Halves.{inside-frame, frame-refl, Frame, S
 
 module _ (s : Settings) where
   module _ {l l′ : List ℕ} (r : ℕ) (f : Inside s (record′ r) l l′) where
-    pub head-same : (i : ℕ) → i < 16 → word l′ i ≡ word l i
+    pub head-same : (i : ℕ) → i < headerSize → word l′ i ≡ word l i
     head-same = inside-head f (λ e. let z : _≡_ {A = ℕ} 0 1 = cc in omega arith)
 
     pub record-frame : Frame s l l′
@@ -48,22 +48,27 @@ module _ (s : Settings) where
         (λ i h. stored .elsewhere i (⊎-elim (λ a. inl a) (λ a. inr (inr (omega arith))) h))
 
     -- toggle, depth, prefix and number
-    pub stored-beside : (i : ℕ) → 2 ≤ i → i < 6 → at s l′ (record′ r) i ≡ at s l (record′ r) i
+    pub stored-beside : (i : ℕ) → recordToggle ≤ i → i < recordAccounts → at s l′ (record′ r) i ≡ at s l (record′ r) i
     stored-beside i h k = stored .elsewhere (startOf s (record′ r) + i) (inr (inl (omega arith, omega arith)))
 
     pub restated : Restated s l l′ r
     restated = record {
       frame = record-frame r stored-inside;
-      depth = head-same r stored-inside 2 (omega arith);
+      depth = head-same r stored-inside headerDepth (omega arith);
       entries = record-entries r stored-inside;
       others = record-others r stored-inside;
-      name = λ o. record { depth = stored-beside 3 (omega arith) (omega arith) o; prefix = stored-beside 4 (omega arith) (omega arith) o };
+      name =
+          λ o. record {
+            depth = stored-beside recordDepth (omega arith) (omega arith) o;
+            prefix =
+                stored-beside recordPrefix (omega arith) (omega arith) o;
+          };
     }
 
 module _ (s : Settings) (l : List ℕ) (enough : wordsNeeded s ≤ length l) where
   -- ---- a word of the header
 
-  module _ (i v : ℕ) (low : i < 16) where
+  module _ (i v : ℕ) (low : i < headerSize) where
     pub set-head : Inside s header l (set l i v)
     set-head = rw (header-start, zero-add) at (set-inside s l enough header tt i v (rw header-wide low))
 
@@ -73,22 +78,22 @@ module _ (s : Settings) (l : List ℕ) (enough : wordsNeeded s ≤ length l) whe
     pub head-entries : (e : ℕ) → e < 2 ^ s .depth → at s (set l i v) (entry e) 0 ≡ at s l (entry e) 0
     head-entries e h = set-head .same (entry e) 0 h (rw entry-wide (omega arith)) (λ q. let z : _≡_ {A = ℕ} 0 1 = cc in omega arith)
 
-    pub head-frame : (i ≡ 2) ⊎ (i ≡ 4) → Frame s l (set l i v)
+    pub head-frame : (i ≡ headerDepth) ⊎ (i ≡ headerSpare) → Frame s l (set l i v)
     head-frame either = inside-frame s header (λ x. x) set-head
-        (λ k h d e. getD-set-other l i k v 0 (λ q. ⊎-elim (λ (z : i ≡ 2). d (q ∙ z)) (λ (z : i ≡ 4). e (q ∙ z)) either))
+        (λ k h d e. getD-set-other l i k v 0 (λ q. ⊎-elim (λ (z : i ≡ headerDepth). d (q ∙ z)) (λ (z : i ≡ headerSpare). e (q ∙ z)) either))
 
-  header-length : 16 ≤ length l
+  header-length : headerSize ≤ length l
   header-length = omega (arith, region-inside s header tt, header-start s, header-wide s)
 
   -- the directory's depth
   pub deepened-at : (d : ℕ) → Deepened s l (deepenedAt l d) d
   unfolding deepenedAt
   deepened-at d =
-      if-elim (λ (w : List ℕ). Deepened s l w d) (ltb (word l 2) d) (set l 2 d) l
+      if-elim (λ (w : List ℕ). Deepened s l w d) (ltb (word l headerDepth) d) (set l headerDepth d) l
       (λ e. record {
-        frame = head-frame 2 d (omega arith) (inl refl);
-        depth = getD-set-same l 2 d 0 (omega (arith, header-length)) ∙ sym (if-true _ _ e);
-        entries = head-entries 2 d (omega arith);
-        records = head-others 2 d (omega arith);
+        frame = head-frame headerDepth d (omega arith) (inl refl);
+        depth = getD-set-same l headerDepth d 0 (omega (arith, header-length)) ∙ sym (if-true _ _ e);
+        entries = head-entries headerDepth d (omega arith);
+        records = head-others headerDepth d (omega arith);
       })
       (λ e. record { frame = frame-refl s l; depth = sym (if-false _ _ e); entries = λ k h. refl; records = λ t h i k. refl })

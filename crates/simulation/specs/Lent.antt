@@ -1,5 +1,5 @@
--- Demand 3 for the calls: the lent words with the library's calls as a system, and the claim for every list from an accepted opening.
--- Rests on the definitions that the calls' contracts equal, and on the statement of demand 3.
+-- Demand 3 for the calls: the lent words with the library's calls as a system, and the claim for every list from an
+-- accepted opening. Rests on the definitions that the calls' contracts equal, and on the statement of demand 3.
 use Prim.Native.Nat.{ℕ, _^_, _≤_, _<_}
 use mathlib.Core.Path.{_≡_}
 use mathlib.Core.Bool.{true}
@@ -13,7 +13,7 @@ use Rattle.interface.specs.declared.Settings.{Settings}
 use Rattle.interface.specs.declared.Refusal.{Refusal}
 use Rattle.interface.specs.declared.Listed.{Listed}
 use Rattle.machine.specs.Choice.{if_then_else_}
-use Rattle.machine.specs.Words.{wordsNeeded}
+use Rattle.fields.specs.Regions.{wordsNeeded}
 use Rattle.machine.specs.Calls.{Listing, lists, declines, listingOf}
 use Rattle.machine.specs.History.{System, Entry, calling, stepping, showing, reopening, Linearizable}
 use Rattle.lists.specs.Parts.{overlay}
@@ -34,13 +34,19 @@ AllTyped (e ∷ es) = Typed e × AllTyped es
 
 -- the listing over lists of so many accounts and totals: the table it shows, or its refusal
 unfoldable pub listingOn : List ℕ → ℕ → ℕ → Listing
-listingOn l accounts totals = if strange l then declines Refusal.Strange else listingOf (rows l (shapeOf l)) accounts totals
+listingOn l accounts totals =
+    if strange l then declines Refusal.Strange else listingOf (rows l (shapeOf l)) accounts totals
 
 -- the two lists after it, and its answer
 abbrev pub shownAs : List ℕ → List ℤ → Listing → Shown
 shownAs accounts totals (declines r) = record { accounts = accounts; totals = totals; listed = Listed.Refused r }
 shownAs accounts totals (lists t) =
-    record { accounts = overlay accounts 0 (map (λ x. x .0) t); totals = overlay totals 0 (map (λ x. x .1) t); listed = Listed.Count (length t) }
+    record {
+      accounts = overlay accounts 0 (map (λ x. x .0) t);
+      totals = overlay totals 0 (map (λ x. x .1) t);
+      listed =
+          Listed.Count (length t);
+    }
 
 abbrev pub lentWords : System
 lentWords = record { State = List ℕ; call = callWords; step = stepWords; listing = listingOn }

@@ -9,7 +9,7 @@ use Rattle.interface.specs.Limits.{inRange}
 use Rattle.interface.specs.declared.Settings.{Settings}
 use Rattle.interface.specs.declared.Stepped.{Stepped}
 use Rattle.interface.specs.declared.Ran.{Ran}
-use Rattle.machine.specs.Words.{wordsNeeded}
+use Rattle.fields.specs.Regions.{wordsNeeded}
 use Rattle.machine.specs.History.{Entry, stepping, showing, next, entryAt, stateAt, Linearizable}
 use Rattle.table.specs.Turns.{stepWords, runWords, openWords}
 use Rattle.simulation.specs.Lent.{Typed, lentWords}
@@ -122,17 +122,19 @@ module _ (s : Settings) (l : List ℕ) (qs : List Request) where
   wordsBefore i = leftByAll l (take i qs)
 
   -- the place of its first entry
-  abbrev pub placeOf : ℕ → ℕ
-  placeOf i = length (spread l (take i qs))
+  abbrev pub entryIndex : ℕ → ℕ
+  entryIndex i = length (spread l (take i qs))
 
   abbrev pub entriesAt : ℕ → List Entry
   entriesAt i = entriesOf (wordsBefore i) (requestAt qs i)
 
   pub record LinearizableAsSteps : Type 0 where
     -- before each request, and at the end, the words are those of the list of entries
-    pub words : (i : ℕ) → wordsBefore i ≡ stateAt s lentWords l [] (spread l qs) (placeOf i)
+    pub words : (i : ℕ) → wordsBefore i ≡ stateAt s lentWords l [] (spread l qs) (entryIndex i)
     -- there its entries stand: a call, a step or a listing is given the same words there, and gets the same reply
-    pub entries : (i k : ℕ) → i < length qs → k < length (entriesAt i) → entryAt (spread l qs) (placeOf i + k) ≡ entryAt (entriesAt i) k
+    pub entries :
+        (i k : ℕ) → i < length qs → k < length (entriesAt i)
+        → entryAt (spread l qs) (entryIndex i + k) ≡ entryAt (entriesAt i) k
     -- a run made at any point of the list, its end included, is iterated steps, and gets the reply of the last one
     pub iterates : (i w most : ℕ) → runWords (wordsBefore i) w most ≡ bySteps (wordsBefore i) w most
     pub runs : (i w most : ℕ) → RunAsSteps (wordsBefore i) w most

@@ -9,7 +9,8 @@ use lib.ListN.{length, set, replicate}
 use lib.IntN.{ℤ}
 use mir.Syntax.{w64}
 use mir.Val.{ofZ, toZ}
-use Rattle.interface.specs.Limits.{built}
+use Rattle.interface.specs.Limits.{greatestTicket, built}
+use Rattle.interface.specs.Numbers.{kindNone, kindInsert, kindLookup, greatestKind}
 use Rattle.interface.specs.declared.Settings.{Settings}
 use Rattle.interface.specs.declared.Answer.{Answer}
 use Rattle.interface.specs.declared.Refusal.{Refusal}
@@ -21,27 +22,33 @@ use Rattle.interface.specs.declared.Needed.{Needed}
 use Rattle.interface.specs.declared.Ran.{Ran}
 use Rattle.machine.specs.Choice.{if_then_else_}
 use Rattle.machine.specs.Plan.{Phase, announce, readDirectory, flipToggle, readState, readToggle, swapState, checkState, copyDirectory, swapDirectory, readSlot, resizeFor, phase}
-use Rattle.machine.specs.Words.{wordsNeeded}
+use Rattle.fields.specs.Fields.{headerSpare, workerKind, workerAccount, workerTotal, workerTicket, workerSteps, stepsRange, recordCount, accountsFrom, totalsFrom}
+use Rattle.fields.specs.Regions.{workerAt, directoryStart, recordStart, wordsNeeded}
+use Rattle.bucket.specs.declared.Position.{Position}
+use Rattle.bucket.specs.declared.Position.the-variants.{At, Before}
+use Rattle.bucket.specs.declared.Descriptor.{Descriptor}
+use Rattle.bucket.specs.State.{scan}
 use Rattle.bucket.specs.Items.{answerOf}
-use Rattle.lists.specs.Parts.{overlay}
+use Rattle.lists.specs.Parts.{part, overlay}
 use Rattle.memory.specs.Loads.{least}
-use Rattle.layout.specs.Shape.{word, strange, shapeOf, firstWord, directoryStart}
-use Rattle.layout.specs.Places.{workerAt, heldBy}
-use Rattle.engine.specs.Engine.{announcedAt, slotReadAt, heldAt, flippedAt, stateReadAt, toggleReadAt, directoryReadAt, swappedAt, stateStepAt, checkedAt}
+use Rattle.layout.specs.Shape.{word, strange, shapeOf, firstWord}
+use Rattle.layout.specs.Addresses.{heldBy}
+use Rattle.engine.specs.Engine.{announcedAt, slotReadAt, bucketReadAt, flippedAt, stateReadAt, toggleReadAt, directoryReadAt, swappedAt, stateStepAt, checkedAt}
 use Rattle.engine.specs.Splits.{redirectedAt}
-use Rattle.layout.specs.Records.{recordStart}
 
 -- ---- one step
 
 -- the operation of the worker at p ended, after k own steps before this one
 unfoldable pub endedAt : List ℕ → ℕ → ℕ → Answer → List ℕ × Stepped
-endedAt l p k a = (set (set l p 0) (p + 4) 0, Stepped.Answered (record { answer = a; steps = k + 1 }))
+endedAt l p k a =
+    (set (set l (p + workerKind) kindNone) (p + workerSteps) 0, Stepped.Answered (record { answer = a; steps = k + 1 }))
 
 unfoldable pub checkAt : List ℕ → ℕ → ℕ → Option ℕ → List ℕ × Stepped
 checkAt l p k none = (l, Stepped.Moved)
 checkAt l p k (some x) = endedAt l p k (answerOf x)
 
--- what a step gives, after k own steps before it, whose update ended with an answer's number; 0 where the operation goes on
+-- what a step gives, after k own steps before it, whose update ended with an answer's number; 0 where the operation
+-- goes on
 unfoldable pub numbered : ℕ → ℕ → Stepped
 numbered k zero = Stepped.Moved
 numbered k (suc x) = Stepped.Answered (record { answer = answerOf (suc x); steps = k + 1 })
@@ -49,7 +56,7 @@ numbered k (suc x) = Stepped.Answered (record { answer = answerOf (suc x); steps
 -- worker w's step at a phase of its update, its record at p, after k own steps
 unfoldable pub updateAt : List ℕ → Settings → ℕ → ℕ → ℕ → Phase → List ℕ × Stepped
 updateAt l s p w k announce = (announcedAt l p w, Stepped.Moved)
-updateAt l s p w k readDirectory = (heldAt l s p, Stepped.Moved)
+updateAt l s p w k readDirectory = (bucketReadAt l s p, Stepped.Moved)
 updateAt l s p w k flipToggle = (flippedAt l (heldBy l p) w, Stepped.Moved)
 updateAt l s p w k readState = (stateReadAt l p (heldBy l p), Stepped.Moved)
 updateAt l s p w k readToggle = (toggleReadAt l p (heldBy l p), Stepped.Moved)
@@ -60,31 +67,39 @@ updateAt l s p w k copyDirectory = (directoryReadAt l p, Stepped.Moved)
 updateAt l s p w k (resizeFor j) = (stateStepAt l s p j, Stepped.Moved)
 updateAt l s p w k swapDirectory = (redirectedAt l s p, Stepped.Moved)
 
--- the total of the first of c accounts, from place i on, that is a
-unfoldable pub foundAt : List ℕ → Settings → ℕ → ℕ → ℕ → ℕ → Answer
-foundAt l s q a i zero = Answer.Missing
-foundAt l s q a i (suc c) =
-    if eqb (word l (q + 6 + i)) a then Answer.Found (toZ w64 (word l (q + 6 + s .capacity + i))) else foundAt l s q a (suc i) c
+-- that step by the plan, and the check's second step
+abbrev pub updateStep : List ℕ → Settings → ℕ → ℕ → List ℕ × Stepped
+updateStep l s w k = updateAt l s (workerAt (s .workers) w) w k (phase (s .workers) k)
+
+abbrev pub checkStep : List ℕ → Settings → ℕ → ℕ → List ℕ × Stepped
+checkStep l s w k = updateAt l s (workerAt (s .workers) w) w k checkState
+
+-- "answer found with the total, or none": the account's position in the record at q
+unfoldable pub foundAt : List ℕ → Settings → ℕ → Position → Answer
+foundAt l s q (At i) = Answer.Found (toZ w64 (word l (totalsFrom q (s .capacity) + i)))
+foundAt l s q (Before i) = Answer.None
 
 -- at most b accounts are looked at
 unfoldable pub lookedAt : List ℕ → Settings → ℕ → ℕ → Answer
-lookedAt l s q a = foundAt l s q a 0 (if ltb (word l q) (s .capacity) then word l q else s .capacity)
+lookedAt l s q a =
+    foundAt l s q (scan (part l (accountsFrom q) (least (word l (q + recordCount)) (s .capacity))) a 0)
 
 unfoldable pub lookupAt : List ℕ → Settings → ℕ → ℕ → List ℕ × Stepped
-lookupAt l s p zero = (heldAt l s p, Stepped.Moved)
-lookupAt l s p (suc k) = endedAt l p (suc k) (lookedAt l s (heldBy l p) (word l (p + 1)))
+lookupAt l s p zero = (bucketReadAt l s p, Stepped.Moved)
+lookupAt l s p (suc k) = endedAt l p (suc k) (lookedAt l s (heldBy l p) (word l (p + workerAccount)))
 
--- an operation's step after k own steps; its count goes up first; kind 3 is a lookup, any other an update
+-- an operation's step after k own steps; its count goes up first; what is no lookup is an update
 unfoldable pub operationAt : List ℕ → Settings → ℕ → ℕ → ℕ → List ℕ × Stepped
 operationAt l s p w k =
-    let l′ : List ℕ = set l (p + 4) (k + 1) in
-    if eqb (word l p) 3 then lookupAt l′ s p k else updateAt l′ s p w k (phase (s .workers) k)
+    let l′ : List ℕ = set l (p + workerSteps) (k + 1) in
+    if eqb (word l (p + workerKind)) kindLookup then lookupAt l′ s p k else updateAt l′ s p w k (phase (s .workers) k)
 
--- own steps are read as a number below 65,536
 unfoldable pub stepIn : List ℕ → Settings → ℕ → List ℕ × Stepped
 stepIn l s w =
     let p : ℕ = workerAt (s .workers) w in
-    if eqb (word l p) 0 then (l, Stepped.Refused Refusal.Idle) else operationAt l s p w (word l (p + 4) % 65_536)
+    if eqb (word l (p + workerKind)) kindNone
+    then (l, Stepped.Refused Refusal.Idle)
+    else operationAt l s p w (word l (p + workerSteps) % stepsRange)
 
 -- "A step checks 8, 3, 5."
 unfoldable pub stepWords : List ℕ → ℕ → List ℕ × Stepped
@@ -95,17 +110,29 @@ stepWords l w =
 
 -- ---- a call
 
--- kind, account, total and ticket, no steps yet
-unfoldable pub begunAt : List ℕ → ℕ → ℕ → ℕ → ℕ → ℕ → List ℕ
-begunAt l p kind a v t = set (set (set (set (set l p kind) (p + 1) a) (p + 2) v) (p + 3) t) (p + 4) 0
+-- an operation of the worker at p begins: no steps yet
+unfoldable pub begunAt : List ℕ → ℕ → Descriptor → List ℕ
+begunAt l p u =
+    let l₂ : List ℕ = set (set l (p + workerKind) (u .kind)) (p + workerAccount) (u .account) in
+    set (set (set l₂ (p + workerTotal) (u .total)) (p + workerTicket) (u .ticket)) (p + workerSteps) 0
+
+-- "The ticket number .. is the worker's last plus 1, taken at the call"; only an insert has a total
+abbrev pub updateCalled : ℕ → ℕ → ℤ → ℕ → Descriptor
+updateCalled kind a v last =
+    record { kind = kind; account = a; total = if eqb kind kindInsert then ofZ w64 v else 0; ticket = last + 1 }
+
+-- a lookup takes no ticket
+abbrev pub lookupCalled : ℕ → ℕ → Descriptor
+lookupCalled a last = record { kind = kindLookup; account = a; total = 0; ticket = last }
 
 unfoldable pub callIn : List ℕ → ℕ → ℕ → ℕ → ℤ → List ℕ × Called
 callIn l p kind a v =
-    if not (eqb (word l p) 0) then (l, Called.Refused Refusal.Busy)
-    else if ltb kind 1 || ltb 3 kind then (l, Called.Refused Refusal.Kind)
-    else if eqb kind 3 then (begunAt l p 3 a 0 (word l (p + 3)), Called.Accepted)
-    else if leb 65_535 (word l (p + 3)) then (l, Called.Refused Refusal.Spent)
-    else (begunAt l p kind a (if eqb kind 1 then ofZ w64 v else 0) (word l (p + 3) + 1), Called.Accepted)
+    let last : ℕ = word l (p + workerTicket) in
+    if not (eqb (word l (p + workerKind)) kindNone) then (l, Called.Refused Refusal.Busy)
+    else if ltb kind kindInsert || ltb greatestKind kind then (l, Called.Refused Refusal.Kind)
+    else if eqb kind kindLookup then (begunAt l p (lookupCalled a last), Called.Accepted)
+    else if leb greatestTicket last then (l, Called.Refused Refusal.Spent)
+    else (begunAt l p (updateCalled kind a v last), Called.Accepted)
 
 -- "A call checks 8, 3, 4, 6, 7."
 unfoldable pub callWords : List ℕ → ℕ → ℕ → ℕ → ℤ → List ℕ × Called
@@ -116,17 +143,20 @@ callWords l w kind a v =
 
 -- ---- opening
 
--- the words of a fresh table: the header, empty slots, idle workers, a directory whose entries all name the first record, empty records
+-- the words of a fresh table: the header, empty slots, idle workers, a directory whose entries all name the first
+-- record, empty records
 unfoldable pub freshWords : Settings → List ℕ
 freshWords s =
-    firstWord s ∷ wordsNeeded s ∷ 0 ∷ 0 ∷ 1 ∷ replicate (directoryStart (s .workers) - 5) 0
+    firstWord s ∷ wordsNeeded s ∷ 0 ∷ 0 ∷ 1 ∷ replicate (directoryStart (s .workers) - (headerSpare + 1)) 0
     ++ replicate (2 ^ s .depth) (recordStart s 0)
     ++ replicate (wordsNeeded s - (directoryStart (s .workers) + 2 ^ s .depth)) 0
 
 unfoldable pub openedWords : List ℕ → Built → List ℕ × Opened
 openedWords l (Built.Refused r) = (l, Opened.Refused r)
 openedWords l (Built.Settings s) =
-    if leb (wordsNeeded s) (length l) then (overlay l 0 (freshWords s), Opened.Opened) else (l, Opened.Refused Refusal.Short)
+    if leb (wordsNeeded s) (length l)
+    then (overlay l 0 (freshWords s), Opened.Opened)
+    else (l, Opened.Refused Refusal.Short)
 
 -- "Opening checks 1, 2 and overwrites what the memory held."
 unfoldable pub openWords : List ℕ → ℕ → ℕ → ℕ → List ℕ × Opened
@@ -149,18 +179,25 @@ unfoldable pub orElse : List ℕ → Option Ran → List ℕ × Ran → List ℕ
 orElse l none later = later
 orElse l (some r) later = (l, r)
 
--- f more steps of worker w, k taken; where the words do not come from an opening an operation may vanish, and then the run ends
+-- f more steps of worker w, k taken; where the words do not come from an opening an operation may vanish, and then
+-- the run ends
 unfoldable pub runIn : List ℕ → Settings → ℕ → ℕ → ℕ → List ℕ × Ran
 runIn l s w k zero = (l, Ran.Moved k)
 runIn l s w k (suc f) =
     let p : ℕ = workerAt (s .workers) w in
-    let after : List ℕ × Stepped = operationAt l s p w (word l (p + 4) % 65_536) in
-    if eqb (word l p) 0 then (l, Ran.Moved k) else orElse (after .0) (lastOf k (after .1)) (runIn (after .0) s w (suc k) f)
+    let after : List ℕ × Stepped = operationAt l s p w (word l (p + workerSteps) % stepsRange) in
+    if eqb (word l (p + workerKind)) kindNone
+    then (l, Ran.Moved k)
+    else orElse (after .0) (lastOf k (after .1)) (runIn (after .0) s w (suc k) f)
 
--- no operation of an opened table takes more than 12n+33 steps, 129 at most: a run is given up after 256, whatever was asked for
+-- no operation of an opened table takes more than 12n+33 steps, 129 at most: a run is given up after so many,
+-- whatever was asked for
+abbrev pub longestRun : ℕ
+longestRun = 256
+
 unfoldable pub runWords : List ℕ → ℕ → ℕ → List ℕ × Ran
 runWords l w most =
     if strange l then (l, Ran.Refused Refusal.Strange)
     else if leb (shapeOf l .workers) w then (l, Ran.Refused Refusal.Stranger)
-    else if eqb (word l (workerAt (shapeOf l .workers) w)) 0 then (l, Ran.Refused Refusal.Idle)
-    else runIn l (shapeOf l) w 0 (least most 256)
+    else if eqb (word l (workerAt (shapeOf l .workers) w + workerKind)) kindNone then (l, Ran.Refused Refusal.Idle)
+    else runIn l (shapeOf l) w 0 (least most longestRun)

@@ -3,18 +3,27 @@ ghost use mathlib.Core.Path.{_≡_};
 ghost use mathlib.Core.List.{[], _∷_};
 ghost use Prim.Native.Nat.{_≤_};
 ghost use lib.ListN.{length};
-ghost use Rattle.interface.specs.Limits.{built};
-ghost use Rattle.machine.specs.Words.{wordsNeeded};
+ghost use Rattle.interface.specs.Limits.{built, greatestWorkers, greatestCapacity};
+ghost use Rattle.fields.specs.Fields.{headerSize, deepest};
+ghost use Rattle.fields.specs.Regions.{wordsNeeded};
 ghost use Rattle.lists.specs.Parts.{overlay};
 ghost use Rattle.layout.specs.Shape.{firstWord};
 ghost use Rattle.table.specs.Turns.{neededFor, freshWords, openWords};
+use fields::CAPACITY_UNIT;
+use fields::DEPTH_UNIT;
+use fields::HEADER_DEPTH;
+use fields::HEADER_NEEDED;
+use fields::HEADER_NUMBER;
+use fields::HEADER_SETTINGS;
+use fields::HEADER_SPARE;
+use fields::MARK;
+use fields::MARK_UNIT;
 use interface::Built;
 use interface::Needed;
 use interface::Opened;
 use interface::Refusal;
 use interface::Settings;
 use layout::records::needed;
-use layout::shape::MARK;
 use layout::shape::directory_start;
 
 // How many words a table of these settings needs, or refusal 1.
@@ -29,34 +38,36 @@ pub fn words_needed(workers: u64, capacity: u64, depth: u64) -> Needed
 
 // The first word of a table of these settings: the mark, and the settings below it.
 fn first_word(s: Settings) -> u64
-    requires { ⌜ (1 ≤ s .workers) × ((s .workers ≤ 8) × ((1 ≤ s .capacity) × ((s .capacity ≤ 16) × (s .depth ≤ 15)))) ⌝ }
+    requires { ⌜ (1 ≤ s .workers) × ((s .workers ≤ greatestWorkers)
+        × ((1 ≤ s .capacity) × ((s .capacity ≤ greatestCapacity) × (s .depth ≤ deepest)))) ⌝ }
     ensures { λ r. ⌜ r ≡ firstWord s ⌝ }
 {
-    MARK * 2048 + (s.workers - 1) + 8 * (s.capacity - 1) + 128 * s.depth
+    MARK * MARK_UNIT + (s.workers - 1) + CAPACITY_UNIT * (s.capacity - 1) + DEPTH_UNIT * s.depth
 }
 
-// The first five words: the mark with the settings, the words needed, depth, number and the place of the next spare record.
+// The header: the mark with the settings, the words needed, depth, number and the next spare record.
 fn header(words: &mut [u64], first: u64, all: u64)
-    requires { ⌜ 5 ≤ length (now words) ⌝ }
+    requires { ⌜ headerSize ≤ length (now words) ⌝ }
     ensures { λ _. ⌜ now (words .exit) ≡ overlay (now (words .entry)) 0 (first ∷ all ∷ 0 ∷ 0 ∷ 1 ∷ []) ⌝ }
 {
-    memory::put(words, 0, first);
-    memory::put(words, 1, all);
-    memory::put(words, 2, 0);
-    memory::put(words, 3, 0);
-    memory::put(words, 4, 1);
+    memory::put(words, HEADER_SETTINGS, first);
+    memory::put(words, HEADER_NEEDED, all);
+    memory::put(words, HEADER_DEPTH, 0);
+    memory::put(words, HEADER_NUMBER, 0);
+    memory::put(words, HEADER_SPARE, 1);
 }
 
 // The header, empty slots, idle workers, a directory whose entries all name the first record, empty records.
 fn fresh(words: &mut [u64], s: Settings)
-    requires { ⌜ (1 ≤ s .workers) × ((s .workers ≤ 8) × ((1 ≤ s .capacity) × ((s .capacity ≤ 16) × ((s .depth ≤ 15) × (wordsNeeded s ≤ length (now words)))))) ⌝ }
+    requires { ⌜ (1 ≤ s .workers) × ((s .workers ≤ greatestWorkers)
+        × ((1 ≤ s .capacity) × ((s .capacity ≤ greatestCapacity) × ((s .depth ≤ deepest) × (wordsNeeded s ≤ length (now words)))))) ⌝ }
     ensures { λ _. ⌜ now (words .exit) ≡ overlay (now (words .entry)) 0 (freshWords s) ⌝ }
 {
     let start = directory_start(s);
     let records = start + (1 << s.depth);
     let all = needed(s);
     header(words, first_word(s), all as u64);
-    memory::fill(words, 5, start, 0);
+    memory::fill(words, HEADER_SPARE + 1, start, 0);
     memory::fill(words, start, records, records as u64);
     memory::fill(words, records, all, 0);
 }

@@ -1,5 +1,5 @@
-// The program `totals`: lines from standard input, what they are met with to standard output. What a line is met with is the business of
-// the crate driver; here are the lent words and lists, and reading and writing.
+// The program `totals`: lines from standard input, what they are met with to standard output. What a line is met with
+// is the business of the crate driver; here are the lent words and lists, and reading and writing.
 ghost use Prim.Native.Nat.{_≤_};
 ghost use lib.ListN.{length};
 ghost use Rattle.driver.specs.Feeding.{longest};
@@ -22,7 +22,8 @@ fn write(bytes: &[u8]) -> bool {
     false
 }
 
-// Answers a block of input, a part at a time, so that the output always has room; the output of each part is written at once.
+// Answers a block of input, a part at a time, so that the output always has room; the output of each part is written at
+// once.
 fn take(
     words: &mut [u64],
     accounts: &mut [u32],
@@ -82,7 +83,8 @@ fn turn(
     take(words, accounts, totals, out, reader, &block[..n])
 }
 
-// A proved loop has to end, and nothing says that the input does. So the loop counts its turns down, from a number that no run uses up.
+// A proved loop has to end, and nothing says that the input does. So the loop counts its turns down, from a number that
+// no run uses up.
 fn serve(
     words: &mut [u64],
     accounts: &mut [u32],

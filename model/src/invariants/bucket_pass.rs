@@ -1,7 +1,7 @@
 //! The bucket pass (B0 to B3, W0, W1). Toggle is the bucket's toggle, applied its state's bits.
 
 use super::scene::is_fresh;
-use super::{ensure, Check, Named, Scene};
+use super::{ensure, every_update, Check, Named, Scene};
 use crate::records::Bucket;
 use crate::task::{Position, Task};
 use std::rc::Rc;
@@ -71,24 +71,16 @@ fn is_fresh_itself(task: &Task) -> bool {
 
 /// In round 1 past the state read: all saw, or the worker is fresh itself.
 fn b3_first(scene: &Scene) -> Check {
-    for (j, task) in scene.updates() {
-        if task.in_bucket_rounds() && task.round == 0 && task.state.is_some() {
-            let held = all_saw(scene, j, task.pass_bucket()) || is_fresh_itself(task);
-            ensure(held, || format!("worker {j}"))?;
-        }
-    }
-    Ok(())
+    let at = |task: &Task| task.in_bucket_rounds() && task.round == 0 && task.state.is_some();
+    every_update(scene, at, |j, task| {
+        all_saw(scene, j, task.pass_bucket()) || is_fresh_itself(task)
+    })
 }
 
 /// In round 2: all saw.
 fn b3(scene: &Scene) -> Check {
-    for (j, task) in scene.updates() {
-        if task.in_bucket_rounds() && task.round == 1 {
-            let held = all_saw(scene, j, task.pass_bucket());
-            ensure(held, || format!("worker {j}"))?;
-        }
-    }
-    Ok(())
+    let at = |task: &Task| task.in_bucket_rounds() && task.round == 1;
+    every_update(scene, at, |j, task| all_saw(scene, j, task.pass_bucket()))
 }
 
 /// After the bucket pass, until the next one flips.
@@ -99,16 +91,13 @@ fn after_pass(task: &Task) -> bool {
 /// In round 2 past the state read: fresh, or applied is toggle. After the second swap: the same
 /// without fresh.
 fn b2(scene: &Scene) -> Check {
-    for (j, task) in scene.updates() {
-        let second = task.in_bucket_rounds() && task.round == 1 && task.state.is_some();
-        if second || after_pass(task) {
-            let bucket = task.pass_bucket();
-            let applied = applied_bit(bucket, j) == toggle_bit(bucket, j);
-            let fresh = second && is_fresh_itself(task);
-            ensure(applied || fresh, || format!("worker {j}"))?;
-        }
-    }
-    Ok(())
+    let second = |task: &Task| task.in_bucket_rounds() && task.round == 1 && task.state.is_some();
+    let at = |task: &Task| second(task) || after_pass(task);
+    every_update(scene, at, |j, task| {
+        let bucket = task.pass_bucket();
+        let applied = applied_bit(bucket, j) == toggle_bit(bucket, j);
+        applied || (second(task) && is_fresh_itself(task))
+    })
 }
 
 fn settled_or_full(scene: &Scene, j: usize, task: &Task) -> bool {
@@ -119,24 +108,14 @@ fn settled_or_full(scene: &Scene, j: usize, task: &Task) -> bool {
 
 /// In rounds with applied equal to toggle: settled there, or the bucket is full.
 fn w0(scene: &Scene) -> Check {
-    for (j, task) in scene.updates() {
-        if task.in_bucket_rounds() {
-            let bucket = task.pass_bucket();
-            let differs = applied_bit(bucket, j) != toggle_bit(bucket, j);
-            let held = differs || settled_or_full(scene, j, task);
-            ensure(held, || format!("worker {j}"))?;
-        }
-    }
-    Ok(())
+    every_update(scene, Task::in_bucket_rounds, |j, task| {
+        let bucket = task.pass_bucket();
+        let differs = applied_bit(bucket, j) != toggle_bit(bucket, j);
+        differs || settled_or_full(scene, j, task)
+    })
 }
 
 /// The same after the bucket pass.
 fn w1(scene: &Scene) -> Check {
-    for (j, task) in scene.updates() {
-        if after_pass(task) {
-            let held = settled_or_full(scene, j, task);
-            ensure(held, || format!("worker {j}"))?;
-        }
-    }
-    Ok(())
+    every_update(scene, after_pass, |j, task| settled_or_full(scene, j, task))
 }

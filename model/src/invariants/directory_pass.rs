@@ -1,7 +1,7 @@
 //! The directory pass (W2a to W4, D4) and the fourth check. Pass 1 has checks 1 and 2 to come,
 //! pass 2 has checks 3 and 4 to come.
 
-use super::{ensure, Check, Named, Scene};
+use super::{ensure, every_update, Check, Named, Scene};
 use crate::task::{Position, Task};
 use std::rc::Rc;
 
@@ -38,107 +38,69 @@ fn in_check(task: &Task) -> bool {
 
 /// Pass 1, between the first round's directory read and swap: all saw, or directory-fresh.
 fn w2a(scene: &Scene) -> Check {
-    for (j, task) in scene.updates() {
-        if task.checks == 1 && task.round == 0 && task.working.is_some() {
-            let held = all_saw(scene, j, task) || scene.is_directory_fresh(task);
-            ensure(held, || format!("worker {j}"))?;
-        }
-    }
-    Ok(())
+    let at = |task: &Task| task.checks == 1 && task.round == 0 && task.working.is_some();
+    every_update(scene, at, |j, task| {
+        all_saw(scene, j, task) || scene.is_directory_fresh(task)
+    })
 }
 
 /// Past that swap, until answered: all saw.
 fn w2(scene: &Scene) -> Check {
-    for (j, task) in scene.updates() {
-        if task.checks >= 2 || (task.checks == 1 && task.round == 1) {
-            let held = all_saw(scene, j, task);
-            ensure(held, || format!("worker {j}"))?;
-        }
-    }
-    Ok(())
+    let at = |task: &Task| task.checks >= 2 || (task.checks == 1 && task.round == 1);
+    every_update(scene, at, |j, task| all_saw(scene, j, task))
 }
 
 /// Pass 2's bucket pass past the directory read: the bucket is the leaf, or closed.
 fn w3_first(scene: &Scene) -> Check {
-    for (j, task) in scene.updates() {
-        let bucket_pass = task.in_bucket_rounds() || task.next == Position::Flip;
-        if task.checks == 2 && bucket_pass {
-            let leaf = scene.leaf(task.operation.account);
-            let same = Rc::ptr_eq(task.own_bucket(), leaf);
-            let held = same || scene.is_closed(j, &task.operation);
-            ensure(held, || format!("worker {j}"))?;
-        }
-    }
-    Ok(())
+    let bucket_pass = |task: &Task| task.in_bucket_rounds() || task.next == Position::Flip;
+    let at = |task: &Task| task.checks == 2 && bucket_pass(task);
+    every_update(scene, at, |j, task| {
+        let leaf = scene.leaf(task.operation.account);
+        Rc::ptr_eq(task.own_bucket(), leaf) || scene.is_closed(j, &task.operation)
+    })
 }
 
 /// Pass 2 past the bucket pass: Done, or the leaf is full.
 fn w3(scene: &Scene) -> Check {
-    for (j, task) in scene.updates() {
-        if task.checks == 3 || (task.checks == 2 && in_check(task)) {
-            let full = scene.is_full(scene.leaf(task.operation.account));
-            let held = full || scene.is_done(j, &task.operation);
-            ensure(held, || format!("worker {j}"))?;
-        }
-    }
-    Ok(())
+    let at = |task: &Task| task.checks == 3 || (task.checks == 2 && in_check(task));
+    every_update(scene, at, |j, task| {
+        let full = scene.is_full(scene.leaf(task.operation.account));
+        full || scene.is_done(j, &task.operation)
+    })
 }
 
 /// Pass 2's round 1 past the directory read: all cover, or directory-fresh.
 fn w4c(scene: &Scene) -> Check {
-    for (j, task) in scene.updates() {
-        if task.checks == 3 && task.round == 0 && task.working.is_some() {
-            let held = all_cover(scene, j, task) || scene.is_directory_fresh(task);
-            ensure(held, || format!("worker {j}"))?;
-        }
-    }
-    Ok(())
+    let at = |task: &Task| task.checks == 3 && task.round == 0 && task.working.is_some();
+    every_update(scene, at, |j, task| {
+        all_cover(scene, j, task) || scene.is_directory_fresh(task)
+    })
 }
 
 /// Pass 2's round 2: all cover.
 fn w4b(scene: &Scene) -> Check {
-    for (j, task) in scene.updates() {
-        if task.checks == 3 && task.round == 1 && task.in_directory_rounds() {
-            let held = all_cover(scene, j, task);
-            ensure(held, || format!("worker {j}"))?;
-        }
-    }
-    Ok(())
+    let at = |task: &Task| task.checks == 3 && task.round == 1 && task.in_directory_rounds();
+    every_update(scene, at, |j, task| all_cover(scene, j, task))
 }
 
 /// A directory-fresh worker in pass 2 covers itself.
 fn w4_self(scene: &Scene) -> Check {
-    for (j, task) in scene.updates() {
-        if task.checks == 3 && scene.is_directory_fresh(task) {
-            let held = scene.covers(task, j, &task.operation);
-            ensure(held, || format!("worker {j}"))?;
-        }
-    }
-    Ok(())
+    let at = |task: &Task| task.checks == 3 && scene.is_directory_fresh(task);
+    every_update(scene, at, |j, task| scene.covers(task, j, &task.operation))
 }
 
 /// Pass 2's round 2 past the directory read: directory-fresh, or closed.
 fn w4a(scene: &Scene) -> Check {
-    for (j, task) in scene.updates() {
-        if task.checks == 3 && task.round == 1 && task.working.is_some() {
-            let closed = scene.is_closed(j, &task.operation);
-            let held = closed || scene.is_directory_fresh(task);
-            ensure(held, || format!("worker {j}"))?;
-        }
-    }
-    Ok(())
+    let at = |task: &Task| task.checks == 3 && task.round == 1 && task.working.is_some();
+    every_update(scene, at, |j, task| {
+        scene.is_closed(j, &task.operation) || scene.is_directory_fresh(task)
+    })
 }
 
 /// After it: closed.
 fn w4(scene: &Scene) -> Check {
-    for (j, task) in scene.updates() {
-        let after = task.checks == 3 && in_check(task);
-        if after || task.checks > 3 {
-            let held = scene.is_closed(j, &task.operation);
-            ensure(held, || format!("worker {j}"))?;
-        }
-    }
-    Ok(())
+    let at = |task: &Task| (task.checks == 3 && in_check(task)) || task.checks > 3;
+    every_update(scene, at, |j, task| scene.is_closed(j, &task.operation))
 }
 
 /// What a directory-fresh worker has found full below M is still a leaf, and full: accounts,

@@ -9,6 +9,7 @@ pub mod structure;
 pub use ledger::Ledger;
 pub use scene::Scene;
 
+use crate::task::Task;
 use crate::violation::Violation;
 
 /// The outcome of one assertion.
@@ -24,6 +25,18 @@ pub fn ensure(condition: bool, text: impl FnOnce() -> String) -> Check {
     } else {
         Err(text())
     }
+}
+
+/// Something holds of each worker's update under way to which it applies.
+fn every_update(
+    scene: &Scene,
+    applies: impl Fn(&Task) -> bool,
+    holds: impl Fn(usize, &Task) -> bool,
+) -> Check {
+    for (j, task) in scene.updates() {
+        ensure(!applies(task) || holds(j, task), || format!("worker {j}"))?;
+    }
+    Ok(())
 }
 
 /// All assertions, in the order in which they are made.

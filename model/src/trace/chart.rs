@@ -118,7 +118,8 @@ impl Chart<'_> {
             let parity = ["even", "odd"][i % 2];
             let said = format!("line {}: {}\n{}", met.number, met.text, met.output);
             self.rows += &format!(
-                "<rect class=\"line {parity}\" x=\"{x}\" y=\"{top}\" width=\"{}\" height=\"16\"><title>{}</title></rect>\n",
+                "<rect class=\"line {parity}\" x=\"{x}\" y=\"{top}\" width=\"{}\" height=\"16\">\
+                 <title>{}</title></rect>\n",
                 end - x,
                 escape(&said)
             );
@@ -204,7 +205,8 @@ impl Chart<'_> {
             None => escape(&bar.name),
         };
         self.rows += &format!(
-            "<g class=\"operation\"><title>{title}</title><path class=\"bar\" d=\"M{right},{top}H{left}V{bottom}H{right}{open}\"/>\
+            "<g class=\"operation\"><title>{title}</title>\
+             <path class=\"bar\" d=\"M{right},{top}H{left}V{bottom}H{right}{open}\"/>\
              <path class=\"call\" d=\"M{left},{top}V{bottom}\"/></g>\n"
         );
         self.parked(bar.operation, top);

@@ -44,12 +44,18 @@ const READ_SLOT: Look = Look {
 const SWAP: Look = Look {
     id: "swap",
     words: "bucket swap, succeeded",
-    shape: r##"<path d="M-5,-8H5V8H-5Z" fill="#009e73"/><path d="M-3,0L-1,3L3,-3" fill="none" stroke="#fff" stroke-width="1.8"/>"##,
+    shape: concat!(
+        r##"<path d="M-5,-8H5V8H-5Z" fill="#009e73"/>"##,
+        r##"<path d="M-3,0L-1,3L3,-3" fill="none" stroke="#fff" stroke-width="1.8"/>"##
+    ),
 };
 const SWAP_FAILED: Look = Look {
     id: "swap-failed",
     words: "bucket swap, failed",
-    shape: r##"<path d="M-5,-8H5V8H-5ZM-2.5,-3L2.5,3M2.5,-3L-2.5,3" fill="#fff" stroke="#d55e00" stroke-width="1.6"/>"##,
+    shape: concat!(
+        r##"<path d="M-5,-8H5V8H-5ZM-2.5,-3L2.5,3M2.5,-3L-2.5,3""##,
+        r##" fill="#fff" stroke="#d55e00" stroke-width="1.6"/>"##
+    ),
 };
 const CHECK_DIRECTORY: Look = Look {
     id: "check-directory",
@@ -89,12 +95,18 @@ const STATE_NOTHING: Look = Look {
 const DIRECTORY_SWAP: Look = Look {
     id: "directory-swap",
     words: "directory swap, succeeded",
-    shape: r##"<path d="M0,-11L5,-6V6L0,11L-5,6V-6Z" fill="#009e73"/><path d="M-3,0L-1,3L3,-3" fill="none" stroke="#fff" stroke-width="1.8"/>"##,
+    shape: concat!(
+        r##"<path d="M0,-11L5,-6V6L0,11L-5,6V-6Z" fill="#009e73"/>"##,
+        r##"<path d="M-3,0L-1,3L3,-3" fill="none" stroke="#fff" stroke-width="1.8"/>"##
+    ),
 };
 const DIRECTORY_SWAP_FAILED: Look = Look {
     id: "directory-swap-failed",
     words: "directory swap, failed",
-    shape: r##"<path d="M0,-11L5,-6V6L0,11L-5,6V-6ZM-2.5,-3L2.5,3M2.5,-3L-2.5,3" fill="#fff" stroke="#d55e00" stroke-width="1.6"/>"##,
+    shape: concat!(
+        r##"<path d="M0,-11L5,-6V6L0,11L-5,6V-6ZM-2.5,-3L2.5,3M2.5,-3L-2.5,3""##,
+        r##" fill="#fff" stroke="#d55e00" stroke-width="1.6"/>"##
+    ),
 };
 /// The steps, in the order of the legend.
 pub const STEPS: [&Look; 17] = [

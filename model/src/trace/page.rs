@@ -36,7 +36,8 @@ text { fill: #222; paint-order: stroke; stroke: #fff; stroke-width: 4px; stroke-
 .parked rect { fill: #fff; }
 .parked path { stroke: #999; stroke-dasharray: 2 4; }
 .join { stroke: #000; stroke-width: 1px; stroke-dasharray: 4 2; opacity: .6; }
-ul { list-style: none; display: flex; flex-wrap: wrap; gap: 4px 20px; margin: 0; padding: 0; font-size: 12px; max-width: 1200px; }
+ul { list-style: none; display: flex; flex-wrap: wrap; gap: 4px 20px; margin: 0; padding: 0; font-size: 12px; \
+max-width: 1200px; }
 li { display: flex; align-items: center; gap: 5px; }
 ";
 
@@ -113,9 +114,11 @@ fn legend() -> String {
     let others: String = OTHERS.iter().map(key).collect();
     format!(
         "<h2>Legend</h2>\n<ul>\n{steps}</ul>\n<ul>\n{others}</ul>\n\
-         <p class=\"notes\">A bar runs from its call (thick edge) to its answer; the number after the answer is that of its steps. \
-         A bar without answer is open at its end. A white stretch of a bar: its worker is parked. Time is counted in entries of the list: \
-         calls, steps of all workers and listings, the refused ones too; an unread line takes a place as well. \
+         <p class=\"notes\">A bar runs from its call (thick edge) to its answer; \
+         the number after the answer is that of its steps. \
+         A bar without answer is open at its end. A white stretch of a bar: its worker is parked. \
+         Time is counted in entries of the list: calls, steps of all workers and listings, the refused ones too; \
+         an unread line takes a place as well. \
          A bucket is written as the first bits of its accounts and a star. Pointing at a mark shows more.</p>\n"
     )
 }

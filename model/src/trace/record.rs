@@ -10,7 +10,7 @@ use crate::moments::Moment;
 use crate::plain::Plain;
 use crate::records::Bucket;
 use crate::task::Task;
-use crate::totals::{kind_number, next_line, Driver, LENT};
+use crate::totals::{next_line, Driver, LENT};
 use crate::violation::Violation;
 use std::rc::Rc;
 
@@ -62,7 +62,7 @@ impl Recorder {
                 worker,
                 account,
                 total,
-            }) => self.call(worker, kind_number(kind), account, total),
+            }) => self.call(worker, kind.number(), account, total),
             Some(Line::List) => self.listing(),
             None => self.list.places += 1,
         }

@@ -1,17 +1,20 @@
-//! Every call over lent words, with guards around whatever is lent, each held against what is expected of it; and counts of what came back.
+//! Every call over lent words, with guards around whatever is lent, each held against what is expected of it; and
+//! counts of what came back.
 
-use crate::expected::{self, Shape, RECORD};
-use crate::lent::Lent;
+use crate::expected::{self, Shape};
+use crate::fields::{HEADER_NEEDED, HEADER_SETTINGS, KIND_INSERT, WIDEST_RECORD};
+use crate::lent::{self, told, Lent};
 use crate::random::Random;
-use totals::raw;
+use totals::raw::{self, TOTALS_ADDED, TOTALS_CROWDED, TOTALS_GREATEST_RUN as RUN, TOTALS_IDLE};
+use totals::raw::{TOTALS_MOVED, TOTALS_NARROW, TOTALS_OK, TOTALS_SETTINGS};
 
 const NAMES: [&str; 6] = ["words_needed", "open", "call", "step", "run", "list"];
 
-/// How often each call gave each number; a number of words needed counts as 0. Of steps, how many carried updates out in a bucket or split
-/// buckets; of runs, how many were held against single steps.
+/// How often each call gave each number; a number of words needed counts as 0. Of steps, how many carried updates out
+/// in a bucket or split buckets; of runs, how many were held against single steps.
 #[derive(Default)]
 pub struct Figures {
-    counts: [[u64; 26]; 6],
+    counts: [[u64; TOTALS_CROWDED as usize + 1]; NAMES.len()],
     pub carried: u64,
     pub split: u64,
     pub compared: u64,
@@ -28,16 +31,20 @@ impl Figures {
     }
 
     /// How often a call gave a number.
-    pub fn of(&self, name: &str, number: usize) -> u64 {
+    pub fn of(&self, name: &str, number: u64) -> u64 {
         let call = NAMES.iter().position(|n| *n == name).expect("a call");
-        self.counts[call][number]
+        self.counts[call][number as usize]
     }
 
     pub fn print(&self, class: &str) {
         println!("{class}: {} calls", self.calls());
-        println!("  steps that carried out {}, that split {}; runs compared {}", self.carried, self.split, self.compared);
+        println!(
+            "  steps that carried out {}, that split {}; runs compared {}",
+            self.carried, self.split, self.compared
+        );
         for (name, counts) in NAMES.iter().zip(&self.counts) {
-            let given: Vec<String> = (0..).zip(counts).filter(|(_, n)| **n > 0).map(|(k, n)| format!("{k}: {n}")).collect();
+            let given: Vec<String> =
+                (0..).zip(counts).filter(|(_, n)| **n > 0).map(|(k, n)| format!("{k}: {n}")).collect();
             println!("  {name:12} {}", given.join(", "));
         }
     }
@@ -62,9 +69,9 @@ impl<'a> Trial<'a> {
 
     pub fn needed(&mut self, workers: u64, capacity: u64, depth: u64) {
         let number = unsafe { raw::totals_words_needed(workers, capacity, depth) };
-        let want = expected::in_range(workers, capacity, depth).map_or(1, |s| s.words_needed() as u64);
+        let want = expected::in_range(workers, capacity, depth).map_or(TOTALS_SETTINGS, |s| s.words_needed() as u64);
         assert_eq!(number, want);
-        self.figures.add("words_needed", if number == 1 { 1 } else { 0 });
+        self.figures.add("words_needed", if number == TOTALS_SETTINGS { number } else { TOTALS_OK });
     }
 
     pub fn open(&mut self, workers: u64, capacity: u64, depth: u64) -> u64 {
@@ -96,10 +103,10 @@ impl<'a> Trial<'a> {
         let number = unsafe { raw::totals_step(w.as_mut_ptr(), w.len(), worker, r.as_mut_ptr(), r.len()) };
         let step = expected::step(&mut want, worker);
         assert_eq!(number, step.number, "step of worker {worker}");
-        told(&report, &before, step.told);
+        told(&report, before, step.told.as_ref().map_or(&[], |words| words));
         let unsaid = step.unsaid;
-        self.figures.carried += u64::from(unsaid.len() == RECORD);
-        self.figures.split += u64::from(unsaid.len() > RECORD);
+        self.figures.carried += u64::from(unsaid.len() == WIDEST_RECORD);
+        self.figures.split += u64::from(unsaid.len() > WIDEST_RECORD);
         want[unsaid.clone()].copy_from_slice(&self.words()[unsaid]);
         self.same(&want);
         self.figures.add("step", number);
@@ -116,7 +123,7 @@ impl<'a> Trial<'a> {
         assert!(report.intact() && self.words.intact());
         if let Some((want_number, want_told, want)) = steps(first, worker, most) {
             assert_eq!(number, want_number, "run of worker {worker}, {most}");
-            told(&report, &before, want_told);
+            told(&report, before, want_told.as_ref().map_or(&[], |words| words));
             self.same(&want);
             self.figures.compared += 1;
         }
@@ -129,32 +136,14 @@ impl<'a> Trial<'a> {
         let rows = expected::rows(self.words());
         let count = rows.as_ref().map_or(0, Vec::len);
         let mut places = || (count + self.random.place(3)).saturating_sub(usize::from(self.random.one_in(4)));
-        let (mut want_accounts, mut want_totals) = (vec![7; places()], vec![-7; places()]);
-        let (mut accounts, mut totals) = (Lent::new(&want_accounts, 9), Lent::new(&want_totals, 9));
-        let mut report = self.report();
-        let before = report.items().to_vec();
-        let number = self.list_raw(&mut accounts, &mut totals, &mut report);
+        let places = [places(), places()];
         let listed = match rows {
-            Ok(rows) if want_accounts.len() < rows.len() || want_totals.len() < rows.len() => Err(10),
+            Ok(rows) if places.iter().any(|places| *places < rows.len()) => Err(TOTALS_NARROW),
             other => other,
         };
-        assert_eq!(number, listed.as_ref().err().copied().unwrap_or(0));
-        told(&report, &before, listed.as_ref().ok().map(|rows| [rows.len() as u64]));
-        for (i, (account, total)) in listed.into_iter().flatten().enumerate() {
-            (want_accounts[i], want_totals[i]) = (account, total);
-        }
-        assert!(accounts.intact() && totals.intact());
-        assert!(accounts.items() == want_accounts && totals.items() == want_totals);
+        let report = self.report();
+        let number = lent::list(&self.words, places, report, listed);
         self.figures.add("list", number);
-        number
-    }
-
-    fn list_raw(&mut self, accounts: &mut Lent<u32>, totals: &mut Lent<i64>, report: &mut Lent<u64>) -> u64 {
-        let want = self.words().to_vec();
-        let (w, a, t, r) = (self.words.items(), accounts.items_mut(), totals.items_mut(), report.items_mut());
-        let number =
-            unsafe { raw::totals_list(w.as_ptr(), w.len(), a.as_mut_ptr(), a.len(), t.as_mut_ptr(), t.len(), r.as_mut_ptr(), r.len()) };
-        self.same(&want);
         number
     }
 
@@ -174,7 +163,7 @@ impl<'a> Trial<'a> {
 
     /// One random call, to a worker that may be there, of any kind.
     pub fn any_call(&mut self, lists: u64) -> u64 {
-        let first = self.words().first().copied().unwrap_or(0);
+        let first = self.words().get(HEADER_SETTINGS).copied().unwrap_or(0);
         let workers = Shape::of(first).workers as u64;
         let worker = match self.random.below(16) {
             0 => self.random.word(8),
@@ -185,7 +174,7 @@ impl<'a> Trial<'a> {
             0 if self.random.one_in(lists) => self.list(),
             0..=3 => self.any_operation(worker),
             4 => {
-                let most = self.random.of(&[0, 1, 2, 9, 60, 255, 256, 257, u64::MAX]);
+                let most = self.random.of(&[0, 1, 2, 9, 60, RUN - 1, RUN, RUN + 1, u64::MAX]);
                 self.run(worker, most)
             }
             _ => self.step(worker).0,
@@ -193,7 +182,7 @@ impl<'a> Trial<'a> {
     }
 
     pub fn any_operation(&mut self, worker: u64) -> u64 {
-        let kind = if self.random.one_in(16) { self.random.word(4) } else { 1 + self.random.below(3) };
+        let kind = if self.random.one_in(16) { self.random.word(4) } else { KIND_INSERT + self.random.below(3) };
         let account = any_account(self.random);
         let total = self.random.next() as i64;
         self.call(worker, kind, account, total)
@@ -210,38 +199,32 @@ pub fn any_account(random: &mut Random) -> u32 {
     }
 }
 
-/// A report has what was told at its start, if it fits, and else what it had.
-fn told<const N: usize>(report: &Lent<u64>, before: &[u64], told: Option<[u64; N]>) {
-    assert!(report.intact());
-    let mut want = before.to_vec();
-    if let (Some(told), true) = (told, N <= before.len()) {
-        want[..N].copy_from_slice(&told);
-    }
-    assert_eq!(report.items(), want);
-}
-
 /// A run's number, what it tells, and the words it leaves.
 type Run = (u64, Option<[u64; 2]>, Vec<u64>);
 
-/// What a run gives, by single steps. Nothing where a step changed the first two words: the next step checks them anew, a run checks them once.
+/// What a run gives, by single steps. Nothing where a step changed the first two words: the next step checks them anew,
+/// a run checks them once.
 fn steps(mut w: Vec<u64>, worker: u64, most: u64) -> Option<Run> {
-    let head = w.get(..2).map(<[u64]>::to_vec);
+    let head = |w: &[u64]| w.get(HEADER_SETTINGS..=HEADER_NEEDED).map(<[u64]>::to_vec);
+    let first = head(&w);
     let refusal = expected::step(&mut w.clone(), worker).number;
-    if (1..16).contains(&refusal) {
+    if refusal != TOTALS_MOVED && refusal < TOTALS_ADDED {
         return Some((refusal, None, w));
     }
-    for k in 0..most.min(256) {
+    let most = most.min(RUN);
+    for k in 0..most {
         let mut report = [0; 2];
-        let number = unsafe { raw::totals_step(w.as_mut_ptr(), w.len(), worker, report.as_mut_ptr(), 2) };
-        if w.get(..2).map(<[u64]>::to_vec) != head {
+        let (places, at) = (report.len(), report.as_mut_ptr());
+        let number = unsafe { raw::totals_step(w.as_mut_ptr(), w.len(), worker, at, places) };
+        if head(&w) != first {
             return None;
         }
         match number {
-            0 => {}
+            TOTALS_MOVED => {}
             // the operation vanished
-            5 => return Some((0, Some([k, 0]), w)),
+            TOTALS_IDLE => return Some((TOTALS_MOVED, Some([k, 0]), w)),
             _ => return Some((number, Some(report), w)),
         }
     }
-    Some((0, Some([most.min(256), 0]), w))
+    Some((TOTALS_MOVED, Some([most, 0]), w))
 }

@@ -1,4 +1,6 @@
-//! A slice to lend, with guards on both sides.
+//! A slice to lend, with guards on both sides; and a listing over such slices.
+
+use totals::raw::{self, TOTALS_OK};
 
 const GUARDS: usize = 64;
 
@@ -28,4 +30,38 @@ impl<T: Copy + PartialEq> Lent<T> {
         let back = &rest[rest.len() - GUARDS..];
         front.iter().chain(back).all(|x| *x == self.guard)
     }
+}
+
+/// A report has what was told at its start, if it fits, and else what it had.
+pub fn told(report: &Lent<u64>, mut before: Vec<u64>, told: &[u64]) {
+    assert!(report.intact(), "a word outside the report was written");
+    if told.len() <= before.len() {
+        before[..told.len()].copy_from_slice(told);
+    }
+    assert_eq!(report.items(), before);
+}
+
+/// The listing into lists of so many places, held against the rows or the refusal that are to come.
+pub fn list(
+    words: &Lent<u64>,
+    [account_places, total_places]: [usize; 2],
+    mut report: Lent<u64>,
+    want: Result<Vec<(u32, i64)>, u64>,
+) -> u64 {
+    let (mut want_accounts, mut want_totals) = (vec![7; account_places], vec![-7; total_places]);
+    let (mut accounts, mut totals) = (Lent::new(&want_accounts, 9), Lent::new(&want_totals, 9));
+    let (before, kept) = (report.items().to_vec(), words.items().to_vec());
+    let (w, a, t, r) = (words.items(), accounts.items_mut(), totals.items_mut(), report.items_mut());
+    let (a_at, t_at, r_at) = (a.as_mut_ptr(), t.as_mut_ptr(), r.as_mut_ptr());
+    let number = unsafe { raw::totals_list(w.as_ptr(), w.len(), a_at, a.len(), t_at, t.len(), r_at, r.len()) };
+    assert_eq!(number, want.as_ref().err().copied().unwrap_or(TOTALS_OK));
+    let count = want.as_ref().map(|rows| vec![rows.len() as u64]).unwrap_or_default();
+    told(&report, before, &count);
+    for (i, (account, total)) in want.into_iter().flatten().enumerate() {
+        (want_accounts[i], want_totals[i]) = (account, total);
+    }
+    assert!(accounts.intact() && totals.intact(), "a place outside the lists was written");
+    assert!(accounts.items() == want_accounts && totals.items() == want_totals, "another listing");
+    assert!(words.intact() && words.items() == kept, "a listing changed a word");
+    number
 }

@@ -1,14 +1,27 @@
-//! Foreign words lent to every call: random words, damaged tables, and words made to mislead, from fixed seeds. Every call is held against the
-//! definitions; what was lent has guards around it.
+//! Foreign words lent to every call: random words, damaged tables, and words made to mislead, from fixed seeds. Every
+//! call is held against the definitions; what was lent has guards around it.
 mod calls;
 mod expected;
+mod fields;
 mod lent;
 mod random;
 mod words;
 
 use calls::{Figures, Trial};
 use expected::Shape;
+use fields::{KIND_INSERT, KIND_NONE, WORKER_KIND};
 use random::Random;
+use std::collections::BTreeMap;
+use totals::raw::*;
+
+/// What calls give over words of any kind, and what the listing does.
+const CALLED: [u64; 6] = [TOTALS_OK, TOTALS_STRANGER, TOTALS_BUSY, TOTALS_KIND, TOTALS_SPENT, TOTALS_STRANGE];
+const LISTED: [u64; 3] = [TOTALS_OK, TOTALS_STRANGE, TOTALS_NARROW];
+/// What steps give where nothing ends.
+const UNENDED: [u64; 4] = [TOTALS_MOVED, TOTALS_STRANGER, TOTALS_IDLE, TOTALS_STRANGE];
+/// What ends an update, but absent; and a lookup.
+const UPDATED: [u64; 4] = [TOTALS_ADDED, TOTALS_REPLACED, TOTALS_REMOVED, TOTALS_CROWDED];
+const LOOKED_UP: [u64; 2] = [TOTALS_FOUND, TOTALS_NONE];
 
 /// So many random calls on words, and at the end the calls that take settings.
 fn calls_on(w: &[u64], calls: u64, lists: u64, random: &mut Random, figures: &mut Figures) {
@@ -24,86 +37,86 @@ fn calls_on(w: &[u64], calls: u64, lists: u64, random: &mut Random, figures: &mu
 }
 
 /// A call gave each of these numbers more than a hundred times.
-fn gave(figures: &Figures, name: &str, numbers: &[usize]) {
+fn gave(figures: &Figures, name: &str, numbers: &[u64]) {
     for number in numbers {
         let times = figures.of(name, *number);
         assert!(times > 100, "{name} gave {number} {times} times");
     }
 }
 
+/// So many calls at least over words of one class, and what they gave.
+fn class(title: &str, seed: u64, calls: u64, more: impl Fn(&mut Random, &mut Figures)) -> Figures {
+    let mut random = Random::new(seed);
+    let mut figures = Figures::default();
+    while figures.calls() < calls {
+        more(&mut random, &mut figures);
+    }
+    figures.print(title);
+    figures
+}
+
 #[test]
 fn random_words() {
-    let mut random = Random::new(1);
-    let mut figures = Figures::default();
-    while figures.calls() < 400_000 {
-        let w = words::random(&mut random);
-        calls_on(&w, 30, 4, &mut random, &mut figures);
-    }
-    figures.print("random words");
-    gave(&figures, "open", &[0, 1, 2]);
-    gave(&figures, "call", &[0, 3, 4, 6, 7, 8]);
-    gave(&figures, "step", &[0, 3, 5, 8, 17, 18, 19, 21, 22, 25]);
-    gave(&figures, "list", &[0, 8, 10]);
+    let figures = class("random words", 1, 400_000, |random, figures| {
+        let w = words::random(random);
+        calls_on(&w, 30, 4, random, figures);
+    });
+    gave(&figures, "open", &[TOTALS_OK, TOTALS_SETTINGS, TOTALS_SHORT]);
+    gave(&figures, "call", &CALLED);
+    gave(&figures, "step", &[&UNENDED[..], &UPDATED, &LOOKED_UP].concat());
+    gave(&figures, "list", &LISTED);
     assert!(figures.carried > 1000 && figures.split > 100 && figures.compared > 1000);
 }
 
 #[test]
 fn damaged_tables() {
-    let mut random = Random::new(2);
-    let mut figures = Figures::default();
-    while figures.calls() < 800_000 {
-        let w = words::worked_on(&mut random);
+    let figures = class("damaged tables", 2, 800_000, |random, figures| {
+        let w = words::worked_on(random);
         for _ in 0..4 {
-            let damaged = words::damaged(&w, &mut random);
-            calls_on(&damaged, 60, 2, &mut random, &mut figures);
+            let damaged = words::damaged(&w, random);
+            calls_on(&damaged, 60, 2, random, figures);
         }
-    }
-    figures.print("damaged tables");
-    gave(&figures, "call", &[0, 3, 4, 6, 7, 8]);
-    gave(&figures, "step", &[0, 3, 5, 8, 17, 18, 19, 20, 21, 22, 25]);
-    gave(&figures, "run", &[0, 3, 5, 8, 17, 18, 19, 20, 21, 22, 25]);
-    gave(&figures, "list", &[0, 8, 10]);
+    });
+    gave(&figures, "call", &CALLED);
+    let stepped = [&UNENDED[..], &UPDATED, &[TOTALS_ABSENT], &LOOKED_UP].concat();
+    gave(&figures, "step", &stepped);
+    gave(&figures, "run", &stepped);
+    gave(&figures, "list", &LISTED);
     assert!(figures.carried > 1000 && figures.split > 1000 && figures.compared > 10_000);
 }
 
 #[test]
 fn misleading_words() {
-    let mut random = Random::new(3);
-    let mut figures = Figures::default();
-    while figures.calls() < 400_000 {
-        let w = words::misleading(&mut random);
-        calls_on(&w, 30, 4, &mut random, &mut figures);
-    }
-    figures.print("misleading words");
-    gave(&figures, "call", &[0, 3, 4, 6, 7, 8]);
-    gave(&figures, "step", &[0, 3, 5, 8, 21, 22, 25]);
-    gave(&figures, "list", &[0, 8, 10]);
+    let figures = class("misleading words", 3, 400_000, |random, figures| {
+        let w = words::misleading(random);
+        calls_on(&w, 30, 4, random, figures);
+    });
+    gave(&figures, "call", &CALLED);
+    gave(&figures, "step", &[&UNENDED[..], &LOOKED_UP, &[TOTALS_CROWDED]].concat());
+    gave(&figures, "list", &LISTED);
     assert!(figures.carried > 1000 && figures.split > 100 && figures.compared > 1000);
 }
 
 #[test]
 fn tables_that_nothing_damaged_are_never_strange() {
-    let mut random = Random::new(4);
-    let mut figures = Figures::default();
-    while figures.calls() < 200_000 {
-        let s = words::settings(&mut random);
-        let w = words::noise(s.words_needed() + random.place(3), &mut random);
+    let figures = class("undamaged tables", 4, 200_000, |random, figures| {
+        let s = words::settings(random);
+        let w = words::noise(s.words_needed() + random.place(3), random);
         let mut choices = Random::new(random.next());
-        let mut trial = Trial::new(&w, &mut random, &mut figures);
-        assert_eq!(trial.open(s.workers as u64, s.capacity as u64, u64::from(s.depth)), 0);
+        let mut trial = Trial::new(&w, random, figures);
+        assert_eq!(trial.open(s.workers as u64, s.capacity as u64, u64::from(s.depth)), TOTALS_OK);
         for _ in 0..1000 {
             undamaged_call(&mut trial, s, &mut choices);
         }
-    }
-    figures.print("undamaged tables");
-    gave(&figures, "step", &[0, 5, 17, 18, 19, 20, 21, 22, 25]);
+    });
+    gave(&figures, "step", &[&[TOTALS_MOVED, TOTALS_IDLE, TOTALS_ABSENT][..], &UPDATED, &LOOKED_UP].concat());
     assert!(figures.carried > 1000 && figures.split > 100);
 }
 
 /// A call on a table that nothing damaged: it is not strange, answers come at their steps, and the listing ascends.
 fn undamaged_call(trial: &mut Trial, s: Shape, random: &mut Random) {
     let worker = random.below(s.workers as u64);
-    let idle = trial.words()[s.worker_at(worker as usize)] == 0;
+    let idle = trial.words()[s.worker_at(worker as usize) + WORKER_KIND] == KIND_NONE;
     let number = match random.below(40) {
         0 => trial.list(),
         1 => trial.any_operation(worker),
@@ -111,12 +124,16 @@ fn undamaged_call(trial: &mut Trial, s: Shape, random: &mut Random) {
         _ => {
             let (number, told) = trial.step(worker);
             let n = s.workers as u64;
-            let ends = if number == 21 || number == 22 { vec![2] } else { vec![2 * n + 11, 6 * n + 17, 8 * n + 27, 12 * n + 33] };
+            let ends = if LOOKED_UP.contains(&number) {
+                vec![2]
+            } else {
+                vec![2 * n + 11, 6 * n + 17, 8 * n + 27, 12 * n + 33]
+            };
             assert!(told.is_none_or(|[steps, _]| ends.contains(&steps)), "answered {told:?}");
             number
         }
     };
-    assert_ne!(number, 8);
+    assert_ne!(number, TOTALS_STRANGE);
     let rows = expected::rows(trial.words()).expect("a table");
     assert!(rows.windows(2).all(|pair| pair[0].0 < pair[1].0), "not ascending");
     assert!(rows.len() <= s.capacity * s.span());
@@ -129,8 +146,35 @@ fn zeros_are_strange() {
     for length in (0..2000).chain([8192, 15_169, 100_000]) {
         let w = vec![0; length];
         let mut trial = Trial::new(&w, &mut random, &mut figures);
-        let given = [trial.call(0, 1, 5, 700), trial.step(0).0, trial.run(0, 9), trial.list()];
-        assert_eq!(given, [8; 4]);
+        let given = [trial.call(0, KIND_INSERT, 5, 700), trial.step(0).0, trial.run(0, 9), trial.list()];
+        assert_eq!(given, [TOTALS_STRANGE; 4]);
     }
     figures.print("zeros");
+}
+
+/// The constants that a text gives as plain numbers.
+fn constants(text: &str) -> BTreeMap<&str, u64> {
+    let constant = |line| {
+        let (name, rest) = str::strip_prefix(line, "pub const ")?.split_once(": ")?;
+        let number = rest.split_once(" = ")?.1.strip_suffix(';')?;
+        Some((name, number.replace('_', "").parse().ok()?))
+    };
+    text.lines().map(str::trim_start).filter_map(constant).collect()
+}
+
+#[test]
+fn names_and_numbers_are_those_of_the_crates() {
+    let own = constants(include_str!("fields.rs"));
+    let mut compared = 0;
+    for text in
+        [include_str!("../../../../crates/fields/src/lib.rt"), include_str!("../../../../crates/interface/src/lib.rt")]
+    {
+        for (name, number) in constants(text) {
+            if let Some(own) = own.get(name) {
+                assert_eq!(*own, number, "{name}");
+                compared += 1;
+            }
+        }
+    }
+    assert!(compared > 30, "{compared}");
 }

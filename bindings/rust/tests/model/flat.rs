@@ -1,6 +1,6 @@
 //! A table by the C functions, with guards around whatever is lent.
 
-use crate::lent::Lent;
+use crate::lent::{self, told, Lent};
 use crate::{number_of, Interface, Outcome, Rows};
 use model::prng::Prng;
 use model::settings::Settings;
@@ -32,15 +32,6 @@ impl Flat {
         assert!(self.words.intact(), "a word outside the lent ones was written");
         assert!(kept.is_none_or(|kept| kept == self.words.items()), "a refused call changed a word");
     }
-}
-
-/// A report has what was told at its start, if it fits, and else what it had.
-fn told(report: &Lent<u64>, mut before: Vec<u64>, told: &[u64]) {
-    assert!(report.intact(), "a word outside the report was written");
-    if told.len() <= before.len() {
-        before[..told.len()].copy_from_slice(told);
-    }
-    assert_eq!(report.items(), before);
 }
 
 impl Interface for Flat {
@@ -92,22 +83,7 @@ impl Interface for Flat {
     }
 
     fn list(&mut self, accounts: usize, totals: usize, want: Result<Rows, u8>) {
-        let kept = self.kept(true);
-        let (mut want_accounts, mut want_totals) = (vec![7; accounts], vec![-7; totals]);
-        let (mut accounts, mut totals) = (Lent::new(&want_accounts, 9), Lent::new(&want_totals, 9));
-        let mut report = self.report();
-        let before = report.items().to_vec();
-        let (w, a, t, r) = (self.words.items(), accounts.items_mut(), totals.items_mut(), report.items_mut());
-        let number =
-            unsafe { raw::totals_list(w.as_ptr(), w.len(), a.as_mut_ptr(), a.len(), t.as_mut_ptr(), t.len(), r.as_mut_ptr(), r.len()) };
-        assert_eq!(number, number_of(want.as_ref().map(|_| ()).map_err(|number| *number)));
-        let count = want.as_ref().map(|rows| vec![rows.len() as u64]).unwrap_or_default();
-        told(&report, before, &count);
-        for (i, (account, total)) in want.into_iter().flatten().enumerate() {
-            (want_accounts[i], want_totals[i]) = (account, total);
-        }
-        assert!(accounts.intact() && totals.intact(), "a place outside the lists was written");
-        assert!(accounts.items() == want_accounts && totals.items() == want_totals, "another listing");
-        self.unchanged(kept);
+        let report = self.report();
+        lent::list(&self.words, [accounts, totals], report, want.map_err(u64::from));
     }
 }

@@ -1,5 +1,6 @@
-//! Random orders of calls, single steps, runs and listings by the safe interface and by the C functions, held against the second model:
-//! every refusal, answer, step count and listing is the model's. Damaged words are the business of `foreign`.
+//! Random orders of calls, single steps, runs and listings by the safe interface and by the C functions, held against
+//! the second model: every refusal, answer, step count and listing is the model's. Damaged words are the business of
+//! `foreign`.
 mod flat;
 #[path = "../foreign/lent.rs"]
 mod lent;
@@ -7,12 +8,13 @@ mod orders;
 mod safe;
 
 use flat::Flat;
-use model::machine::{Machine, Stepped, MOST_TICKETS};
+use model::machine::{Machine, Stepped};
 use model::prng::Prng;
-use model::records::Answer;
+use model::records::{Answer, GREATEST_TICKET, KIND_DELETE, KIND_INSERT, KIND_LOOKUP};
 use orders::{Entry, Orders};
 use safe::Safe;
 use std::collections::BTreeSet;
+use totals::raw::*;
 
 pub type Rows = Vec<(u32, i64)>;
 
@@ -34,8 +36,8 @@ impl Outcome {
     /// The number that C gets.
     fn number(self) -> u64 {
         match self {
-            Outcome::Moved(_) => 0,
-            Outcome::Answered(answer, _) => 16 + answer_number(answer),
+            Outcome::Moved(_) => TOTALS_MOVED,
+            Outcome::Answered(answer, _) => answer_number(answer),
             Outcome::Refused(number) => u64::from(number),
         }
     }
@@ -51,21 +53,22 @@ impl Outcome {
     }
 }
 
+/// The number that C gets for an answer.
 fn answer_number(answer: Answer) -> u64 {
     match answer {
-        Answer::Added => 1,
-        Answer::Replaced => 2,
-        Answer::Removed => 3,
-        Answer::Absent => 4,
-        Answer::Found(_) => 5,
-        Answer::None => 6,
-        Answer::Crowded => 9,
+        Answer::Added => TOTALS_ADDED,
+        Answer::Replaced => TOTALS_REPLACED,
+        Answer::Removed => TOTALS_REMOVED,
+        Answer::Absent => TOTALS_ABSENT,
+        Answer::Found(_) => TOTALS_FOUND,
+        Answer::None => TOTALS_NONE,
+        Answer::Crowded => TOTALS_CROWDED,
     }
 }
 
-/// 0, or a refusal's number.
+/// The number that C gets for a call.
 fn number_of(result: Result<(), u8>) -> u64 {
-    result.err().map_or(0, u64::from)
+    result.err().map_or(TOTALS_OK, u64::from)
 }
 
 /// One of the two interfaces, over words of its own. Each call is held against what the model gave.
@@ -81,7 +84,7 @@ pub trait Interface {
 struct Pair<I> {
     table: I,
     machine: Machine,
-    counts: [[u64; 26]; 5],
+    counts: [[u64; TOTALS_CROWDED as usize + 1]; NAMES.len()],
     /// How many updates were answered by the first, second, third and fourth check.
     checks: [u64; 4],
     /// Of the order under way.
@@ -132,7 +135,7 @@ impl<I: Interface> Pair<I> {
             }
             Entry::List(accounts, totals) => {
                 let want = self.machine.listing(accounts, totals);
-                let number = want.as_ref().err().map_or(0, |number| u64::from(*number));
+                let number = number_of(want.as_ref().map(|_| ()).map_err(|number| *number));
                 self.table.list(accounts, totals, want);
                 (4, number)
             }
@@ -140,13 +143,13 @@ impl<I: Interface> Pair<I> {
         self.counts[name][number as usize] += 1;
     }
 
-    /// Up to so many steps by the model; 256 at most, which no operation takes.
+    /// Up to so many steps by the model; `TOTALS_GREATEST_RUN` at most, which no operation takes.
     fn steps(&mut self, worker: u64, most: u64) -> Outcome {
         let w = worker as usize;
         if self.machine.workers.get(w).is_none_or(|worker| worker.task.is_none()) {
             return outcome(self.machine.step(w).stepped);
         }
-        for _ in 0..most.min(256) {
+        for _ in 0..most.min(TOTALS_GREATEST_RUN) {
             let report = self.machine.step(w);
             if let Some(check) = usize::from(report.answering_check()).checked_sub(1) {
                 self.checks[check] += 1;
@@ -165,15 +168,16 @@ impl<I: Interface> Pair<I> {
     fn print(&self, title: &str) {
         println!("{title}: {} calls; updates answered by each check {:?}", self.calls(), self.checks);
         for (name, counts) in NAMES.iter().zip(&self.counts) {
-            let given: Vec<String> = (0..).zip(counts).filter(|(_, n)| **n > 0).map(|(k, n)| format!("{k}: {n}")).collect();
+            let given: Vec<String> =
+                (0..).zip(counts).filter(|(_, n)| **n > 0).map(|(k, n)| format!("{k}: {n}")).collect();
             println!("  {name:5} {}", given.join(", "));
         }
     }
 
     /// A call gave each of these numbers more than a hundred times, and no other.
-    fn gave(&self, name: &str, numbers: &[usize]) {
+    fn gave(&self, name: &str, numbers: &[u64]) {
         let call = NAMES.iter().position(|n| *n == name).expect("a call");
-        for (number, times) in self.counts[call].iter().enumerate() {
+        for (number, times) in (0..).zip(&self.counts[call]) {
             let right = if numbers.contains(&number) { *times > 100 } else { *times == 0 };
             assert!(right, "{name} gave {number} {times} times");
         }
@@ -187,6 +191,20 @@ fn outcome(stepped: Stepped) -> Outcome {
         Stepped::Refused(number) => Outcome::Refused(number),
     }
 }
+
+/// What steps of an opened table give.
+const STEPPED: [u64; 10] = [
+    TOTALS_MOVED,
+    TOTALS_STRANGER,
+    TOTALS_IDLE,
+    TOTALS_ADDED,
+    TOTALS_REPLACED,
+    TOTALS_REMOVED,
+    TOTALS_ABSENT,
+    TOTALS_FOUND,
+    TOTALS_NONE,
+    TOTALS_CROWDED,
+];
 
 /// Orders from so many seeds, each on the words that the one before left.
 fn random_orders(title: &str, table: impl Interface, seeds: u64, any_kind: bool) {
@@ -207,11 +225,12 @@ fn random_orders(title: &str, table: impl Interface, seeds: u64, any_kind: bool)
     pair.print(title);
     assert_eq!(values.len(), 8 + 15 + 9, "every n, b and M comes up");
     assert!(pair.calls() > 2_000_000 && pair.checks.iter().all(|updates| *updates > 10), "{:?}", pair.checks);
-    pair.gave("open", &[0, 1, 2]);
-    pair.gave("call", if any_kind { &[0, 3, 4, 6] } else { &[0, 3, 4] });
-    pair.gave("step", &[0, 3, 5, 17, 18, 19, 20, 21, 22, 25]);
-    pair.gave("run", &[0, 3, 5, 17, 18, 19, 20, 21, 22, 25]);
-    pair.gave("list", &[0, 10]);
+    pair.gave("open", &[TOTALS_OK, TOTALS_SETTINGS, TOTALS_SHORT]);
+    let called = [TOTALS_OK, TOTALS_STRANGER, TOTALS_BUSY, TOTALS_KIND];
+    pair.gave("call", &called[..if any_kind { 4 } else { 3 }]);
+    pair.gave("step", &STEPPED);
+    pair.gave("run", &STEPPED);
+    pair.gave("list", &[TOTALS_OK, TOTALS_NARROW]);
 }
 
 /// Updates of worker 0 until it has none left, and after; worker 1 gets a few steps now and then.
@@ -219,20 +238,31 @@ fn until_spent(title: &str, table: impl Interface) {
     let mut pair = Pair::new(table);
     let mut prng = Prng::new(7);
     pair.enter(Entry::Open([2, 3, 2], 400));
-    for update in 0..u64::from(MOST_TICKETS) + 200 {
+    for update in 0..u64::from(GREATEST_TICKET) + 200 {
         let account = |prng: &mut Prng| (prng.below(4) as u32) << 30 | prng.below(2) as u32;
-        pair.enter(Entry::Call { worker: 0, kind: prng.between(1, 2), account: account(&mut prng), total: update as i64 });
+        pair.enter(Entry::Call {
+            worker: 0,
+            kind: prng.between(KIND_INSERT, KIND_DELETE),
+            account: account(&mut prng),
+            total: update as i64,
+        });
         pair.enter(Entry::Run(0, 99));
         if prng.percent(20) {
-            pair.enter(Entry::Call { worker: 1, kind: prng.between(1, 3), account: account(&mut prng), total: -1 });
+            pair.enter(Entry::Call {
+                worker: 1,
+                kind: prng.between(KIND_INSERT, KIND_LOOKUP),
+                account: account(&mut prng),
+                total: -1,
+            });
             pair.enter(Entry::Run(1, prng.between(1, 30)));
         }
     }
-    pair.enter(Entry::Call { worker: 0, kind: 3, account: 0, total: 0 });
+    pair.enter(Entry::Call { worker: 0, kind: KIND_LOOKUP, account: 0, total: 0 });
     pair.enter(Entry::Run(0, 2));
     pair.enter(Entry::List(12, 12));
     pair.print(title);
-    assert_eq!((pair.counts[1][7], pair.machine.workers[0].last_ticket), (200, MOST_TICKETS));
+    let spent = pair.counts[1][TOTALS_SPENT as usize];
+    assert_eq!((spent, pair.machine.workers[0].last_ticket), (200, GREATEST_TICKET));
 }
 
 #[test]

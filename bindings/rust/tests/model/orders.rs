@@ -1,11 +1,13 @@
-//! Random orders: every setting, workers parked for long, calls that are refused, lists of any length; all a function of the seed.
+//! Random orders: every setting, workers parked for long, calls that are refused, lists of any length; all a function
+//! of the seed.
 
 use model::lines::Line;
 use model::machine::Machine;
 use model::prng::Prng;
 use model::random::Generator;
+use model::records::{KIND_DELETE, KIND_INSERT, KIND_LOOKUP};
 use model::settings::Settings;
-use model::totals::kind_number;
+use totals::raw::TOTALS_GREATEST_RUN as RUN;
 
 /// One entry of an order.
 pub enum Entry {
@@ -75,7 +77,9 @@ impl Orders {
     fn of_line(&mut self, line: Line, machine: &Machine) -> Entry {
         match line {
             Line::Open { n, b, m } => Entry::Open([n, b, m], 0),
-            Line::Call { kind, worker, account, total } => Entry::Call { worker: worker as u64, kind: kind_number(kind), account, total },
+            Line::Call { kind, worker, account, total } => {
+                Entry::Call { worker: worker as u64, kind: kind.number(), account, total }
+            }
             Line::Step { worker, count } => self.steps(worker as u64, count),
             Line::List => self.list(machine),
         }
@@ -107,7 +111,12 @@ impl Orders {
     }
 
     fn call(&mut self, worker: u64) -> Entry {
-        let kind = self.prng.pick(&[1, 1, 1, 1, 2, 2, 3]).unwrap_or(1);
+        // of seven operations four are inserts, two deletes and one a lookup
+        let kind = match self.prng.below(7) {
+            0..=3 => KIND_INSERT,
+            4 | 5 => KIND_DELETE,
+            _ => KIND_LOOKUP,
+        };
         let account = self.prng.pick(&self.pool).unwrap_or(0);
         let total = self.prng.pick(&[i64::MIN, i64::MAX, 0, -1]).filter(|_| self.prng.percent(20));
         Entry::Call { worker, kind, account, total: total.unwrap_or_else(|| self.prng.draw() as i64) }
@@ -128,7 +137,7 @@ impl Orders {
             }
             2 => self.list(machine),
             3 => Entry::Step(worker),
-            4 => Entry::Run(worker, self.prng.pick(&[0, 1, 255, 256, 257, u64::MAX]).unwrap_or(0)),
+            4 => Entry::Run(worker, self.prng.pick(&[0, 1, RUN - 1, RUN, RUN + 1, u64::MAX]).unwrap_or(0)),
             5 if self.any_kind => match self.call(worker) {
                 Entry::Call { account, total, .. } => {
                     Entry::Call { worker, kind: self.prng.pick(&[0, 4, 5, u64::MAX]).unwrap_or(0), account, total }
@@ -164,7 +173,11 @@ fn numbers(settings: Settings) -> [u64; 3] {
 fn any_settings(prng: &mut Prng) -> Settings {
     let bucket_size = prng.between(2, 16).min(prng.between(2, 16));
     let greatest_depth = prng.between(0, 8).min(prng.between(0, 8));
-    Settings { workers: prng.between(1, 8) as usize, bucket_size: bucket_size as usize, greatest_depth: greatest_depth as u32 }
+    Settings {
+        workers: prng.between(1, 8) as usize,
+        bucket_size: bucket_size as usize,
+        greatest_depth: greatest_depth as u32,
+    }
 }
 
 fn wrong_settings(prng: &mut Prng) -> [u64; 3] {

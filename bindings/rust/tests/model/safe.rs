@@ -1,6 +1,7 @@
 //! A table by the safe interface.
 
 use crate::{Interface, Outcome, Rows};
+use model::records::{KIND_DELETE, KIND_INSERT, KIND_LOOKUP};
 use model::totals::answer_words;
 use totals::{Ran, Refusal, Settings, Stepped, Table};
 
@@ -20,16 +21,17 @@ impl Interface for Safe {
             // what the words held stays in them, cut or lengthened
             self.words.resize(length, u64::MAX);
         }
-        let opened = Settings::new(workers, capacity, depth).and_then(|s| Table::open(&mut self.words[..length], s).map(drop));
+        let opened =
+            Settings::new(workers, capacity, depth).and_then(|s| Table::open(&mut self.words[..length], s).map(drop));
         assert_eq!(numbered(opened), want);
     }
 
     fn call(&mut self, worker: u64, kind: u64, account: u32, total: i64, want: Result<(), u8>) {
         let mut table = Table::over(&mut self.words);
         let called = match kind {
-            1 => table.insert(worker, account, total),
-            2 => table.delete(worker, account),
-            3 => table.lookup(worker, account),
+            KIND_INSERT => table.insert(worker, account, total),
+            KIND_DELETE => table.delete(worker, account),
+            KIND_LOOKUP => table.lookup(worker, account),
             _ => unreachable!("the safe interface has no other kinds"),
         };
         assert_eq!(numbered(called), want);
@@ -67,6 +69,8 @@ impl Interface for Safe {
         let rows = |count| accounts.iter().copied().zip(totals.iter().copied()).take(count).collect::<Rows>();
         assert_eq!(count.map(rows), want);
         let past = count.unwrap_or(0);
-        assert!(accounts[past..].iter().all(|account| *account == 7) && totals[past..].iter().all(|total| *total == -7));
+        assert!(
+            accounts[past..].iter().all(|account| *account == 7) && totals[past..].iter().all(|total| *total == -7)
+        );
     }
 }

@@ -9,20 +9,10 @@ use Rattle.capi.proofs.Laws.{answer-small}
 use Rattle.capi.proofs.ended.Statement.{statement}
 use Rattle.capi.proofs.ended.Tie as tie
 
-total-word-requires : tie.Need-total-word-requires
-total-word-requires c κs = search needs
-
-tell-requires : tie.Need-tell-requires
-tell-requires c κs = search needs
-
-number-requires : tie.Need-number-requires
-number-requires c κs = search needs
-
 add-result : tie.Need-add-result
-add-result c = omega (arith, c .number .ensures, answer-small (c .before .before .before .before .before .before .before .args .c .answer))
-
-same-length : tie.Need-same-length
-same-length c = search needs
+add-result c =
+    let start = c .before .before .before .before .before .before .before in
+    omega (arith, c .number .ensures, answer-small (start .args .c .answer))
 
 returns : tie.Need-returns
 unfolding endedReport endedNumber
@@ -32,5 +22,5 @@ returns c =
 
 pub ended-spec : {M : Type 1} → statement M
 ended-spec =
-    tie.close
-    (tie.spec total-word-requires tell-requires number-requires add-result same-length returns)
+    tie.close (tie.spec (λ c κs. search needs) (λ c κs. search needs) (λ c κs. search needs) add-result
+    (λ c. search needs) returns)

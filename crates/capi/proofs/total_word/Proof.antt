@@ -9,30 +9,6 @@ use borrow.Author.Needs.{needs}
 use Rattle.capi.proofs.total_word.Statement.{statement}
 use Rattle.capi.proofs.total_word.Tie as tie
 
-enum-told : tie.Need-enum-told
-enum-told c = search needs
-
-enum-told-2 : tie.Need-enum-told-2
-enum-told-2 c = search needs
-
-enum-told-3 : tie.Need-enum-told-3
-enum-told-3 c = search needs
-
-enum-told-4 : tie.Need-enum-told-4
-enum-told-4 c = search needs
-
-enum-known-answer : tie.Need-enum-known-answer
-enum-known-answer c = search needs
-
-word-of-requires : tie.Need-word-of-requires
-word-of-requires c κs = search needs
-
-enum-told-5 : tie.Need-enum-told-5
-enum-told-5 c = search needs
-
-enum-told-6 : tie.Need-enum-told-6
-enum-told-6 c = search needs
-
 returns : tie.Need-returns
 unfolding totalWord
 returns c = search needs
@@ -51,7 +27,10 @@ returns-4 c = search needs
 
 returns-5 : tie.Need-returns-5
 unfolding totalWord
-returns-5 c = rw (c .before .before .answer .given .1) (c .word-of .ensures ∙ ap (ofZ w64) (toZ-ofZ {w = w64} {z = c .before .before .answer .given .0 .0} (record { sfits = c .before .known-told .given .0 .1 })))
+returns-5 c =
+    rw (c .before .before .answer .given .1)
+    (c .word-of .ensures ∙ ap (ofZ w64)
+    (toZ-ofZ {w = w64} {z = c .before .before .answer .given .0 .0} (record { sfits = c .before .known-told .given .0 .1 })))
 
 returns-6 : tie.Need-returns-6
 unfolding totalWord
@@ -63,20 +42,6 @@ returns-7 c = search needs
 
 pub total-word-spec : {M : Type 1} → statement M
 total-word-spec =
-    tie.close
-    (tie.spec
-    enum-told
-    enum-told-2
-    enum-told-3
-    enum-told-4
-    enum-known-answer
-    word-of-requires
-    enum-told-5
-    enum-told-6
-    returns
-    returns-2
-    returns-3
-    returns-4
-    returns-5
-    returns-6
-    returns-7)
+    tie.close (tie.spec (λ c. search needs) (λ c. search needs) (λ c. search needs) (λ c. search needs)
+    (λ c. search needs) (λ c κs. search needs) (λ c. search needs) (λ c. search needs) returns returns-2 returns-3
+    returns-4 returns-5 returns-6 returns-7)

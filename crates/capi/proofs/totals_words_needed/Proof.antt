@@ -5,18 +5,6 @@ use Rattle.capi.specs.Flat.{neededNumber}
 use Rattle.capi.proofs.totals_words_needed.Statement.{statement}
 use Rattle.capi.proofs.totals_words_needed.Tie as tie
 
-words-needed-requires : tie.Need-words-needed-requires
-words-needed-requires c κs = search needs
-
-enum-known-k : tie.Need-enum-known-k
-enum-known-k c = search needs
-
-enum-known-r : tie.Need-enum-known-r
-enum-known-r c = search needs
-
-number-requires : tie.Need-number-requires
-number-requires c κs = search needs
-
 returns : tie.Need-returns
 unfolding neededNumber
 returns c = rw (← c .before .before .before .words-needed .ensures, c .before .k .given .1)
@@ -27,5 +15,5 @@ returns-2 c = rw (← c .before .before .before .before .words-needed .ensures, 
 
 pub totals-words-needed-spec : {M : Type 1} → statement M
 totals-words-needed-spec =
-    tie.close
-    (tie.spec words-needed-requires enum-known-k enum-known-r number-requires returns returns-2)
+    tie.close (tie.spec (λ c κs. search needs) (λ c. search needs) (λ c. search needs) (λ c κs. search needs) returns
+    returns-2)

@@ -21,60 +21,27 @@ loop-holds : tie.Need-loop-holds Inv-loop μ-loop
 unfolding part
 loop-holds c = (search needs, (refl, sym (overlay-nil _ _)))
 
-add-v : tie.Need-add-v Inv-loop μ-loop
-add-v c = search needs
-
-mul-v : tie.Need-mul-v Inv-loop μ-loop
-mul-v c = search needs
-
-slice-read-v : tie.Need-slice-read-v Inv-loop μ-loop
-slice-read-v c = search needs
-
-add-words : tie.Need-add-words Inv-loop μ-loop
-add-words c = search needs
-
-mul-words : tie.Need-mul-words Inv-loop μ-loop
-mul-words c = search needs
-
-slice-write-words : tie.Need-slice-write-words Inv-loop μ-loop
-slice-write-words c = search needs
-
-add-i : tie.Need-add-i Inv-loop μ-loop
-add-i c = search needs
-
-loop-less : tie.Need-loop-less Inv-loop μ-loop
-loop-less c = search needs
-
 loop-again : tie.Need-loop-again Inv-loop μ-loop
 loop-again c =
     let here = c .before .before in
-    let known = here .before .pre in
-    (search needs, (search needs, copy-more _ _ _ _ _ _ (here .loop .inv .1 .1) (known .0) (known .1 .0) (known .1 .1) (c .before .loop-test .taken)))
-
-same-length : tie.Need-same-length Inv-loop μ-loop
-same-length c = search needs
+    let known = here .before .pre in (
+      search needs,
+      (
+        search needs,
+        copy-more _ _ _ _ _ _ (here .loop .inv .1 .1) (known .0) (known .1 .0) (known .1 .1)
+            (c .before .loop-test .taken),
+      ),
+    )
 
 returns : tie.Need-returns Inv-loop μ-loop
 returns c =
     let start = c .before .before in
     c .before .loop .inv .1 .1
-    ∙ ap (λ (j : ℕ). overlay (start .args .words .now) (start .args .to) (part (start .args .words .now) (start .args .from) j)) (le-antisymm (c .before .loop .inv .0) (c .loop-test .left))
+    ∙ ap (λ (j : ℕ). overlay (start .args .words .now) (start .args .to) (part (start .args .words .now) (start .args .from) j))
+    (le-antisymm (c .before .loop .inv .0) (c .loop-test .left))
 
 pub copy-spec : {M : Type 1} → statement M
 copy-spec =
-    tie.close
-    (tie.spec
-    Inv-loop
-    μ-loop
-    loop-holds
-    add-v
-    mul-v
-    slice-read-v
-    add-words
-    mul-words
-    slice-write-words
-    add-i
-    loop-less
-    loop-again
-    same-length
-    returns)
+    tie.close (tie.spec Inv-loop μ-loop loop-holds (λ c. search needs) (λ c. search needs) (λ c. search needs)
+    (λ c. search needs) (λ c. search needs) (λ c. search needs) (λ c. search needs) (λ c. search needs) loop-again
+    (λ c. search needs) returns)

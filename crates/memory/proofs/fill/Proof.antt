@@ -13,7 +13,8 @@ use Rattle.memory.proofs.fill.Statement.{statement}
 use Rattle.memory.proofs.fill.Tie as tie
 
 abbrev Inv-loop : tie.InvT-loop
-Inv-loop words₀ from to v i₀ words i = (from ≤ i) × ((i - from ≤ to - from) × ((length words ≡ length words₀) × (words ≡ overlay words₀ from (replicate (i - from) v))))
+Inv-loop words₀ from to v i₀ words i =
+    (from ≤ i) × ((i - from ≤ to - from) × ((length words ≡ length words₀) × (words ≡ overlay words₀ from (replicate (i - from) v))))
 
 abbrev μ-loop : tie.MeasureT-loop
 μ-loop words₀ from to v i₀ words i = to - i
@@ -21,24 +22,18 @@ abbrev μ-loop : tie.MeasureT-loop
 loop-holds : tie.Need-loop-holds Inv-loop μ-loop
 loop-holds c = (search needs, (search needs, (refl, rw sub-self (sym (overlay-nil _ _)))))
 
-mul-words : tie.Need-mul-words Inv-loop μ-loop
-mul-words c = search needs
-
-slice-write-words : tie.Need-slice-write-words Inv-loop μ-loop
-slice-write-words c = search needs
-
-add-i : tie.Need-add-i Inv-loop μ-loop
-add-i c = search needs
-
-loop-less : tie.Need-loop-less Inv-loop μ-loop
-loop-less c = search needs
-
 loop-again : tie.Need-loop-again Inv-loop μ-loop
-loop-again c =
-    (search needs, (omega arith, (search needs, fill-more _ _ _ _ _ (c .before .loop .inv .1 .1 .1) (c .before .loop .inv .0) (omega arith))))
-
-same-length : tie.Need-same-length Inv-loop μ-loop
-same-length c = search needs
+loop-again c = (
+  search needs,
+  (
+    omega arith,
+    (
+      search needs,
+      fill-more _ _ _ _ _ (c .before .loop .inv .1 .1 .1) (c .before .loop .inv .0)
+          (omega arith),
+    ),
+  ),
+)
 
 returns : tie.Need-returns Inv-loop μ-loop
 returns c =
@@ -48,15 +43,5 @@ returns c =
 
 pub fill-spec : {M : Type 1} → statement M
 fill-spec =
-    tie.close
-    (tie.spec
-    Inv-loop
-    μ-loop
-    loop-holds
-    mul-words
-    slice-write-words
-    add-i
-    loop-less
-    loop-again
-    same-length
-    returns)
+    tie.close (tie.spec Inv-loop μ-loop loop-holds (λ c. search needs) (λ c. search needs) (λ c. search needs)
+    (λ c. search needs) loop-again (λ c. search needs) returns)

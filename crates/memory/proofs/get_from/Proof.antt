@@ -9,21 +9,6 @@ use borrow.Author.Needs.{needs}
 use Rattle.memory.proofs.get_from.Statement.{statement}
 use Rattle.memory.proofs.get_from.Tie as tie
 
-mul-get : tie.Need-mul-get
-mul-get c = search needs
-
-sub-get : tie.Need-sub-get
-sub-get c = search needs
-
-part-get-start : tie.Need-part-get-start
-part-get-start c = search needs
-
-part-get-end : tie.Need-part-get-end
-part-get-end c = search needs
-
-get-requires : tie.Need-get-requires
-get-requires c κs = search needs
-
 returns : tie.Need-returns
 returns c =
     let args = c .before .before .before .args in
@@ -32,4 +17,5 @@ returns c =
 
 pub get-from-spec : {M : Type 1} → statement M
 get-from-spec =
-    tie.close (tie.spec mul-get sub-get part-get-start part-get-end get-requires returns)
+    tie.close (tie.spec (λ c. search needs) (λ c. search needs) (λ c. search needs) (λ c. search needs)
+    (λ c κs. search needs) returns)

@@ -5,6 +5,7 @@ use mathlib.Core.Path.{_≡_, sym, _∙_, ap}
 use native.Mathlib.Nat.{le-antisymm}
 use native.Mathlib.Omega.{arith}
 use lib.ListN.{length, length-set, length-map}
+use Rattle.fields.specs.Fields.{widestRecord}
 use Rattle.memory.specs.Loads.{stored, storedState}
 use Rattle.memory.proofs.Runs.{stored-none}
 use Rattle.memory.proofs.States.{Sized, count-bound, pair-stored, state-stored}
@@ -14,18 +15,21 @@ use Rattle.memory.proofs.store_state.Statement.{statement}
 use Rattle.memory.proofs.store_state.Tie as tie
 
 abbrev Inv-loop : tie.InvT-loop
-Inv-loop words₀ q b n s c accounts totals i₀ words i = (i ≤ c) × ((c ≤ b) × ((q + 54 ≤ length words) × (words ≡ stored (stored words₀ accounts (s .accounts) i) totals (s .totals) i)))
+Inv-loop words₀ q b n s c accounts totals i₀ words i =
+    (i ≤ c) × ((c ≤ b) × ((q + widestRecord ≤ length words)
+    × (words ≡ stored (stored words₀ accounts (s .accounts) i) totals (s .totals) i)))
 
 abbrev μ-loop : tie.MeasureT-loop
 μ-loop words₀ q b n s c accounts totals i₀ words i = c - i
 
 abbrev Inv-loop2 : tie.InvT-loop2
-Inv-loop2 words₀ q b n s c accounts totals i settled answers j₀ words j = (j ≤ n) × ((q + 54 ≤ length words) × (words ≡ stored (stored words₀ settled (s .settled) j) answers (s .answers) j))
+Inv-loop2 words₀ q b n s c accounts totals i settled answers j₀ words j =
+    (j ≤ n) × ((q + widestRecord ≤ length words) × (words ≡ stored (stored words₀ settled (s .settled) j) answers (s .answers) j))
 
 abbrev μ-loop2 : tie.MeasureT-loop2
 μ-loop2 words₀ q b n s c accounts totals i settled answers j₀ words j = n - j
 
--- the arrays of the state passed have their 16 items
+-- the arrays of the state passed have their items
 sized : (c : tie.Start Inv-loop μ-loop Inv-loop2 μ-loop2) → Sized (c .args .t5)
 sized c =
     let known = c .good .1 .1 .1 .1 .0 .1 .1 in
@@ -36,68 +40,15 @@ sized c =
       answers = sym (length-map (c .args .t5 .answers) (λ x. x)) ∙ known .1 .1 .1 .0 .1 .0 .1;
     }
 
-least-requires : tie.Need-least-requires Inv-loop μ-loop Inv-loop2 μ-loop2
-least-requires c κs = search needs
-
-mul-words : tie.Need-mul-words Inv-loop μ-loop Inv-loop2 μ-loop2
-mul-words c = search needs
-
-slice-write-words : tie.Need-slice-write-words Inv-loop μ-loop Inv-loop2 μ-loop2
-slice-write-words c = search needs
-
-add-words : tie.Need-add-words Inv-loop μ-loop Inv-loop2 μ-loop2
-add-words c = search needs
-
-mul-words-2 : tie.Need-mul-words-2 Inv-loop μ-loop Inv-loop2 μ-loop2
-mul-words-2 c = search needs
-
 slice-write-words-2 : tie.Need-slice-write-words-2 Inv-loop μ-loop Inv-loop2 μ-loop2
 slice-write-words-2 c = simp length-set (omega arith)
 
-add-accounts : tie.Need-add-accounts Inv-loop μ-loop Inv-loop2 μ-loop2
-add-accounts c = search needs
-
-add-totals : tie.Need-add-totals Inv-loop μ-loop Inv-loop2 μ-loop2
-add-totals c = search needs
-
 loop-holds : tie.Need-loop-holds Inv-loop μ-loop Inv-loop2 μ-loop2
-loop-holds c = (search needs, (count-bound _ _ _ (c .least .ensures), (simp length-set (omega arith), sym (stored-none _ _ _ ∙ stored-none _ _ _))))
-
-mul-words-3 : tie.Need-mul-words-3 Inv-loop μ-loop Inv-loop2 μ-loop2
-mul-words-3 c = search needs
-
-element-copy-out-words : tie.Need-element-copy-out-words Inv-loop μ-loop Inv-loop2 μ-loop2
-element-copy-out-words c = search needs
-
-add-words-2 : tie.Need-add-words-2 Inv-loop μ-loop Inv-loop2 μ-loop2
-add-words-2 c = search needs
-
-mul-words-4 : tie.Need-mul-words-4 Inv-loop μ-loop Inv-loop2 μ-loop2
-mul-words-4 c = search needs
-
-slice-write-words-3 : tie.Need-slice-write-words-3 Inv-loop μ-loop Inv-loop2 μ-loop2
-slice-write-words-3 c = search needs
-
-mul-words-5 : tie.Need-mul-words-5 Inv-loop μ-loop Inv-loop2 μ-loop2
-mul-words-5 c = search needs
-
-element-copy-out-words-2 : tie.Need-element-copy-out-words-2 Inv-loop μ-loop Inv-loop2 μ-loop2
-element-copy-out-words-2 c = search needs
-
-add-words-3 : tie.Need-add-words-3 Inv-loop μ-loop Inv-loop2 μ-loop2
-add-words-3 c = search needs
-
-mul-words-6 : tie.Need-mul-words-6 Inv-loop μ-loop Inv-loop2 μ-loop2
-mul-words-6 c = search needs
+loop-holds c =
+    (search needs, (count-bound _ _ _ (c .least .ensures), (simp length-set (omega arith), sym (stored-none _ _ _ ∙ stored-none _ _ _))))
 
 slice-write-words-4 : tie.Need-slice-write-words-4 Inv-loop μ-loop Inv-loop2 μ-loop2
 slice-write-words-4 c = simp length-set (omega arith)
-
-add-i : tie.Need-add-i Inv-loop μ-loop Inv-loop2 μ-loop2
-add-i c = search needs
-
-loop-less : tie.Need-loop-less Inv-loop μ-loop Inv-loop2 μ-loop2
-loop-less c = search needs
 
 loop-again : tie.Need-loop-again Inv-loop μ-loop Inv-loop2 μ-loop2
 loop-again c =
@@ -107,55 +58,17 @@ loop-again c =
         search needs,
         (
           simp length-set (omega arith),
-          pair-stored _ _ _ _ _ _ _ (c .before .before .before .loop .inv .1 .1 .1) (omega arith) (simp length-set (omega arith)) (omega arith) (omega arith),
+          pair-stored _ _ _ _ _ _ _ (c .before .before .before .loop .inv .1 .1 .1) (omega arith) (simp length-set (omega arith))
+              (omega arith) (omega arith),
         ),
       ),
     )
 
-add-settled : tie.Need-add-settled Inv-loop μ-loop Inv-loop2 μ-loop2
-add-settled c = search needs
-
-add-answers : tie.Need-add-answers Inv-loop μ-loop Inv-loop2 μ-loop2
-add-answers c = search needs
-
 loop2-holds : tie.Need-loop2-holds Inv-loop μ-loop Inv-loop2 μ-loop2
 loop2-holds c = (search needs, (search needs, sym (stored-none _ _ _ ∙ stored-none _ _ _)))
 
-mul-words-7 : tie.Need-mul-words-7 Inv-loop μ-loop Inv-loop2 μ-loop2
-mul-words-7 c = search needs
-
-element-copy-out-words-3 : tie.Need-element-copy-out-words-3 Inv-loop μ-loop Inv-loop2 μ-loop2
-element-copy-out-words-3 c = search needs
-
-add-words-4 : tie.Need-add-words-4 Inv-loop μ-loop Inv-loop2 μ-loop2
-add-words-4 c = search needs
-
-mul-words-8 : tie.Need-mul-words-8 Inv-loop μ-loop Inv-loop2 μ-loop2
-mul-words-8 c = search needs
-
-slice-write-words-5 : tie.Need-slice-write-words-5 Inv-loop μ-loop Inv-loop2 μ-loop2
-slice-write-words-5 c = search needs
-
-mul-words-9 : tie.Need-mul-words-9 Inv-loop μ-loop Inv-loop2 μ-loop2
-mul-words-9 c = search needs
-
-element-copy-out-words-4 : tie.Need-element-copy-out-words-4 Inv-loop μ-loop Inv-loop2 μ-loop2
-element-copy-out-words-4 c = search needs
-
-add-words-5 : tie.Need-add-words-5 Inv-loop μ-loop Inv-loop2 μ-loop2
-add-words-5 c = search needs
-
-mul-words-10 : tie.Need-mul-words-10 Inv-loop μ-loop Inv-loop2 μ-loop2
-mul-words-10 c = search needs
-
 slice-write-words-6 : tie.Need-slice-write-words-6 Inv-loop μ-loop Inv-loop2 μ-loop2
 slice-write-words-6 c = simp length-set (omega arith)
-
-add-j : tie.Need-add-j Inv-loop μ-loop Inv-loop2 μ-loop2
-add-j c = search needs
-
-loop2-less : tie.Need-loop2-less Inv-loop μ-loop Inv-loop2 μ-loop2
-loop2-less c = search needs
 
 loop2-again : tie.Need-loop2-again Inv-loop μ-loop Inv-loop2 μ-loop2
 loop2-again c =
@@ -186,49 +99,11 @@ returns c = whole c
 
 pub store-state-spec : {M : Type 1} → statement M
 store-state-spec =
-    tie.close
-    (tie.spec
-    Inv-loop
-    μ-loop
-    Inv-loop2
-    μ-loop2
-    least-requires
-    mul-words
-    slice-write-words
-    add-words
-    mul-words-2
-    slice-write-words-2
-    add-accounts
-    add-totals
-    loop-holds
-    mul-words-3
-    element-copy-out-words
-    add-words-2
-    mul-words-4
-    slice-write-words-3
-    mul-words-5
-    element-copy-out-words-2
-    add-words-3
-    mul-words-6
-    slice-write-words-4
-    add-i
-    loop-less
-    loop-again
-    add-settled
-    add-answers
-    loop2-holds
-    mul-words-7
-    element-copy-out-words-3
-    add-words-4
-    mul-words-8
-    slice-write-words-5
-    mul-words-9
-    element-copy-out-words-4
-    add-words-5
-    mul-words-10
-    slice-write-words-6
-    add-j
-    loop2-less
-    loop2-again
-    same-length
-    returns)
+    tie.close (tie.spec Inv-loop μ-loop Inv-loop2 μ-loop2 (λ c κs. search needs) (λ c. search needs)
+    (λ c. search needs) (λ c. search needs) (λ c. search needs) (λ c. search needs) slice-write-words-2
+    (λ c. search needs) (λ c. search needs) loop-holds (λ c. search needs) (λ c. search needs) (λ c. search needs)
+    (λ c. search needs) (λ c. search needs) (λ c. search needs) (λ c. search needs) (λ c. search needs)
+    (λ c. search needs) slice-write-words-4 (λ c. search needs) (λ c. search needs) loop-again (λ c. search needs)
+    (λ c. search needs) loop2-holds (λ c. search needs) (λ c. search needs) (λ c. search needs) (λ c. search needs)
+    (λ c. search needs) (λ c. search needs) (λ c. search needs) (λ c. search needs) (λ c. search needs)
+    slice-write-words-6 (λ c. search needs) (λ c. search needs) loop2-again same-length returns)

@@ -7,19 +7,10 @@ use borrow.Author.Needs.{needs}
 use Rattle.memory.proofs.total_of.Statement.{statement}
 use Rattle.memory.proofs.total_of.Tie as tie
 
-cast-result : tie.Need-cast-result
-cast-result c = search needs
-
-cast-result-2 : tie.Need-cast-result-2
-cast-result-2 c = search needs
-
-returns : tie.Need-returns
-returns c = search needs
-
 returns-2 : tie.Need-returns-2
 returns-2 c =
     let e : (2 ^ 64 - 1) - ((2 ^ 64 - 1) - c .before .args .w) ≡ c .before .args .w = omega (arith, c .before .fits .w) in
     rw e
 
 pub total-of-spec : {M : Type 1} → statement M
-total-of-spec = tie.close (tie.spec cast-result cast-result-2 returns returns-2)
+total-of-spec = tie.close (tie.spec (λ c. search needs) (λ c. search needs) (λ c. search needs) returns-2)

@@ -6,6 +6,7 @@ use mathlib.Core.List.{[], _∷_, _++_}
 use native.Mathlib.Omega.{arith}
 use lib.ListN.{length, length-append, length-set}
 use borrow.Author.Needs.{needs}
+use Rattle.replies.specs.Ascii.{lineFeed}
 use Rattle.replies.specs.Decimals.{digits, decimal}
 use Rattle.lists.specs.Parts.{overlay}
 use Rattle.replies.proofs.DecimalLaws.{length-decimal}
@@ -13,37 +14,25 @@ use Rattle.replies.proofs.Overlays.{wrote, wrote-nothing, has-room, no-
 use Rattle.replies.proofs.print_counted.Statement.{statement}
 use Rattle.replies.proofs.print_counted.Tie as tie
 
-size-of : (c : tie.After-places)
-    → length (c .before .before .before .args .word .now ++ decimal (c .before .before .before .args .n) ++ 10 ∷ [])
-    ≡ length (c .before .before .before .args .word .now) + c .places .result + 1
+size-of : (c : tie.After-digit-count)
+    → length (c .before .before .before .args .word .now ++ decimal (c .before .before .before .args .n) ++ lineFeed ∷ [])
+    ≡ length (c .before .before .before .args .word .now) + c .digit-count .result + 1
 size-of c =
     let w = c .before .before .before .args .word .now in
     let d = decimal (c .before .before .before .args .n) in
     omega (
       arith,
-      length-append (w ++ d) (10 ∷ []),
+      length-append (w ++ d) (lineFeed ∷ []),
       length-append w d,
       length-decimal (c .before .before .before .args .n),
-      c .places .ensures .0,
+      c .digit-count .ensures .0,
     )
 
 room-for : (c : tie.Else1)
     → c .before .before .before .before .before .args .at +
-    (length (c .before .before .before .before .before .args .word .now) + c .before .before .places .result + 1)
+    (length (c .before .before .before .before .before .args .word .now) + c .before .before .digit-count .result + 1)
     ≤ length (c .before .before .before .before .before .args .out .now)
 room-for c = has-room _ _ _ (c .before .room .ensures) (c .if1 .left)
-
-places-requires : tie.Need-places-requires
-places-requires c κs = search needs
-
-add-size : tie.Need-add-size
-add-size c = search needs
-
-add-size-2 : tie.Need-add-size-2
-add-size-2 c = search needs
-
-room-requires : tie.Need-room-requires
-room-requires c κs = search needs
 
 returns : tie.Need-returns
 returns c =
@@ -51,7 +40,7 @@ returns c =
     let l = s .args .out .now in
     let at = s .args .at in
     let e = size-of (c .before .before) in
-    let h : length l < at + (length (s .args .word .now) + c .before .before .places .result + 1) = no-room _ _ _
+    let h : length l < at + (length (s .args .word .now) + c .before .before .digit-count .result + 1) = no-room _ _ _
     (c .before .room .ensures) (c .if1 .taken) in
     wrote-nothing l at _ (omega arith)
 
@@ -60,8 +49,9 @@ copy-requires c κs = let h = room-for (c .before) in omega arith
 
 add-next : tie.Need-add-next
 add-next c =
-    let h = room-for (c .before .before .before .before) in
-    omega (arith, c .before .before .before .before .before .before .before .before .before .good)
+    let g = c .before .before .before .before in
+    let h = room-for g in
+    omega (arith, g .before .before .before .before .before .good)
 
 spell-requires : tie.Need-spell-requires
 spell-requires c κs =
@@ -70,47 +60,43 @@ spell-requires c κs =
 
 add-feed : tie.Need-add-feed
 add-feed c =
-    let h = room-for (c .before .before .before .before .before .before .before .before) in
-    omega (arith, c .before .before .before .before .before .before .before .before .before .before .before .before .before .good)
+    let copied = c .before .before .before .before .before .before in
+    let g = copied .before .before in
+    let h = room-for g in
+    omega (arith, g .before .before .before .before .before .good)
 
 slice-write-out : tie.Need-slice-write-out
 slice-write-out c =
-    let h = room-for (c .before .before .before .before .before .before .before .before) in
-    omega (arith, c .before .before .before .before .before .before .copy .kept .0, c .before .before .spell .kept .0)
+    let copied = c .before .before .before .before .before .before in
+    let h = room-for (copied .before .before) in
+    omega (arith, copied .copy .kept .0, c .before .before .spell .kept .0)
 
 same-length : tie.Need-same-length
-same-length c = simp length-set (c .before .before .spell .kept .0 ∙ c .before .before .before .before .before .before .copy .kept .0)
+same-length c =
+    let spell = c .before .before in
+    let copy = spell .before .before .before .before in
+    simp length-set (spell .spell .kept .0 ∙ copy .copy .kept .0)
 
 returns-2 : tie.Need-returns-2
 unfolding decimal
 returns-2 c =
-    let s = c .before .before .before .before .before .before .before .before .before .before .before .before .before in
+    let copied = c .before .before .before .before .before .before in
+    let g = copied .before .before in
+    let p = g .before .before in
+    let s = p .before .before .before in
     let l = s .args .out .now in
     let at = s .args .at in
     let w = s .args .word .now in
     let n = s .args .n in
-    let p = c .before .before .before .before .before .before .before .before .before .before in
-    let h = room-for (c .before .before .before .before .before .before .before .before) in
+    let h = room-for g in
     let e = size-of p in
-    wrote l at (w ++ decimal n ++ 10 ∷ []) _ _ (omega arith) (sym e)
-    (word-part-feed l at w (decimal n) (p .places .result) h (p .places .ensures .0 ∙ sym (length-decimal n))
-    (c .before .before .before .before .before .before .copy .ensures)
-    (c .before .before .spell .ensures ∙ ap (λ (k : ℕ). overlay (c .before .before .before .before .before .before .copy .last .0)
-    (at + length w) (digits k n)) (p .places .ensures .0)))
+    wrote l at (w ++ decimal n ++ lineFeed ∷ []) _ _ (omega arith) (sym e)
+    (word-part-feed l at w (decimal n) (p .digit-count .result) h (p .digit-count .ensures .0 ∙ sym (length-decimal n))
+    (copied .copy .ensures)
+    (c .before .before .spell .ensures
+    ∙ ap (λ (k : ℕ). overlay (copied .copy .last .0) (at + length w) (digits k n)) (p .digit-count .ensures .0)))
 
 pub print-counted-spec : {M : Type 1} → statement M
 print-counted-spec =
-    tie.close
-    (tie.spec
-    places-requires
-    add-size
-    add-size-2
-    room-requires
-    returns
-    copy-requires
-    add-next
-    spell-requires
-    add-feed
-    slice-write-out
-    same-length
-    returns-2)
+    tie.close (tie.spec (λ c κs. search needs) (λ c. search needs) (λ c. search needs) (λ c κs. search needs) returns
+    copy-requires add-next spell-requires add-feed slice-write-out same-length returns-2)

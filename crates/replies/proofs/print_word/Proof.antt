@@ -6,29 +6,20 @@ use Rattle.replies.proofs.Overlays.{wrote, wrote-nothing, has-room, no-
 use Rattle.replies.proofs.print_word.Statement.{statement}
 use Rattle.replies.proofs.print_word.Tie as tie
 
-room-requires : tie.Need-room-requires
-room-requires c κs = search needs
-
 returns : tie.Need-returns
 returns c =
     let s = c .before .before .before .before in
-    let l = s .args .out .now in
-    let at = s .args .at in
-    wrote-nothing l at (s .args .word .now) (no-room _ _ _ (c .before .room .ensures) (c .if1 .taken))
+    wrote-nothing (s .args .out .now) (s .args .at) (s .args .word .now) (no-room _ _ _ (c .before .room .ensures) (c .if1 .taken))
 
 copy-requires : tie.Need-copy-requires
 copy-requires c κs = has-room _ _ _ (c .before .before .room .ensures) (c .before .if1 .left)
 
-same-length : tie.Need-same-length
-same-length c = search needs
-
 returns-2 : tie.Need-returns-2
 returns-2 c =
-    let s = c .before .before .before .before .before .before .before .before in
-    let l = s .args .out .now in
-    let at = s .args .at in
-    wrote l at (s .args .word .now) _ _ (has-room _ _ _ (c .before .before .before .before .before .room .ensures)
-    (c .before .before .before .before .if1 .left)) refl (c .before .before .copy .ensures)
+    let g = c .before .before .before .before in
+    let s = g .before .before .before .before in
+    wrote (s .args .out .now) (s .args .at) (s .args .word .now) _ _ (has-room _ _ _ (g .before .room .ensures) (g .if1 .left)) refl
+    (c .before .before .copy .ensures)
 
 pub print-word-spec : {M : Type 1} → statement M
-print-word-spec = tie.close (tie.spec room-requires returns copy-requires same-length returns-2)
+print-word-spec = tie.close (tie.spec (λ c κs. search needs) returns copy-requires (λ c. search needs) returns-2)

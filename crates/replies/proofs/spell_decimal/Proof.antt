@@ -6,6 +6,7 @@ use mathlib.Core.List.{List, _∷_}
 use native.Mathlib.Omega.{arith}
 use lib.ListN.{length, length-set}
 use borrow.Author.Needs.{needs}
+use Rattle.replies.specs.Ascii.{minusSign}
 use Rattle.replies.specs.Decimals.{digits, decimal}
 use Rattle.lists.specs.Parts.{overlay}
 use Rattle.replies.specs.Printed.{decimalText}
@@ -15,22 +16,19 @@ use Rattle.replies.proofs.Overlays.{byte-then}
 use Rattle.replies.proofs.spell_decimal.Statement.{statement}
 use Rattle.replies.proofs.spell_decimal.Tie as tie
 
-text-of : (c : tie.After-places)
-    → digits (c .places .result) (c .before .before .args .d .size) ≡ decimal (c .before .before .args .d .size)
+text-of : (c : tie.After-digit-count)
+    → digits (c .digit-count .result) (c .before .before .args .d .size) ≡ decimal (c .before .before .args .d .size)
 unfolding decimal
-text-of c = ap (λ (k : ℕ). digits k (c .before .before .args .d .size)) (c .places .ensures .0)
+text-of c = ap (λ (k : ℕ). digits k (c .before .before .args .d .size)) (c .digit-count .ensures .0)
 
-below-size : (c : tie.Then1) → length (decimalText (c .before .before .before .args .d)) ≡ suc (c .before .places .result)
+below-size : (c : tie.Then1) → length (decimalText (c .before .before .before .args .d)) ≡ suc (c .before .digit-count .result)
 below-size c =
     ap length (text-minus (c .before .before .before .args .d) (c .if1 .taken))
     ∙ ap (λ (l : List ℕ). suc (length l)) (sym (text-of (c .before))) ∙ ap suc (length-digits _ _)
 
-above-size : (c : tie.Else1) → length (decimalText (c .before .before .before .args .d)) ≡ c .before .places .result
+above-size : (c : tie.Else1) → length (decimalText (c .before .before .before .args .d)) ≡ c .before .digit-count .result
 above-size c =
     ap length (text-plain (c .before .before .before .args .d) (c .if1 .left)) ∙ ap length (sym (text-of (c .before))) ∙ length-digits _ _
-
-places-requires : tie.Need-places-requires
-places-requires c κs = search needs
 
 slice-write-out : tie.Need-slice-write-out
 slice-write-out c = let e = below-size c in omega (arith, c .before .before .before .pre)
@@ -49,23 +47,20 @@ same-length c = c .before .before .spell .kept .0 ∙ simp length-set
 
 returns : tie.Need-returns
 returns c =
-    let s = c .before .before .before .before .before .before .before in
     let g = c .before .before .before .before in
+    let s = g .before .before .before in
     let l = s .args .out .now in
     let at = s .args .at in
     let e = below-size g in
     c .before .before .spell .ensures
-    ∙ byte-then l at 45 (digits (g .before .places .result) (s .args .d .size)) (omega (arith, s .pre))
-    ∙ ap (λ (t : List ℕ). overlay l at (45 ∷ t)) (text-of (g .before))
+    ∙ byte-then l at minusSign (digits (g .before .digit-count .result) (s .args .d .size)) (omega (arith, s .pre))
+    ∙ ap (λ (t : List ℕ). overlay l at (minusSign ∷ t)) (text-of (g .before))
     ∙ ap (overlay l at) (sym (text-minus (s .args .d) (g .if1 .taken)))
-
-same-length-2 : tie.Need-same-length-2
-same-length-2 c = search needs
 
 returns-2 : tie.Need-returns-2
 returns-2 c =
-    let s = c .before .before .before .before .before .before .before in
     let g = c .before .before .before .before in
+    let s = g .before .before .before in
     let l = s .args .out .now in
     let at = s .args .at in
     c .before .before .spell2 .ensures
@@ -74,14 +69,5 @@ returns-2 c =
 
 pub spell-decimal-spec : {M : Type 1} → statement M
 spell-decimal-spec =
-    tie.close
-    (tie.spec
-    places-requires
-    slice-write-out
-    add-spell
-    spell-requires
-    spell-requires-2
-    same-length
-    returns
-    same-length-2
-    returns-2)
+    tie.close (tie.spec (λ c κs. search needs) slice-write-out add-spell spell-requires spell-requires-2 same-length
+    returns (λ c. search needs) returns-2)

@@ -10,25 +10,19 @@ use Rattle.replies.proofs.Signs.{text-minus, text-plain}
 use Rattle.replies.proofs.width.Statement.{statement}
 use Rattle.replies.proofs.width.Tie as tie
 
-places-requires : tie.Need-places-requires
-places-requires c κs = search needs
-
-add-result : tie.Need-add-result
-add-result c = search needs
-
 returns : tie.Need-returns
 returns c =
     let d = c .before .before .args .d in
     let e = ap length (text-minus d (c .if1 .taken)) ∙ ap suc (length-decimal (d .size)) in
-    let k = c .before .places .ensures in
+    let k = c .before .digit-count .ensures in
     (omega (arith, k .0), omega (arith, k .1))
 
 returns-2 : tie.Need-returns-2
 returns-2 c =
     let d = c .before .before .args .d in
     let e = ap length (text-plain d (c .if1 .left)) ∙ length-decimal (d .size) in
-    let k = c .before .places .ensures in
+    let k = c .before .digit-count .ensures in
     (k .0 ∙ sym e, omega (arith, k .1))
 
 pub width-spec : {M : Type 1} → statement M
-width-spec = tie.close (tie.spec places-requires add-result returns returns-2)
+width-spec = tie.close (tie.spec (λ c κs. search needs) (λ c. search needs) returns returns-2)

@@ -20,9 +20,6 @@ Inv-loop words g span k₀ e₀ k e = (span ≡ 2 ^ g .depth) × ((e ≤ span) �
 abbrev μ-loop : tie.MeasureT-loop
 μ-loop words g span k₀ e₀ k e = span - e
 
-shl-span : tie.Need-shl-span Inv-loop μ-loop
-shl-span c = search needs
-
 loop-holds : tie.Need-loop-holds Inv-loop μ-loop
 unfolding rowsFrom
 loop-holds c = (span-is _ (c .before .pre .depth), (search needs, (search needs, refl)))
@@ -36,12 +33,6 @@ add-k c =
     let s = start .args in
     let n = entry-limit (s .words .now) (s .g) (c .before .before .loop .e) (start .pre) in
     omega (arith, span-limit (s .g .depth) (start .pre .depth), c .count-in .ensures)
-
-add-e : tie.Need-add-e Inv-loop μ-loop
-add-e c = search needs
-
-loop-less : tie.Need-loop-less Inv-loop μ-loop
-loop-less c = search needs
 
 loop-again : tie.Need-loop-again Inv-loop μ-loop
 loop-again c =
@@ -58,19 +49,10 @@ unfolding rows
 returns c =
     let s = c .before .before .before .args in
     let l = c .before .loop in
-    l .inv .1 .1 .1 ∙ ap (λ (e : ℕ). length (rowsFrom (s .words .now) (s .g) 0 e)) (le-antisymm (l .inv .1 .0) (c .loop-test .left) ∙ l .inv .0)
+    l .inv .1 .1 .1 ∙ ap (λ (e : ℕ). length (rowsFrom (s .words .now) (s .g) 0 e))
+    (le-antisymm (l .inv .1 .0) (c .loop-test .left) ∙ l .inv .0)
 
 pub count-spec : {M : Type 1} → statement M
 count-spec =
-    tie.close
-    (tie.spec
-    Inv-loop
-    μ-loop
-    shl-span
-    loop-holds
-    count-in-requires
-    add-k
-    add-e
-    loop-less
-    loop-again
-    returns)
+    tie.close (tie.spec Inv-loop μ-loop (λ c. search needs) loop-holds count-in-requires add-k (λ c. search needs)
+    (λ c. search needs) loop-again returns)

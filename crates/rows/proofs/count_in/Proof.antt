@@ -6,25 +6,22 @@ use mathlib.Core.Path.{_≡_, refl, sym, _∙_, ap}
 use mathlib.Core.Logic.{⊎-elim}
 use lib.ListN.{length}
 use Rattle.rows.specs.Rows.{rowsIn}
-use Rattle.rows.proofs.RowLaws.{Looked, looked, entry-inside, same-place, rows-same, counted-more, counted-end}
+use Rattle.rows.proofs.RowLaws.{Looked, looked, entry-inside, same-bits, rows-same, counted-more, counted-end}
 use borrow.Author.Needs.{needs}
 use Rattle.rows.proofs.count_in.Statement.{statement}
 use Rattle.rows.proofs.count_in.Tie as tie
 use Rattle.rows.proofs.count_in.Reads as reads
 use Rattle.rows.proofs.count_in.Lts as lts
 use Rattle.memory.proofs.get.Reads as get-reads
-use Rattle.layout.proofs.places.place.Reads as place-reads
+use Rattle.bucket.proofs.first_bits.Reads as first-bits-reads
 use Rattle.rows.proofs.entry_record.Reads as entry-record-reads
-use Rattle.layout.proofs.places.size.Reads as size-reads
+use Rattle.layout.proofs.addresses.size.Reads as size-reads
 
 abbrev Inv-loop : tie.InvT-loop
 Inv-loop words g e q c k₀ i₀ k i = Looked words g e q c × ((i ≤ c) × ((k ≤ i) × (k ≡ length (rowsIn words g e q 0 i))))
 
 abbrev μ-loop : tie.MeasureT-loop
 μ-loop words g e q c k₀ i₀ k i = c - i
-
-entry-record-requires : tie.Need-entry-record-requires Inv-loop μ-loop
-entry-record-requires c κs = search needs
 
 size-requires : tie.Need-size-requires Inv-loop μ-loop
 size-requires c κs = let start = c .before .before in (start .pre .0, entry-inside _ _ (start .pre .0) (c .entry-record .ensures))
@@ -35,34 +32,13 @@ loop-holds c =
     let start = c .before .before .before in
     (looked _ _ _ (start .pre .0) (c .before .entry-record .ensures) (c .size .ensures), (search needs, (search needs, refl)))
 
-add-get : tie.Need-add-get Inv-loop μ-loop
-add-get c = search needs
-
-add-get-2 : tie.Need-add-get-2 Inv-loop μ-loop
-add-get-2 c = search needs
-
-get-requires : tie.Need-get-requires Inv-loop μ-loop
-get-requires c κs = search needs
-
-place-requires : tie.Need-place-requires Inv-loop μ-loop
-place-requires c κs = search needs
-
-add-k : tie.Need-add-k Inv-loop μ-loop
-add-k c = search needs
-
-add-i : tie.Need-add-i Inv-loop μ-loop
-add-i c = search needs
-
-loop-less : tie.Need-loop-less Inv-loop μ-loop
-loop-less c = search needs
-
 loop-again : tie.Need-loop-again Inv-loop μ-loop
 loop-again c =
     let at-loop = c .before .before .before .before in
     let s = at-loop .before .before .before .before .args in
     let l = at-loop .loop in
     let q = at-loop .before .before .entry-record .result in
-    let same = same-place (s .words .now) (s .g) q (l .i) _ _ (c .before .before .get .ensures) (c .before .place .ensures) in (
+    let same = same-bits (s .words .now) (s .g) q (l .i) _ _ (c .before .before .get .ensures) (c .before .first-bits .ensures) in (
       l .inv .0,
       (
         search needs,
@@ -70,7 +46,8 @@ loop-again c =
           ⊎-elim (λ w. omega arith) (λ w. omega arith) (c .if1 .came),
           ⊎-elim
               (λ w. omega (arith, counted-more (s .words .now) (s .g) (s .e) q (l .i) (sym same ∙ w .0 .taken)))
-              (λ w. w .1 ∙ l .inv .1 .1 .1 ∙ ap length (sym (rows-same (s .words .now) (s .g) (s .e) q (l .i) (λ h. w .0 .left (same ∙ h)))))
+              (λ w. w .1 ∙ l .inv .1 .1 .1 ∙ ap length
+              (sym (rows-same (s .words .now) (s .g) (s .e) q (l .i) (λ h. w .0 .left (same ∙ h)))))
               (c .if1 .came),
         ),
       ),
@@ -81,19 +58,6 @@ returns c = let l = c .before .loop in counted-end (l .i) (l .k) (l .inv .0) (l 
 
 pub count-in-spec : {M : Type 1} → statement M
 count-in-spec =
-    tie.close
-    (tie.spec
-    Inv-loop
-    μ-loop
-    entry-record-requires
-    size-requires
-    loop-holds
-    add-get
-    add-get-2
-    get-requires
-    place-requires
-    add-k
-    add-i
-    loop-less
-    loop-again
-    returns)
+    tie.close (tie.spec Inv-loop μ-loop (λ c κs. search needs) size-requires loop-holds (λ c. search needs)
+    (λ c. search needs) (λ c κs. search needs) (λ c κs. search needs) (λ c. search needs) (λ c. search needs)
+    (λ c. search needs) loop-again returns)

@@ -10,11 +10,8 @@ use Rattle.rows.proofs.entry_record.Tie as tie
 use Rattle.rows.proofs.entry_record.Reads as reads
 use Rattle.rows.proofs.entry_record.Lts as lts
 use Rattle.memory.proofs.get_or.Reads as get-or-reads
-use Rattle.layout.proofs.places.within_words.Reads as within-words-reads
+use Rattle.layout.proofs.addresses.record_in.Reads as record-in-reads
 use Rattle.layout.proofs.shape.directory_start.Reads as directory-start-reads
-
-directory-start-requires : tie.Need-directory-start-requires
-directory-start-requires c κs = search needs
 
 add-get-or : tie.Need-add-get-or
 add-get-or c =
@@ -22,17 +19,10 @@ add-get-or c =
     let f = start .pre .0 in
     omega (arith, start-bound (start .args .g .workers) (f .workers), span-limit (start .args .g .depth) (f .depth))
 
-get-or-requires : tie.Need-get-or-requires
-get-or-requires c κs = search needs
-
-within-words-requires : tie.Need-within-words-requires
-within-words-requires c κs = search needs
-
 returns : tie.Need-returns
 unfolding entryRecord
-returns c = rw (← c .before .before .directory-start .ensures, ← c .before .get-or .ensures) (c .within-words .ensures)
+returns c = rw (← c .before .before .directory-start .ensures, ← c .before .get-or .ensures) (c .record-in .ensures)
 
 pub entry-record-spec : {M : Type 1} → statement M
 entry-record-spec =
-    tie.close
-    (tie.spec directory-start-requires add-get-or get-or-requires within-words-requires returns)
+    tie.close (tie.spec (λ c κs. search needs) add-get-or (λ c κs. search needs) (λ c κs. search needs) returns)

@@ -19,17 +19,21 @@ use Rattle.rows.proofs.write.Lts as lts
 use Rattle.rows.proofs.write_in.Reads as write-in-reads
 
 abbrev Inv-loop : tie.InvT-loop
-Inv-loop words g accounts₀ totals₀ span k₀ e₀ accounts totals k e = (span ≡ 2 ^ g .depth) × ((e ≤ span) × ((k ≡ length (rowsFrom words g 0 e)) × ((length accounts ≡ length accounts₀) × ((length totals ≡ length totals₀) × ((accounts ≡ overlay accounts₀ 0 (map (λ x. x .0) (rowsFrom words g 0 e))) × (totals ≡ overlay totals₀ 0 (map (λ x. x .1) (rowsFrom words g 0 e))))))))
+Inv-loop words g accounts₀ totals₀ span k₀ e₀ accounts totals k e =
+    (span ≡ 2 ^ g .depth) × ((e ≤ span)
+    × ((k ≡ length (rowsFrom words g 0 e))
+    × ((length accounts ≡ length accounts₀)
+    × ((length totals ≡ length totals₀)
+    × ((accounts ≡ overlay accounts₀ 0 (map (λ x. x .0) (rowsFrom words g 0 e)))
+    × (totals ≡ overlay totals₀ 0 (map (λ x. x .1) (rowsFrom words g 0 e))))))))
 
 abbrev μ-loop : tie.MeasureT-loop
 μ-loop words g accounts₀ totals₀ span k₀ e₀ accounts totals k e = span - e
 
-shl-span : tie.Need-shl-span Inv-loop μ-loop
-shl-span c = search needs
-
 loop-holds : tie.Need-loop-holds Inv-loop μ-loop
 unfolding rowsFrom
-loop-holds c = (span-is _ (c .before .before .pre .0 .depth), (search needs, (refl, (refl, (refl, (sym (overlay-nil _ _), sym (overlay-nil _ _)))))))
+loop-holds c =
+    (span-is _ (c .before .before .pre .0 .depth), (search needs, (refl, (refl, (refl, (sym (overlay-nil _ _), sym (overlay-nil _ _)))))))
 
 write-in-requires : tie.Need-write-in-requires Inv-loop μ-loop
 write-in-requires c κs =
@@ -41,12 +45,6 @@ write-in-requires c κs =
     let a = entry-room (s .words .now) (s .g) (l .e) _ h (start .pre .1 .0) in
     let t = entry-room (s .words .now) (s .g) (l .e) _ h (start .pre .1 .1) in
     (start .pre .0, (h, (omega arith, omega arith)))
-
-add-e : tie.Need-add-e Inv-loop μ-loop
-add-e c = search needs
-
-loop-less : tie.Need-loop-less Inv-loop μ-loop
-loop-less c = search needs
 
 loop-again : tie.Need-loop-again Inv-loop μ-loop
 loop-again c =
@@ -78,12 +76,6 @@ loop-again c =
       ),
     )
 
-same-length : tie.Need-same-length Inv-loop μ-loop
-same-length c = search needs
-
-same-length-2 : tie.Need-same-length-2 Inv-loop μ-loop
-same-length-2 c = search needs
-
 returns : tie.Need-returns Inv-loop μ-loop
 unfolding rows
 returns c =
@@ -94,16 +86,5 @@ returns c =
 
 pub write-spec : {M : Type 1} → statement M
 write-spec =
-    tie.close
-    (tie.spec
-    Inv-loop
-    μ-loop
-    shl-span
-    loop-holds
-    write-in-requires
-    add-e
-    loop-less
-    loop-again
-    same-length
-    same-length-2
-    returns)
+    tie.close (tie.spec Inv-loop μ-loop (λ c. search needs) loop-holds write-in-requires (λ c. search needs)
+    (λ c. search needs) loop-again (λ c. search needs) (λ c. search needs) returns)

@@ -1,11 +1,12 @@
--- `write_in` writes the rows of one entry. The loop's invariant: the rows among the first i accounts are written; the measure: the accounts left.
--- Rests on the laws of rows.
-use Prim.Native.Nat.{ℕ, _≤_, _-_, _%_}
+-- `write_in` writes the rows of one entry. The loop's invariant: the rows among the first i accounts are written; the measure: the
+-- accounts left. Rests on the laws of rows.
+use Prim.Native.Nat.{ℕ, _≤_, _<_, _-_, _%_}
+use lib.ListN.{length}
 use native.Mathlib.Omega.{arith}
 use mathlib.Core.Path.{sym, _∙_, ap}
 use mathlib.Core.Logic.{⊎-elim}
 use Rattle.rows.specs.Rows.{rowAt}
-use Rattle.rows.proofs.RowLaws.{Looked, looked, entry-inside, same-place, Written, written-start, written-room, written-more, written-same, written-end}
+use Rattle.rows.proofs.RowLaws.{Looked, looked, entry-inside, same-bits, Written, written-start, written-room, written-more, written-same, written-end}
 use Rattle.memory.proofs.Totals.{total-kept}
 use borrow.Author.Needs.{needs}
 use Rattle.rows.proofs.write_in.Statement.{statement}
@@ -14,18 +15,16 @@ use Rattle.rows.proofs.write_in.Reads as reads
 use Rattle.rows.proofs.write_in.Lts as lts
 use Rattle.memory.proofs.get.Reads as get-reads
 use Rattle.memory.proofs.total_of.Reads as total-of-reads
-use Rattle.layout.proofs.places.place.Reads as place-reads
+use Rattle.bucket.proofs.first_bits.Reads as first-bits-reads
 use Rattle.rows.proofs.entry_record.Reads as entry-record-reads
-use Rattle.layout.proofs.places.size.Reads as size-reads
+use Rattle.layout.proofs.addresses.size.Reads as size-reads
 
 abbrev Inv-loop : tie.InvT-loop
-Inv-loop words g e k accounts₀ totals₀ q b c at₀ i₀ accounts totals at i = Looked words g e q c × ((i ≤ c) × Written words g e q k accounts₀ totals₀ i accounts totals at)
+Inv-loop words g e k accounts₀ totals₀ q b c at₀ i₀ accounts totals at i =
+    Looked words g e q c × ((i ≤ c) × Written words g e q k accounts₀ totals₀ i accounts totals at)
 
 abbrev μ-loop : tie.MeasureT-loop
 μ-loop words g e k accounts₀ totals₀ q b c at₀ i₀ accounts totals at i = c - i
-
-entry-record-requires : tie.Need-entry-record-requires Inv-loop μ-loop
-entry-record-requires c κs = search needs
 
 size-requires : tie.Need-size-requires Inv-loop μ-loop
 size-requires c κs = let start = c .before .before .before in (start .pre .0, entry-inside _ _ (start .pre .0) (c .entry-record .ensures))
@@ -35,92 +34,49 @@ loop-holds c =
     let start = c .before .before .before .before in
     (looked _ _ _ (start .pre .0) (c .before .entry-record .ensures) (c .size .ensures), (search needs, written-start _ _ _ _ _ _ _))
 
-add-get : tie.Need-add-get Inv-loop μ-loop
-add-get c = search needs
-
-add-get-2 : tie.Need-add-get-2 Inv-loop μ-loop
-add-get-2 c = search needs
-
-get-requires : tie.Need-get-requires Inv-loop μ-loop
-get-requires c κs = search needs
-
-place-requires : tie.Need-place-requires Inv-loop μ-loop
-place-requires c κs = search needs
-
-cast-accounts : tie.Need-cast-accounts Inv-loop μ-loop
-cast-accounts c = search needs
+-- there is a place for one row more in each list
+room :
+    (c : tie.Then1 Inv-loop μ-loop)
+    → let at-loop = c .before .before .before .before in
+    let s = at-loop .before .before .before .before .before .args in
+    (at-loop .loop .at < length (s .accounts .now)) × (at-loop .loop .at < length (s .totals .now))
+room c =
+    let at-loop = c .before .before .before .before in
+    let s = at-loop .before .before .before .before .before in
+    let l = at-loop .loop in
+    let bits = same-bits (s .args .words .now) (s .args .g) _ (l .i) _ _ (c .before .before .get .ensures) (c .before .first-bits .ensures) in
+    let hit = sym bits ∙ c .if1 .taken in
+    let test = c .before .before .before .loop-test .taken in (
+      written-room _ _ _ _ _ _ _ _ _ _ _ (l .inv .1 .1) _ _ (l .inv .0) hit test (s .pre .1 .1 .0),
+      written-room _ _ _ _ _ _ _ _ _ _ _ (l .inv .1 .1) _ _ (l .inv .0) hit test (s .pre .1 .1 .1),
+    )
 
 mul-accounts : tie.Need-mul-accounts Inv-loop μ-loop
-mul-accounts c =
-    let at-loop = c .before .before .before .before in
-    let s = at-loop .before .before .before .before .before in
-    let l = at-loop .loop in
-    let same = same-place (s .args .words .now) (s .args .g) _ (l .i) _ _ (c .before .before .get .ensures) (c .before .place .ensures) in
-    let room = written-room _ _ _ _ _ _ _ _ _ _ _ (l .inv .1 .1) _ _ (l .inv .0) (sym same ∙ c .if1 .taken) (c .before .before .before .loop-test .taken) (s .pre .1 .1 .0) in
-    omega arith
+mul-accounts c = let h = room c in omega arith
 
 slice-write-accounts : tie.Need-slice-write-accounts Inv-loop μ-loop
-slice-write-accounts c =
-    let at-loop = c .before .before .before .before in
-    let s = at-loop .before .before .before .before .before in
-    let l = at-loop .loop in
-    let same = same-place (s .args .words .now) (s .args .g) _ (l .i) _ _ (c .before .before .get .ensures) (c .before .place .ensures) in
-    let room = written-room _ _ _ _ _ _ _ _ _ _ _ (l .inv .1 .1) _ _ (l .inv .0) (sym same ∙ c .if1 .taken) (c .before .before .before .loop-test .taken) (s .pre .1 .1 .0) in
-    omega arith
+slice-write-accounts c = let h = room c in omega arith
 
-add-get-3 : tie.Need-add-get-3 Inv-loop μ-loop
-add-get-3 c = search needs
-
-add-get-4 : tie.Need-add-get-4 Inv-loop μ-loop
-add-get-4 c = search needs
-
-add-get-5 : tie.Need-add-get-5 Inv-loop μ-loop
-add-get-5 c = search needs
-
-get-requires-2 : tie.Need-get-requires-2 Inv-loop μ-loop
-get-requires-2 c κs = search needs
-
-total-of-requires : tie.Need-total-of-requires Inv-loop μ-loop
-total-of-requires c κs = search needs
-
-mul-t23 : tie.Need-mul-t23 Inv-loop μ-loop
-mul-t23 c =
+mul-t25 : tie.Need-mul-t25 Inv-loop μ-loop
+mul-t25 c =
     let here = c .before .before in
-    let at-loop = here .before .before .before .before in
-    let s = at-loop .before .before .before .before .before in
-    let l = at-loop .loop in
-    let same = same-place (s .args .words .now) (s .args .g) _ (l .i) _ _ (here .before .before .get .ensures) (here .before .place .ensures) in
-    let room = written-room _ _ _ _ _ _ _ _ _ _ _ (l .inv .1 .1) _ _ (l .inv .0) (sym same ∙ here .if1 .taken) (here .before .before .before .loop-test .taken) (s .pre .1 .1 .1) in
-    let long = s .good .1 .1 .1 .1 .1 .0 in
+    let h = room here in
+    let long = here .before .before .before .before .before .before .before .before .before .good .1 .1 .1 .1 .1 .0 in
     omega arith
 
 slice-set-from-totals : tie.Need-slice-set-from-totals Inv-loop μ-loop
 slice-set-from-totals c =
     let here = c .before .before in
-    let at-loop = here .before .before .before .before in
-    let s = at-loop .before .before .before .before .before in
-    let l = at-loop .loop in
-    let same = same-place (s .args .words .now) (s .args .g) _ (l .i) _ _ (here .before .before .get .ensures) (here .before .place .ensures) in
-    let room = written-room _ _ _ _ _ _ _ _ _ _ _ (l .inv .1 .1) _ _ (l .inv .0) (sym same ∙ here .if1 .taken) (here .before .before .before .loop-test .taken) (s .pre .1 .1 .1) in
-    let long = s .good .1 .1 .1 .1 .1 .0 in
+    let h = room here in
+    let long = here .before .before .before .before .before .before .before .before .before .good .1 .1 .1 .1 .1 .0 in
     omega arith
 
 add-at : tie.Need-add-at Inv-loop μ-loop
 add-at c =
     let here = c .before .before in
-    let at-loop = here .before .before .before .before in
-    let s = at-loop .before .before .before .before .before in
-    let l = at-loop .loop in
-    let same = same-place (s .args .words .now) (s .args .g) _ (l .i) _ _ (here .before .before .get .ensures) (here .before .place .ensures) in
-    let room = written-room _ _ _ _ _ _ _ _ _ _ _ (l .inv .1 .1) _ _ (l .inv .0) (sym same ∙ here .if1 .taken) (here .before .before .before .loop-test .taken) (s .pre .1 .1 .1) in
-    let long = s .good .1 .1 .1 .1 .1 .0 in
+    let h = room here in
+    let long = here .before .before .before .before .before .before .before .before .before .good .1 .1 .1 .1 .1 .0 in
     omega arith
-
-add-i : tie.Need-add-i Inv-loop μ-loop
-add-i c = search needs
-
-loop-less : tie.Need-loop-less Inv-loop μ-loop
-loop-less c = search needs
 
 loop-again : tie.Need-loop-again Inv-loop μ-loop
 unfolding rowAt
@@ -131,7 +87,7 @@ loop-again c =
     let l = at-loop .loop in
     let q = at-loop .before .before .entry-record .result in
     let get = c .before .before .get .ensures in
-    let same = same-place (s .words .now) (s .g) q (l .i) _ _ get (c .before .place .ensures) in
+    let same = same-bits (s .words .now) (s .g) q (l .i) _ _ get (c .before .first-bits .ensures) in
     let test = c .before .before .before .loop-test .taken in
     let written = l .inv .1 .1 in (
       l .inv .0,
@@ -141,7 +97,8 @@ loop-again c =
             (λ w.
             let hit = sym same ∙ w .0 .taken in
             rw (w .3, w .4, w .5)
-            (written-more _ _ _ _ _ _ _ _ _ _ _ written _ _ hit (ap (λ (a : ℕ). a % 4_294_967_296) get) (total-kept _ _ _ (w .2 .ensures) (w .1 .ok) (w .1 .ensures))
+            (written-more _ _ _ _ _ _ _ _ _ _ _ written _ _ hit (ap (λ (a : ℕ). a % 4_294_967_296) get)
+            (total-kept _ _ _ (w .2 .ensures) (w .1 .ok) (w .1 .ensures))
             (written-room _ _ _ _ _ _ _ _ _ _ _ written _ _ (l .inv .0) hit test (start .pre .1 .1 .0))
             (written-room _ _ _ _ _ _ _ _ _ _ _ written _ _ (l .inv .0) hit test (start .pre .1 .1 .1))))
             (λ w. rw (w .1, w .2, w .3) (written-same _ _ _ _ _ _ _ _ _ _ _ written (λ h. w .0 .left (same ∙ h))))
@@ -149,42 +106,13 @@ loop-again c =
       ),
     )
 
-same-length : tie.Need-same-length Inv-loop μ-loop
-same-length c = search needs
-
-same-length-2 : tie.Need-same-length-2 Inv-loop μ-loop
-same-length-2 c = search needs
-
 returns : tie.Need-returns Inv-loop μ-loop
 returns c = let l = c .before .loop in written-end _ _ _ _ _ _ _ _ _ _ _ (l .inv .1 .1) _ (l .inv .0) (l .inv .1 .0) (c .loop-test .left)
 
 pub write-in-spec : {M : Type 1} → statement M
 write-in-spec =
-    tie.close
-    (tie.spec
-    Inv-loop
-    μ-loop
-    entry-record-requires
-    size-requires
-    loop-holds
-    add-get
-    add-get-2
-    get-requires
-    place-requires
-    cast-accounts
-    mul-accounts
-    slice-write-accounts
-    add-get-3
-    add-get-4
-    add-get-5
-    get-requires-2
-    total-of-requires
-    mul-t23
-    slice-set-from-totals
-    add-at
-    add-i
-    loop-less
-    loop-again
-    same-length
-    same-length-2
-    returns)
+    tie.close (tie.spec Inv-loop μ-loop (λ c κs. search needs) size-requires loop-holds (λ c. search needs)
+    (λ c. search needs) (λ c κs. search needs) (λ c κs. search needs) (λ c. search needs) mul-accounts
+    slice-write-accounts (λ c. search needs) (λ c. search needs) (λ c. search needs) (λ c κs. search needs)
+    (λ c κs. search needs) mul-t25 slice-set-from-totals add-at (λ c. search needs) (λ c. search needs) loop-again
+    (λ c. search needs) (λ c. search needs) returns)

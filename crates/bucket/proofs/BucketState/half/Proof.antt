@@ -1,4 +1,4 @@
--- `half` makes the state that `halfOf` makes. The loop's invariant: what has been gathered from the places below i.
+-- `half` makes the state that `halfOf` makes. The loop's invariant: what has been gathered from the positions below i.
 -- Rests on the laws of a half.
 use Prim.Native.Nat.{_≤_, _-_}
 use native.Mathlib.Nat.{le-antisymm}
@@ -6,57 +6,20 @@ use native.Mathlib.Omega.{arith}
 use mathlib.Core.Logic.{⊎-elim}
 use mathlib.Core.Path.{sym, _∙_}
 use borrow.Author.Needs.{needs}
+use Rattle.bucket.specs.State.{arraySize}
 use Rattle.bucket.proofs.Laws.{Halved, halved-start, halved-more, halved-same, halved-end, size-limit}
 use Rattle.bucket.proofs.BucketState.half.Statement.{statement}
 use Rattle.bucket.proofs.BucketState.half.Tie as tie
 
 abbrev Inv-loop : tie.InvT-loop
-Inv-loop d q old-accounts old-totals settled answers n accounts₀ totals₀ kept₀ i₀ accounts totals kept i = (n ≤ 16) × (i ≤ n) × (kept ≤ i) × Halved old-accounts old-totals d q i accounts totals kept
+Inv-loop d q old-accounts old-totals settled answers n accounts₀ totals₀ kept₀ i₀ accounts totals kept i =
+    (n ≤ arraySize) × (i ≤ n) × (kept ≤ i) × Halved old-accounts old-totals d q i accounts totals kept
 
 abbrev μ-loop : tie.MeasureT-loop
 μ-loop d q old-accounts old-totals settled answers n accounts₀ totals₀ kept₀ i₀ accounts totals kept i = n - i
 
-size-requires : tie.Need-size-requires Inv-loop μ-loop
-size-requires c κs = search needs
-
 loop-holds : tie.Need-loop-holds Inv-loop μ-loop
 loop-holds c = (rw (c .size .ensures) (size-limit _), search needs, search needs, halved-start _ _ _ _)
-
-mul-a : tie.Need-mul-a Inv-loop μ-loop
-mul-a c = search needs
-
-array-read-a : tie.Need-array-read-a Inv-loop μ-loop
-array-read-a c = search needs
-
-prefix-requires : tie.Need-prefix-requires Inv-loop μ-loop
-prefix-requires c κs = search needs
-
-mul-accounts : tie.Need-mul-accounts Inv-loop μ-loop
-mul-accounts c = search needs
-
-array-write-accounts : tie.Need-array-write-accounts Inv-loop μ-loop
-array-write-accounts c = search needs
-
-mul-totals : tie.Need-mul-totals Inv-loop μ-loop
-mul-totals c = search needs
-
-array-read-totals : tie.Need-array-read-totals Inv-loop μ-loop
-array-read-totals c = search needs
-
-mul-totals-2 : tie.Need-mul-totals-2 Inv-loop μ-loop
-mul-totals-2 c = search needs
-
-array-write-totals : tie.Need-array-write-totals Inv-loop μ-loop
-array-write-totals c = search needs
-
-add-kept : tie.Need-add-kept Inv-loop μ-loop
-add-kept c = search needs
-
-add-i : tie.Need-add-i Inv-loop μ-loop
-add-i c = search needs
-
-loop-less : tie.Need-loop-less Inv-loop μ-loop
-loop-less c = search needs
 
 loop-again : tie.Need-loop-again Inv-loop μ-loop
 loop-again c =
@@ -65,8 +28,9 @@ loop-again c =
       search needs,
       ⊎-elim (λ w. omega arith) (λ w. omega arith) (c .if1 .came),
       ⊎-elim
-          (λ w. rw (w .1, w .2, w .3) (halved-more _ _ _ _ _ _ _ _ (l .inv .3) (omega arith) (sym (c .before .prefix .ensures) ∙ w .0 .taken)))
-          (λ w. rw (w .1, w .2, w .3) (halved-same _ _ _ _ _ _ _ _ (l .inv .3) (λ e. w .0 .left (c .before .prefix .ensures ∙ e))))
+          (λ w. rw (w .1, w .2, w .3) (halved-more _ _ _ _ _ _ _ _ (l .inv .3) (omega arith)
+          (sym (c .before .first-bits .ensures) ∙ w .0 .taken)))
+          (λ w. rw (w .1, w .2, w .3) (halved-same _ _ _ _ _ _ _ _ (l .inv .3) (λ e. w .0 .left (c .before .first-bits .ensures ∙ e))))
           (c .if1 .came),
     )
 
@@ -79,23 +43,7 @@ returns c =
 
 pub half-spec : {M : Type 1} → statement M
 half-spec =
-    tie.close
-    (tie.spec
-    Inv-loop
-    μ-loop
-    size-requires
-    loop-holds
-    mul-a
-    array-read-a
-    prefix-requires
-    mul-accounts
-    array-write-accounts
-    mul-totals
-    array-read-totals
-    mul-totals-2
-    array-write-totals
-    add-kept
-    add-i
-    loop-less
-    loop-again
+    tie.close (tie.spec Inv-loop μ-loop (λ c κs. search needs) loop-holds (λ c. search needs) (λ c. search needs)
+    (λ c κs. search needs) (λ c. search needs) (λ c. search needs) (λ c. search needs) (λ c. search needs)
+    (λ c. search needs) (λ c. search needs) (λ c. search needs) (λ c. search needs) (λ c. search needs) loop-again
     returns)

@@ -6,17 +6,11 @@ use borrow.Author.Needs.{needs}
 use Rattle.driver.proofs.answers.put_end.Statement.{statement}
 use Rattle.driver.proofs.answers.put_end.Tie as tie
 
-print-end-requires : tie.Need-print-end-requires
-print-end-requires c κs = search needs
-
 add-result : tie.Need-add-result
 add-result c = omega (arith, wrote-within (c .before .before .print-end .ensures) 18446744073709551615 (omega arith) (omega arith))
-
-same-length : tie.Need-same-length
-same-length c = search needs
 
 returns : tie.Need-returns
 returns c = wrote-put (c .before .before .print-end .ensures)
 
 pub put-end-spec : {M : Type 1} → statement M
-put-end-spec = tie.close (tie.spec print-end-requires add-result same-length returns)
+put-end-spec = tie.close (tie.spec (λ c κs. search needs) add-result (λ c. search needs) returns)

@@ -6,17 +6,11 @@ use borrow.Author.Needs.{needs}
 use Rattle.driver.proofs.answers.put_reply.Statement.{statement}
 use Rattle.driver.proofs.answers.put_reply.Tie as tie
 
-print-reply-requires : tie.Need-print-reply-requires
-print-reply-requires c κs = search needs
-
 add-result : tie.Need-add-result
 add-result c = omega (arith, wrote-within (c .before .before .print-reply .ensures) 18446744073709551615 (omega arith) (omega arith))
-
-same-length : tie.Need-same-length
-same-length c = search needs
 
 returns : tie.Need-returns
 returns c = wrote-put (c .before .before .print-reply .ensures)
 
 pub put-reply-spec : {M : Type 1} → statement M
-put-reply-spec = tie.close (tie.spec print-reply-requires add-result same-length returns)
+put-reply-spec = tie.close (tie.spec (λ c κs. search needs) add-result (λ c. search needs) returns)

@@ -7,40 +7,21 @@ use lib.ListN.{length, getD}
 use mir.Facts.{toZ-ofZ}
 use borrow.Author.Needs.{needs}
 use Rattle.replies.specs.Printed.{printedRow}
-use Rattle.driver.specs.Answers.{Output, put, putRows, rowsAt}
+use Rattle.driver.specs.Answers.{Output, emitted, putRows, rowsAt}
 use Rattle.driver.proofs.Outputs.{rows-start, rows-end, rows-next}
 use Rattle.driver.proofs.answers.put_rows.Statement.{statement}
 use Rattle.driver.proofs.answers.put_rows.Tie as tie
 
 abbrev Inv-loop : tie.InvT-loop
-Inv-loop accounts totals count out₀ used used₀ i₀ out used' i = (i ≤ count) × ((length out ≡ length out₀) × (putRows (record { bytes = out; used = used' }) (rowsAt accounts totals i (count - i)) ≡ putRows (record { bytes = out₀; used = used }) (rowsAt accounts totals 0 count)))
+Inv-loop accounts totals count out₀ used used₀ i₀ out used' i = (i ≤ count)
+    × ((length out ≡ length out₀) × (putRows (record { bytes = out; used = used' }) (rowsAt accounts totals i (count - i))
+    ≡ putRows (record { bytes = out₀; used = used }) (rowsAt accounts totals 0 count)))
 
 abbrev μ-loop : tie.MeasureT-loop
 μ-loop accounts totals count out₀ used used₀ i₀ out used' i = count - i
 
 loop-holds : tie.Need-loop-holds Inv-loop μ-loop
 loop-holds c = (search needs, (refl, rows-start _ _ _ _))
-
-mul-put-row : tie.Need-mul-put-row Inv-loop μ-loop
-mul-put-row c = search needs
-
-shared-slice-read-put-row : tie.Need-shared-slice-read-put-row Inv-loop μ-loop
-shared-slice-read-put-row c = search needs
-
-mul-put-row-2 : tie.Need-mul-put-row-2 Inv-loop μ-loop
-mul-put-row-2 c = search needs
-
-shared-slice-copy-out-put-row : tie.Need-shared-slice-copy-out-put-row Inv-loop μ-loop
-shared-slice-copy-out-put-row c = search needs
-
-put-row-requires : tie.Need-put-row-requires Inv-loop μ-loop
-put-row-requires c κs = search needs
-
-add-i : tie.Need-add-i Inv-loop μ-loop
-add-i c = search needs
-
-loop-less : tie.Need-loop-less Inv-loop μ-loop
-loop-less c = search needs
 
 loop-again : tie.Need-loop-again Inv-loop μ-loop
 loop-again c =
@@ -49,35 +30,21 @@ loop-again c =
     let o : Output = record { bytes = l .loop .out; used = l .loop .used } in
     let row = printedRow (getD (a .accounts .now) (l .loop .i) 0) in
     let kept = toZ-ofZ (record { sfits = c .before .before .before .put-row-arg2 .given }) in
-    let e = c .before .before .put-row .ensures ∙ ap (λ (z : ℤ). put o (row z)) kept in (
+    let e = c .before .before .put-row .ensures ∙ ap (λ (z : ℤ). emitted o (row z)) kept in (
       search needs,
       (
         search needs,
-        rows-next (a .accounts .now) (a .totals .now) o _ (l .loop .i) (a .count) (c .before .before .before .before .before .before .loop-test .taken) e
+        rows-next (a .accounts .now) (a .totals .now) o _ (l .loop .i) (a .count)
+            (c .before .before .before .before .before .before .loop-test .taken) e
             ∙ l .loop .inv .1 .1,
       ),
     )
-
-same-length : tie.Need-same-length Inv-loop μ-loop
-same-length c = search needs
 
 returns : tie.Need-returns Inv-loop μ-loop
 returns c = rows-end _ _ _ _ _ (c .loop-test .left) ∙ c .before .loop .inv .1 .1
 
 pub put-rows-spec : {M : Type 1} → statement M
 put-rows-spec =
-    tie.close
-    (tie.spec
-    Inv-loop
-    μ-loop
-    loop-holds
-    mul-put-row
-    shared-slice-read-put-row
-    mul-put-row-2
-    shared-slice-copy-out-put-row
-    put-row-requires
-    add-i
-    loop-less
-    loop-again
-    same-length
+    tie.close (tie.spec Inv-loop μ-loop loop-holds (λ c. search needs) (λ c. search needs) (λ c. search needs)
+    (λ c. search needs) (λ c κs. search needs) (λ c. search needs) (λ c. search needs) loop-again (λ c. search needs)
     returns)

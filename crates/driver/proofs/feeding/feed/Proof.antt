@@ -13,38 +13,34 @@ use Rattle.driver.proofs.feeding.feed.Tie as tie
 abbrev Inv-loop : tie.InvT-loop
 Inv-loop words₀ accounts₀ totals₀ out₀ input reader₀ used₀ i₀ words accounts totals out reader used i =
     (i ≤ length input)
-    × (((length words ≡ length words₀) × ((length accounts ≡ length accounts₀) × ((length totals ≡ length totals₀) × (length out ≡ length out₀))))
-    × (_≡_ {A = Feeding} (fed (record { state = record { words = words; accounts = accounts; totals = totals; output = record { bytes = out; used = used } }; reader = reader; taken = i }) (drop i input)) (fed (record { state = record { words = words₀; accounts = accounts₀; totals = totals₀; output = record { bytes = out₀; used = 0 } }; reader = reader₀; taken = 0 }) input)))
+    × (((length words ≡ length words₀) × ((length accounts ≡ length accounts₀)
+    × ((length totals ≡ length totals₀) × (length out ≡ length out₀))))
+    × (_≡_ {A = Feeding} (fed (record {
+      state = record {
+        words = words;
+        accounts = accounts;
+        totals = totals;
+        output = record { bytes = out; used = used };
+      };
+      reader = reader;
+      taken = i;
+    }) (drop i input))
+    (fed (record {
+      state = record {
+        words = words₀;
+        accounts = accounts₀;
+        totals = totals₀;
+        output = record { bytes = out₀; used = 0 };
+      };
+      reader = reader₀;
+      taken = 0;
+    }) input)))
 
 abbrev μ-loop : tie.MeasureT-loop
 μ-loop words₀ accounts₀ totals₀ out₀ input reader₀ used₀ i₀ words accounts totals out reader used i = length input - i
 
 loop-holds : tie.Need-loop-holds Inv-loop μ-loop
 loop-holds c = (search needs, ((refl, (refl, (refl, refl))), refl))
-
-roomy-requires : tie.Need-roomy-requires Inv-loop μ-loop
-roomy-requires c κs = search needs
-
-shared-slice-read-byte : tie.Need-shared-slice-read-byte Inv-loop μ-loop
-shared-slice-read-byte c = search needs
-
-command-requires : tie.Need-command-requires Inv-loop μ-loop
-command-requires c κs = search needs
-
-answer-requires : tie.Need-answer-requires Inv-loop μ-loop
-answer-requires c κs = search needs
-
-new-requires : tie.Need-new-requires Inv-loop μ-loop
-new-requires c κs = search needs
-
-push-requires : tie.Need-push-requires Inv-loop μ-loop
-push-requires c κs = search needs
-
-add-i : tie.Need-add-i Inv-loop μ-loop
-add-i c = search needs
-
-loop-less : tie.Need-loop-less Inv-loop μ-loop
-loop-less c = search needs
 
 loop-again : tie.Need-loop-again Inv-loop μ-loop
 loop-again c =
@@ -57,7 +53,8 @@ loop-again c =
       search needs,
       (
         (kept .0 ∙ lengths .0, (kept .1 .0 ∙ lengths .1 .0, (kept .1 .1 .0 ∙ lengths .1 .1 .0, kept .1 .1 .1 .0 ∙ lengths .1 .1 .1))),
-        fed-next _ _ _ _ _ (c .before .before .before .before .loop-test .taken) (c .before .before .before .roomy .ensures) (c .before .before .if1 .taken) (took-line _ _ _ _ _ (w .0 .taken) (w .5 .ensures) (w .6 .ensures) (w .14 .ensures))
+        fed-next _ _ _ _ _ (c .before .before .before .before .loop-test .taken) (c .before .before .before .roomy .ensures)
+            (c .before .before .if1 .taken) (took-line _ _ _ _ _ (w .0 .taken) (w .5 .ensures) (w .6 .ensures) (w .14 .ensures))
             ∙ l .loop .inv .1 .1,
       ),
     ))
@@ -66,64 +63,22 @@ loop-again c =
       search needs,
       (
         lengths,
-        fed-next _ _ _ _ _ (c .before .before .before .before .loop-test .taken) (c .before .before .before .roomy .ensures) (c .before .before .if1 .taken) (took-byte _ _ _ (w .0 .left) (w .1 .ensures)) ∙ l .loop .inv .1 .1,
+        fed-next _ _ _ _ _ (c .before .before .before .before .loop-test .taken) (c .before .before .before .roomy .ensures)
+            (c .before .before .if1 .taken) (took-byte _ _ _ (w .0 .left) (w .1 .ensures)) ∙ l .loop .inv .1 .1,
       ),
     ))
     (c .if2 .came)
 
-same-length : tie.Need-same-length Inv-loop μ-loop
-same-length c = search needs
-
-same-length-2 : tie.Need-same-length-2 Inv-loop μ-loop
-same-length-2 c = search needs
-
-same-length-3 : tie.Need-same-length-3 Inv-loop μ-loop
-same-length-3 c = search needs
-
-same-length-4 : tie.Need-same-length-4 Inv-loop μ-loop
-same-length-4 c = search needs
-
 returns : tie.Need-returns Inv-loop μ-loop
-returns c = fed-full _ _ _ _ (c .before .before .loop-test .taken) (c .before .roomy .ensures) (c .if1 .left) ∙ c .before .before .before .loop .inv .1 .1
-
-same-length-5 : tie.Need-same-length-5 Inv-loop μ-loop
-same-length-5 c = search needs
-
-same-length-6 : tie.Need-same-length-6 Inv-loop μ-loop
-same-length-6 c = search needs
-
-same-length-7 : tie.Need-same-length-7 Inv-loop μ-loop
-same-length-7 c = search needs
-
-same-length-8 : tie.Need-same-length-8 Inv-loop μ-loop
-same-length-8 c = search needs
+returns c = fed-full _ _ _ _ (c .before .before .loop-test .taken) (c .before .roomy .ensures) (c .if1 .left)
+    ∙ c .before .before .before .loop .inv .1 .1
 
 returns-2 : tie.Need-returns-2 Inv-loop μ-loop
 returns-2 c = fed-end _ _ _ (c .loop-test .left) ∙ c .before .loop .inv .1 .1
 
 pub feed-spec : {M : Type 1} → statement M
 feed-spec =
-    tie.close
-    (tie.spec
-    Inv-loop
-    μ-loop
-    loop-holds
-    roomy-requires
-    shared-slice-read-byte
-    command-requires
-    answer-requires
-    new-requires
-    push-requires
-    add-i
-    loop-less
-    loop-again
-    same-length
-    same-length-2
-    same-length-3
-    same-length-4
-    returns
-    same-length-5
-    same-length-6
-    same-length-7
-    same-length-8
-    returns-2)
+    tie.close (tie.spec Inv-loop μ-loop loop-holds (λ c κs. search needs) (λ c. search needs) (λ c κs. search needs)
+    (λ c κs. search needs) (λ c κs. search needs) (λ c κs. search needs) (λ c. search needs) (λ c. search needs)
+    loop-again (λ c. search needs) (λ c. search needs) (λ c. search needs) (λ c. search needs) returns
+    (λ c. search needs) (λ c. search needs) (λ c. search needs) (λ c. search needs) returns-2)

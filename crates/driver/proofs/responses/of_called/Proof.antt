@@ -5,15 +5,6 @@ use borrow.Author.Needs.{needs}
 use Rattle.driver.proofs.responses.of_called.Statement.{statement}
 use Rattle.driver.proofs.responses.of_called.Tie as tie
 
-enum-told : tie.Need-enum-told
-enum-told c = search needs
-
-enum-known-a : tie.Need-enum-known-a
-enum-known-a c = search needs
-
-number-requires : tie.Need-number-requires
-number-requires c κs = search needs
-
 returns : tie.Need-returns
 unfolding ofCalled
 returns c = rw (c .enum-told .given .1)
@@ -23,4 +14,4 @@ unfolding ofCalled
 returns-2 c = rw (c .before .before .a .given .1, c .number .ensures)
 
 pub of-called-spec : {M : Type 1} → statement M
-of-called-spec = tie.close (tie.spec enum-told enum-known-a number-requires returns returns-2)
+of-called-spec = tie.close (tie.spec (λ c. search needs) (λ c. search needs) (λ c κs. search needs) returns returns-2)

@@ -5,15 +5,6 @@ use borrow.Author.Needs.{needs}
 use Rattle.driver.proofs.responses.of_opened.Statement.{statement}
 use Rattle.driver.proofs.responses.of_opened.Tie as tie
 
-enum-told : tie.Need-enum-told
-enum-told c = search needs
-
-enum-known-o : tie.Need-enum-known-o
-enum-known-o c = search needs
-
-number-requires : tie.Need-number-requires
-number-requires c κs = search needs
-
 returns : tie.Need-returns
 unfolding ofOpened
 returns c = rw (c .enum-told .given .1)
@@ -23,4 +14,4 @@ unfolding ofOpened
 returns-2 c = rw (c .before .before .o .given .1, c .number .ensures)
 
 pub of-opened-spec : {M : Type 1} → statement M
-of-opened-spec = tie.close (tie.spec enum-told enum-known-o number-requires returns returns-2)
+of-opened-spec = tie.close (tie.spec (λ c. search needs) (λ c. search needs) (λ c κs. search needs) returns returns-2)

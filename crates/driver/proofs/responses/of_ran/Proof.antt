@@ -5,18 +5,6 @@ use borrow.Author.Needs.{needs}
 use Rattle.driver.proofs.responses.of_ran.Statement.{statement}
 use Rattle.driver.proofs.responses.of_ran.Tie as tie
 
-enum-known-a : tie.Need-enum-known-a
-enum-known-a c = search needs
-
-enum-known-a-2 : tie.Need-enum-known-a-2
-enum-known-a-2 c = search needs
-
-enum-known-a-3 : tie.Need-enum-known-a-3
-enum-known-a-3 c = search needs
-
-number-requires : tie.Need-number-requires
-number-requires c κs = search needs
-
 returns : tie.Need-returns
 unfolding ofRan
 returns c = rw (c .before .a .given .1)
@@ -31,12 +19,5 @@ returns-3 c = rw (c .before .before .a3 .given .1, c .number .ensures)
 
 pub of-ran-spec : {M : Type 1} → statement M
 of-ran-spec =
-    tie.close
-    (tie.spec
-    enum-known-a
-    enum-known-a-2
-    enum-known-a-3
-    number-requires
-    returns
-    returns-2
-    returns-3)
+    tie.close (tie.spec (λ c. search needs) (λ c. search needs) (λ c. search needs) (λ c κs. search needs) returns
+    returns-2 returns-3)

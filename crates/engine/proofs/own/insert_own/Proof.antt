@@ -1,140 +1,88 @@
 -- `insert_own` sets the total of an account that is there, or puts a new account in its place, and settles the ticket.
 -- Rests on the laws of an own update.
-use Prim.Native.Nat.{_≤_, _<_}
+use Prim.Native.Nat.{_+_, _≤_, _<_}
 use native.Mathlib.Omega.{arith}
+use mathlib.Core.Path.{_≡_, refl}
+use lib.ListN.{length}
 use borrow.Author.Needs.{needs}
-use Rattle.engine.proofs.OwnUpdate.{among-at, among-before, replaced, inserted}
+use Rattle.interface.specs.Numbers.{kindInsert}
+use Rattle.fields.specs.Fields.{totalsFrom}
+use Rattle.bucket.specs.declared.Position.the-variants.{At, Before}
+use Rattle.engine.proofs.OwnUpdate.{Start, start, found-as, replaced, inserted}
 use Rattle.engine.proofs.own.insert_own.Statement.{statement}
 use Rattle.engine.proofs.own.insert_own.Tie as tie
 
--- the place that was found is one of the accounts
-found-at : (c : tie.After-i) → c .i .given .0 .0 < c .before .before .before .before .before .before .args .c
-found-at c =
-    let start = c .before .before .before .before .before .before in
-    let s = start .args in
-    let k = start .pre in
-    among-at (s .words .now) (s .g) (s .q) (s .c) (s .toggle) (k .0) (k .1 .1 .0) (s .j) (s .account) (s .ticket) (k .1 .0) (k .1 .1 .1 .0) (k .1 .1 .1 .1) _ (c .before .before .find .ensures) _ (c .i .given .1)
+-- what the update starts from
+begun :
+    (c : tie.After-scan) → let s = c .before .before .before .before .args in
+    Start (s .words .now) (s .g) (s .q) (s .c) (s .j) (s .u) (c .scan .result) (s .u .kind ≡ kindInsert)
+begun c =
+    let entry = c .before .before .before .before in
+    let s = entry .args in
+    start (s .words .now) (s .g) (s .q) (s .c) (s .j) (s .u) _ (entry .pre) (c .scan .ensures)
+
+-- the position that was found is one of the accounts
+found-at :
+    (c : tie.After-i) → let s = c .before .before .before .before .before .before .args in
+    (c .i .given .0 .0 < s .c) × (totalsFrom (s .q) (s .g .capacity) + s .c < length (s .words .now))
+found-at c = let y = begun (c .before .before) in (found-as y (At _) (c .i .given .1) .1, y .behind)
 
 -- or just past them
-found-before : (c : tie.After-i2) → c .i2 .given .0 .0 ≤ c .before .before .before .before .before .before .args .c
-found-before c =
-    let start = c .before .before .before .before .before .before in
-    let s = start .args in
-    let k = start .pre in
-    among-before (s .words .now) (s .g) (s .q) (s .c) (s .toggle) (k .0) (k .1 .1 .0) (s .j) (s .account) (s .ticket) (k .1 .0) (k .1 .1 .1 .0) (k .1 .1 .1 .1) _ (c .before .before .find .ensures) _ (c .i2 .given .1)
-
-add-accounts : tie.Need-add-accounts
-add-accounts c = search needs
-
-add-totals : tie.Need-add-totals
-add-totals c = search needs
-
-add-end : tie.Need-add-end
-add-end c = search needs
-
-mul-find : tie.Need-mul-find
-mul-find c = search needs
-
-sub-find : tie.Need-sub-find
-sub-find c = search needs
-
-part-find-start : tie.Need-part-find-start
-part-find-start c = search needs
-
-part-find-end : tie.Need-part-find-end
-part-find-end c = search needs
-
-find-requires : tie.Need-find-requires
-find-requires c κs = search needs
-
-enum-known-i : tie.Need-enum-known-i
-enum-known-i c = search needs
-
-put-first-requires : tie.Need-put-first-requires
-put-first-requires c κs = search needs
+found-before :
+    (c : tie.After-i2) → let s = c .before .before .before .before .before .before .args in
+    (c .i2 .given .0 .0 ≤ s .c) × (totalsFrom (s .q) (s .g .capacity) + s .c < length (s .words .now))
+found-before c = let y = begun (c .before .before) in (found-as y (Before _) (c .i2 .given .1) .1, y .behind)
 
 add-put : tie.Need-add-put
-add-put c = let h = found-at (c .before .before .before .before .before .before) in omega arith
+add-put c =
+    let first = c .before .before .before in
+    let h = found-at (first .before .before .before) in
+    omega arith
 
 put-requires : tie.Need-put-requires
-put-requires c κs = let h = found-at (c .before .before .before .before .before .before) in omega arith
+put-requires c κs =
+    let first = c .before .before .before in
+    let h = found-at (first .before .before .before) in
+    omega arith
 
-settle-requires : tie.Need-settle-requires
-settle-requires c κs = search needs
+raise-in-requires : tie.Need-raise-in-requires
+raise-in-requires c κs =
+    let first = c .before .before .before in
+    let h = found-before (first .before .before .before) in
+    (omega arith, omega arith)
 
-enum-known-i-2 : tie.Need-enum-known-i-2
-enum-known-i-2 c = search needs
-
-add-put-first : tie.Need-add-put-first
-add-put-first c = search needs
-
-put-first-requires-2 : tie.Need-put-first-requires-2
-put-first-requires-2 c κs = search needs
-
-raise-requires : tie.Need-raise-requires
-raise-requires c κs = let h = found-before (c .before .before .before .before .before .before) in (omega arith, omega arith)
-
-raise-requires-2 : tie.Need-raise-requires-2
-raise-requires-2 c κs = let h = found-before (c .before .before .before .before .before .before .before .before .before .before) in (omega arith, omega arith)
-
-settle-requires-2 : tie.Need-settle-requires-2
-settle-requires-2 c κs = search needs
-
-same-length : tie.Need-same-length
-same-length c = search needs
+raise-in-requires-2 : tie.Need-raise-in-requires-2
+raise-in-requires-2 c κs =
+    let accounts = c .before .before .before in
+    let first = accounts .before .before .before .before in
+    let h = found-before (first .before .before .before) in
+    (omega arith, omega arith)
 
 returns : tie.Need-returns
 returns c =
-    let settle = c .before .before .settle in
-    let put = c .before .before .before .before .before .before .put in
-    let put-first = c .before .before .before .before .before .before .before .before .before .before .put-first in
-    let i = c .before .before .before .before .before .before .before .before .before .before .before .before .before .i in
-    let find = c .before .before .before .before .before .before .before .before .before .before .before .before .before .before .before .find in
-    let start = c .before .before .before .before .before .before .before .before .before .before .before .before .before .before .before .before .before .before .before in
-    let s = start .args in
-    let k = start .pre in
-    replaced (s .words .now) (s .g) (s .q) (s .c) (s .toggle) (k .0) (k .1 .1 .0) (s .j) (s .account) (s .ticket) (k .1 .0) (k .1 .1 .1 .0) (k .1 .1 .1 .1) _ (find .ensures) _ (s .total) (i .given .1) _ _ _ (put-first .ensures) (put .ensures) (settle .ensures)
-
-same-length-2 : tie.Need-same-length-2
-same-length-2 c = search needs
+    let settled = c .before .before in
+    let total = settled .before .before .before .before in
+    let first = total .before .before .before .before in
+    let found = first .before .before .before in
+    let scanned = found .before .before in
+    replaced _ (begun scanned) (found .i .given .1) (first .put-first .ensures) refl
+    (total .put .ensures) (settled .settle .ensures)
 
 returns-2 : tie.Need-returns-2
 returns-2 c =
-    let settle2 = c .before .before .settle2 in
-    let raise2 = c .before .before .before .before .before .before .raise2 in
-    let raise = c .before .before .before .before .before .before .before .before .before .before .raise in
-    let put-first2 = c .before .before .before .before .before .before .before .before .before .before .before .before .before .before .put-first2 in
-    let i2 = c .before .before .before .before .before .before .before .before .before .before .before .before .before .before .before .before .before .i2 in
-    let find = c .before .before .before .before .before .before .before .before .before .before .before .before .before .before .before .before .before .before .before .find in
-    let start = c .before .before .before .before .before .before .before .before .before .before .before .before .before .before .before .before .before .before .before .before .before .before .before in
-    let s = start .args in
-    let k = start .pre in
-    inserted (s .words .now) (s .g) (s .q) (s .c) (s .toggle) (k .0) (k .1 .1 .0) (s .j) (s .account) (s .ticket) (k .1 .0) (k .1 .1 .1 .0) (k .1 .1 .1 .1) _ (find .ensures) _ (s .total) (i2 .given .1) _ _ _ _ (put-first2 .ensures) (raise .ensures) (raise2 .ensures) (settle2 .ensures)
+    let settled = c .before .before in
+    let totals = settled .before .before .before .before in
+    let accounts = totals .before .before .before .before in
+    let first = accounts .before .before .before .before in
+    let found = first .before .before .before in
+    let scanned = found .before .before in
+    inserted _ (begun scanned) (found .i2 .given .1) (first .put-first2 .ensures)
+    (accounts .raise-in .ensures) (totals .raise-in2 .ensures) (settled .settle2 .ensures)
 
 pub insert-own-spec : {M : Type 1} → statement M
 insert-own-spec =
-    tie.close
-    (tie.spec
-    add-accounts
-    add-totals
-    add-end
-    mul-find
-    sub-find
-    part-find-start
-    part-find-end
-    find-requires
-    enum-known-i
-    put-first-requires
-    add-put
-    put-requires
-    settle-requires
-    enum-known-i-2
-    add-put-first
-    put-first-requires-2
-    raise-requires
-    raise-requires-2
-    settle-requires-2
-    same-length
-    returns
-    same-length-2
-    returns-2)
+    tie.close (tie.spec (λ c. search needs) (λ c. search needs) (λ c. search needs) (λ c. search needs)
+    (λ c. search needs) (λ c. search needs) (λ c. search needs) (λ c κs. search needs) (λ c. search needs)
+    (λ c κs. search needs) add-put put-requires (λ c κs. search needs) (λ c. search needs) (λ c. search needs)
+    (λ c κs. search needs) raise-in-requires raise-in-requires-2 (λ c κs. search needs) (λ c. search needs) returns
+    (λ c. search needs) returns-2)

@@ -13,18 +13,13 @@ returns : tie.Need-returns
 unfolding planned
 returns c = sym (bucket-flip (c .before .args .n) (c .before .args .r) (c .if1 .taken))
 
-add-reduce : tie.Need-add-reduce
-add-reduce c = search needs
-
-reduce-requires : tie.Need-reduce-requires
-reduce-requires c κs = search needs
-
 returns-2 : tie.Need-returns-2
 unfolding planned
 returns-2 c =
     let n = c .before .before .before .args .n in
     let i = c .before .reduce .result in
-    sym (bucket-round n (c .before .before .before .args .r) i (omega arith) (c .before .reduce .ensures) ∙ bucket-state n i (c .if2 .taken))
+    sym (bucket-round n (c .before .before .before .args .r) i (omega arith) (c .before .reduce .ensures)
+    ∙ bucket-state n i (c .if2 .taken))
 
 returns-3 : tie.Need-returns-3
 unfolding planned
@@ -34,9 +29,6 @@ returns-3 c =
     let n = args .n in
     let i = reduce .result in
     sym (bucket-round n (args .r) i (omega arith) (reduce .ensures) ∙ bucket-toggle n i (omega arith) (c .if3 .taken))
-
-add-if4 : tie.Need-add-if4
-add-if4 c = search needs
 
 returns-4 : tie.Need-returns-4
 unfolding planned
@@ -58,5 +50,5 @@ returns-5 c =
 
 pub bucket-phase-spec : {M : Type 1} → statement M
 bucket-phase-spec =
-    tie.close
-    (tie.spec returns add-reduce reduce-requires returns-2 returns-3 add-if4 returns-4 returns-5)
+    tie.close (tie.spec returns (λ c. search needs) (λ c κs. search needs) returns-2 returns-3 (λ c. search needs)
+    returns-4 returns-5)

@@ -9,15 +9,6 @@ use Rattle.engine.proofs.Phases.{reduced-below, directory-copy, directo
 use Rattle.engine.proofs.phase.directory_phase.Statement.{statement}
 use Rattle.engine.proofs.phase.directory_phase.Tie as tie
 
-mul-reduce : tie.Need-mul-reduce
-mul-reduce c = search needs
-
-add-reduce : tie.Need-add-reduce
-add-reduce c = search needs
-
-reduce-requires : tie.Need-reduce-requires
-reduce-requires c κs = search needs
-
 returns : tie.Need-returns
 unfolding planned
 returns c =
@@ -33,15 +24,6 @@ returns-2 c =
     let n = args .n in
     let i = reduce .result in
     sym (directory-round n (args .r) i (reduce .ensures) ∙ directory-slot n i (omega arith) (c .if2 .taken))
-
-mul-if3 : tie.Need-mul-if3
-mul-if3 c = search needs
-
-add-t8 : tie.Need-add-t8
-add-t8 c = search needs
-
-sub-t9 : tie.Need-sub-t9
-sub-t9 c = search needs
 
 returns-3 : tie.Need-returns-3
 unfolding planned
@@ -63,15 +45,5 @@ returns-4 c =
 
 pub directory-phase-spec : {M : Type 1} → statement M
 directory-phase-spec =
-    tie.close
-    (tie.spec
-    mul-reduce
-    add-reduce
-    reduce-requires
-    returns
-    returns-2
-    mul-if3
-    add-t8
-    sub-t9
-    returns-3
-    returns-4)
+    tie.close (tie.spec (λ c. search needs) (λ c. search needs) (λ c κs. search needs) returns returns-2
+    (λ c. search needs) (λ c. search needs) (λ c. search needs) returns-3 returns-4)

@@ -12,18 +12,6 @@ returns : tie.Need-returns
 unfolding planned
 returns c = sym (plan-announce (c .before .args .n) (c .before .args .k) (c .if1 .taken))
 
-mul-reduce : tie.Need-mul-reduce
-mul-reduce c = search needs
-
-add-reduce : tie.Need-add-reduce
-add-reduce c = search needs
-
-reduce-requires : tie.Need-reduce-requires
-reduce-requires c κs = search needs
-
-pass-phase-requires : tie.Need-pass-phase-requires
-pass-phase-requires c κs = search needs
-
 returns-2 : tie.Need-returns-2
 returns-2 c =
     let s = c .before .before .before .args in
@@ -31,5 +19,5 @@ returns-2 c =
 
 pub phase-of-spec : {M : Type 1} → statement M
 phase-of-spec =
-    tie.close
-    (tie.spec returns mul-reduce add-reduce reduce-requires pass-phase-requires returns-2)
+    tie.close (tie.spec returns (λ c. search needs) (λ c. search needs) (λ c κs. search needs) (λ c κs. search needs)
+    returns-2)

@@ -5,27 +5,16 @@ use Rattle.engine.proofs.Splitting.{deepened-more, deepened-same}
 use Rattle.engine.proofs.splits.deepen.Statement.{statement}
 use Rattle.engine.proofs.splits.deepen.Tie as tie
 
-get-requires : tie.Need-get-requires
-get-requires c κs = search needs
-
-put-requires : tie.Need-put-requires
-put-requires c κs = search needs
-
-same-length : tie.Need-same-length
-same-length c = search needs
-
 returns : tie.Need-returns
 returns c =
     let put = c .before .before in
     let tested = put .before .before in
     deepened-more _ _ _ (tested .before .get .ensures) _ (tested .if1 .taken) (put .put .ensures)
 
-same-length-2 : tie.Need-same-length-2
-same-length-2 c = search needs
-
 returns-2 : tie.Need-returns-2
 returns-2 c = deepened-same _ _ _ (c .before .get .ensures) (c .if1 .left)
 
 pub deepen-spec : {M : Type 1} → statement M
 deepen-spec =
-    tie.close (tie.spec get-requires put-requires same-length returns same-length-2 returns-2)
+    tie.close (tie.spec (λ c κs. search needs) (λ c κs. search needs) (λ c. search needs) returns (λ c. search needs)
+    returns-2)

@@ -13,38 +13,27 @@ use Rattle.engine.proofs.splits.direct.Tie as tie
 -- the bucket's entries are inside the words
 inside :
     (c : tie.After-first-entry)
-    → let start = c .before .before .before in c .before .directory-start .result + c .first-entry .result + 2 ^ (start .args .g .depth - start .args .d)
+    → let start = c .before .before .before in c .before .directory-start .result + c .first-entry .result + 2 ^
+    (start .args .g .depth - start .args .d)
     ≤ length (start .args .words .now)
 inside c =
     let start = c .before .before .before in
-    directed-inside (start .pre .0) (start .args .d) (start .args .q) _ _ (start .pre .1) (c .before .directory-start .ensures) (c .first-entry .ensures)
+    directed-inside (start .pre .0) (start .args .d) (start .args .q) _ _ (start .pre .1) (c .before .directory-start .ensures)
+    (c .first-entry .ensures)
 
-width : (c : tie.After-first-entry) → let w = c .before .before .before .args .g .depth - c .before .before .before .args .d in 1 * 2 ^ w % 2 ^ 64 ≡ 2 ^ w
+width :
+    (c : tie.After-first-entry) → let w = c .before .before .before .args .g .depth - c .before .before .before .args .d in 1 * 2 ^
+    w % 2 ^ 64 ≡ 2 ^ w
 width c = let start = c .before .before .before in shift-one _ (omega (arith, start .pre .0 .fits .depth))
-
-directory-start-requires : tie.Need-directory-start-requires
-directory-start-requires c κs = search needs
-
-first-entry-requires : tie.Need-first-entry-requires
-first-entry-requires c κs = search needs
 
 add-from : tie.Need-add-from
 add-from c = omega (arith, inside c)
-
-sub-width : tie.Need-sub-width
-sub-width c = search needs
-
-shl-width : tie.Need-shl-width
-shl-width c = search needs
 
 add-fill : tie.Need-add-fill
 add-fill c = omega (arith, inside (c .before .before), width (c .before .before))
 
 fill-requires : tie.Need-fill-requires
 fill-requires c κs = omega (arith, inside (c .before .before), width (c .before .before))
-
-same-length : tie.Need-same-length
-same-length c = search needs
 
 returns : tie.Need-returns
 returns c =
@@ -56,14 +45,5 @@ returns c =
 
 pub direct-spec : {M : Type 1} → statement M
 direct-spec =
-    tie.close
-    (tie.spec
-    directory-start-requires
-    first-entry-requires
-    add-from
-    sub-width
-    shl-width
-    add-fill
-    fill-requires
-    same-length
-    returns)
+    tie.close (tie.spec (λ c κs. search needs) (λ c κs. search needs) add-from (λ c. search needs)
+    (λ c. search needs) add-fill fill-requires (λ c. search needs) returns)

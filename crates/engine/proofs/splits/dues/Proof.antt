@@ -1,11 +1,11 @@
--- `dues` gives the workers whose update is due, as bits. The loop's invariant: the bits of the workers passed; the measure: the workers left.
--- Rests on the turn for one worker more.
+-- `dues` gives the workers whose update is due, as bits. The loop's invariant: the bits of the workers passed; the measure: the workers
+-- left. Rests on the turn for one worker more.
 use Prim.Native.Nat.{_-_, _≤_}
 use native.Mathlib.Omega.{arith}
 use mathlib.Core.Path.{_≡_, _∙_, ap}
 use mathlib.Core.Logic.{⊎-elim}
 use borrow.Author.Needs.{needs}
-use Rattle.layout.specs.Places.{workerAt}
+use Rattle.fields.specs.Regions.{workerAt}
 use Rattle.engine.specs.Splits.{duesAt}
 use lib.Pow.{pow-mono}
 use Rattle.layout.proofs.Pool.{shift-one}
@@ -36,12 +36,6 @@ add-bits c =
     let few = here .before .before .pre .0 .workers in
     omega (arith, here .loop .inv .1 .small, pow-mono {i = here .loop .i} {j = 15} (omega arith))
 
-add-i : tie.Need-add-i Inv-loop μ-loop
-add-i c = search needs
-
-loop-less : tie.Need-loop-less Inv-loop μ-loop
-loop-less c = search needs
-
 loop-again : tie.Need-loop-again Inv-loop μ-loop
 loop-again c =
     let here = c .before .before .before in
@@ -62,15 +56,5 @@ returns c =
 
 pub dues-spec : {M : Type 1} → statement M
 dues-spec =
-    tie.close
-    (tie.spec
-    Inv-loop
-    μ-loop
-    loop-holds
-    due-requires
-    shl-bits
-    add-bits
-    add-i
-    loop-less
-    loop-again
-    returns)
+    tie.close (tie.spec Inv-loop μ-loop loop-holds due-requires shl-bits add-bits (λ c. search needs)
+    (λ c. search needs) loop-again returns)

@@ -8,18 +8,17 @@ use Rattle.engine.proofs.Splitting.{half-is}
 use Rattle.engine.proofs.splits.half.Statement.{statement}
 use Rattle.engine.proofs.splits.half.Tie as tie
 
-spare-requires : tie.Need-spare-requires
-spare-requires c κs = search needs
-
 record-start-requires : tie.Need-record-start-requires
 record-start-requires c κs =
     let start = c .before .before .before in
     let fits = start .pre .0 .fits in
-    let few = pool-bound (start .args .g) (fits .workers) (fits .depth) in
-    (fits .workers, (fits .capacity, (fits .depth, omega (arith, c .spare .ensures, spare-below (start .args .words .now) (start .args .g)))))
-
-half-requires : tie.Need-half-requires
-half-requires c κs = search needs
+    let few = pool-bound (start .args .g) (fits .workers) (fits .depth) in (
+      fits .workers,
+      (
+        fits .capacity,
+        (fits .depth, omega (arith, c .spare .ensures, spare-below (start .args .words .now) (start .args .g))),
+      ),
+    )
 
 make-requires : tie.Need-make-requires
 make-requires c κs =
@@ -27,8 +26,12 @@ make-requires c κs =
     let start = found .before .before .before in
     let below = spare-below (start .args .words .now) (start .args .g) in (
       start .pre .0 .fits,
-      omega
-          (arith, c .before .before .record-start .ensures, pool-inside (start .pre .0) (found .spare .result) (omega (arith, found .spare .ensures))),
+      omega (
+        arith,
+        c .before .before .record-start .ensures,
+        pool-inside (start .pre .0) (found .spare .result)
+            (omega (arith, found .spare .ensures)),
+      ),
     )
 
 add-put : tie.Need-add-put
@@ -39,34 +42,17 @@ add-put c =
     let few = pool-bound (start .args .g) (fits .workers) (fits .depth) in
     omega (arith, found .spare .ensures, spare-below (start .args .words .now) (start .args .g))
 
-put-requires : tie.Need-put-requires
-put-requires c κs = search needs
-
-direct-requires : tie.Need-direct-requires
-direct-requires c κs = search needs
-
-same-length : tie.Need-same-length
-same-length c = search needs
-
 returns : tie.Need-returns
 returns c =
     let done = c .before .before in
     let put = done .before .before .before .before in
     let made = put .before .before .before .before in
     let placed = made .before .before .before in
-    half-is _ _ _ _ _ _ _ _ _ _ _ (placed .before .spare .ensures) (placed .record-start .ensures) (made .before .half .ensures) (made .make .ensures)
+    half-is _ _ _ _ _ _ _ _ _ _ _ (placed .before .spare .ensures) (placed .record-start .ensures) (made .before .half .ensures)
+    (made .make .ensures)
     (put .put .ensures) (done .direct .ensures)
 
 pub half-spec : {M : Type 1} → statement M
 half-spec =
-    tie.close
-    (tie.spec
-    spare-requires
-    record-start-requires
-    half-requires
-    make-requires
-    add-put
-    put-requires
-    direct-requires
-    same-length
-    returns)
+    tie.close (tie.spec (λ c κs. search needs) record-start-requires (λ c κs. search needs) make-requires add-put
+    (λ c κs. search needs) (λ c κs. search needs) (λ c. search needs) returns)

@@ -6,7 +6,7 @@ use mathlib.Core.Path.{_≡_, refl, sym, _∙_, ap}
 use mathlib.Core.Logic.{⊎-elim}
 use lib.ListN.{length}
 use Rattle.layout.specs.Shape.{Whole}
-use Rattle.layout.specs.Places.{workerAt}
+use Rattle.fields.specs.Regions.{workerAt}
 use Rattle.engine.specs.Splits.{resolvedAt}
 use Rattle.layout.proofs.Pool.{whole-kept}
 use Rattle.layout.proofs.Positions.{record-inside}
@@ -16,7 +16,8 @@ use Rattle.engine.proofs.splits.resolve.Statement.{statement}
 use Rattle.engine.proofs.splits.resolve.Tie as tie
 
 abbrev Inv-loop : tie.InvT-loop
-Inv-loop words₀ g w j₀ words j = (j ≤ g .workers) × ((length words ≡ length words₀) × (words ≡ resolvedAt words₀ g (workerAt (g .workers) w) j))
+Inv-loop words₀ g w j₀ words j =
+    (j ≤ g .workers) × ((length words ≡ length words₀) × (words ≡ resolvedAt words₀ g (workerAt (g .workers) w) j))
 
 abbrev μ-loop : tie.MeasureT-loop
 μ-loop words₀ g w j₀ words j = g .workers - j
@@ -57,12 +58,6 @@ take-all-requires c κs =
     let here = c .before .before .before .before .before .before .before .before .before .before in
     (whole here, here .before .before .pre .1)
 
-add-j : tie.Need-add-j Inv-loop μ-loop
-add-j c = search needs
-
-loop-less : tie.Need-loop-less Inv-loop μ-loop
-loop-less c = search needs
-
 loop-again : tie.Need-loop-again Inv-loop μ-loop
 loop-again c =
     let read = c .before in
@@ -73,14 +68,19 @@ loop-again c =
       search needs,
       (
         ap length (w .10) ∙ search needs,
-        w .10 ∙ resolved-more _ _ _ _ _ _ (here .loop .inv .1 .1) bits _ _ _ _ (w .0 .taken) (w .2 .ensures) (w .3 .ensures) (w .5 .ensures) (w .7 .ensures),
+        w .10 ∙ resolved-more _ _ _ _ _ _ (here .loop .inv .1 .1) bits _ _ _ _ (w .0 .taken) (w .2 .ensures) (w .3 .ensures)
+            (w .5 .ensures) (w .7 .ensures),
       ),
     ))
-    (λ w. (search needs, (ap length (w .1) ∙ here .loop .inv .1 .0, w .1 ∙ resolved-same _ _ _ _ _ _ (here .loop .inv .1 .1) bits (w .0 .left))))
+    (λ w. (
+      search needs,
+      (
+        ap length (w .1) ∙ here .loop .inv .1 .0,
+        w .1
+            ∙ resolved-same _ _ _ _ _ _ (here .loop .inv .1 .1) bits (w .0 .left),
+      ),
+    ))
     (c .if1 .came)
-
-same-length : tie.Need-same-length Inv-loop μ-loop
-same-length c = search needs
 
 returns : tie.Need-returns Inv-loop μ-loop
 returns c =
@@ -90,19 +90,5 @@ returns c =
 
 pub resolve-spec : {M : Type 1} → statement M
 resolve-spec =
-    tie.close
-    (tie.spec
-    Inv-loop
-    μ-loop
-    loop-holds
-    worker-word-requires
-    shr-if1
-    slot-word-requires
-    record-of-requires
-    dues-requires
-    take-all-requires
-    add-j
-    loop-less
-    loop-again
-    same-length
-    returns)
+    tie.close (tie.spec Inv-loop μ-loop loop-holds worker-word-requires shr-if1 slot-word-requires record-of-requires
+    dues-requires take-all-requires (λ c. search needs) (λ c. search needs) loop-again (λ c. search needs) returns)

@@ -5,11 +5,16 @@ use native.Mathlib.Omega.{arith}
 use mathlib.Core.Path.{_≡_, refl, sym, _∙_}
 use lib.ListN.{length}
 use borrow.Author.Needs.{needs}
+use borrow.Author.Tests.{not-true, not-false}
+use Rattle.bucket.specs.State.{splittableBy}
+use Rattle.engine.specs.Engine.{splittableAt}
+use Rattle.engine.proofs.Cases.{both-read}
+use Rattle.fields.specs.Fields.{widestRecord}
 use Rattle.layout.specs.Shape.{Whole}
 use Rattle.engine.specs.Splits.{splitWhileAt}
 use Rattle.layout.proofs.Pool.{whole-kept}
 use Rattle.layout.proofs.Positions.{record-inside}
-use Rattle.engine.proofs.Splitting.{while-room, while-deep, while-turn, while-end}
+use Rattle.engine.proofs.Splitting.{splittable-depth, while-done, while-turn, while-end}
 use Rattle.engine.proofs.splits.split_while.Statement.{statement}
 use Rattle.engine.proofs.splits.split_while.Tie as tie
 
@@ -24,8 +29,17 @@ abbrev μ-loop : tie.MeasureT-loop
 whole : (c : tie.At-loop Inv-loop μ-loop) → Whole (c .loop .words) (c .before .before .args .g)
 whole c = whole-kept (sym (c .loop .inv .1 .0)) (c .before .before .pre)
 
-inside : (c : tie.After-record-of Inv-loop μ-loop) → c .record-of .result + 54 ≤ length (c .before .before .before .loop .words)
+inside : (c : tie.After-record-of Inv-loop μ-loop) → c .record-of .result + widestRecord ≤ length (c .before .before .before .loop .words)
 inside c = rw (c .record-of .ensures) (record-inside (whole (c .before .before .before) .fits) _)
+
+-- whether it is to be split
+tested :
+    (c : tie.After-splittable Inv-loop μ-loop)
+    → let found = c .before .before .before .before .before in
+    c .splittable .result
+    ≡ splittableAt (found .before .before .before .loop .words) (found .before .before .before .before .before .args .g)
+    (found .record-of .result)
+tested c = both-read (splittableBy _) (c .splittable .ensures) (c .before .before .before .get .ensures) (c .before .get2 .ensures)
 
 loop-holds : tie.Need-loop-holds Inv-loop μ-loop
 loop-holds c = (search needs, (refl, refl))
@@ -33,89 +47,54 @@ loop-holds c = (search needs, (refl, refl))
 record-of-requires : tie.Need-record-of-requires Inv-loop μ-loop
 record-of-requires c κs = whole (c .before .before) .fits
 
+add-get : tie.Need-add-get Inv-loop μ-loop
+add-get c = omega (arith, inside (c .before))
+
 get-requires : tie.Need-get-requires Inv-loop μ-loop
 get-requires c κs = omega (arith, inside (c .before))
 
-same-length : tie.Need-same-length Inv-loop μ-loop
-same-length c = search needs
+add-get-2 : tie.Need-add-get-2 Inv-loop μ-loop
+add-get-2 c = omega (arith, inside (c .before .before .before))
+
+get-requires-2 : tie.Need-get-requires-2 Inv-loop μ-loop
+get-requires-2 c κs = omega (arith, inside (c .before .before .before))
 
 returns : tie.Need-returns Inv-loop μ-loop
 returns c =
-    let read = c .before .before in
-    let found = read .before .before in
-    while-room _ _ _ _ _ (found .record-of .ensures) (read .get .ensures) _ (c .if1 .taken) ∙ found .before .before .before .loop .inv .1 .1
-
-add-get : tie.Need-add-get Inv-loop μ-loop
-add-get c = omega (arith, inside (c .before .before .before .before .before))
-
-get-requires-2 : tie.Need-get-requires-2 Inv-loop μ-loop
-get-requires-2 c κs = omega (arith, inside (c .before .before .before .before .before))
-
-same-length-2 : tie.Need-same-length-2 Inv-loop μ-loop
-same-length-2 c = search needs
-
-returns-2 : tie.Need-returns-2 Inv-loop μ-loop
-returns-2 c =
-    let deep = c .before .before in
-    let tested = deep .before .before in
-    let read = tested .before .before in
-    let found = read .before .before in
-    while-deep _ _ _ _ _ (found .record-of .ensures) (read .get .ensures) _ (deep .get2 .ensures) (tested .if1 .left) _ (c .if2 .taken)
+    let test = c .before in
+    let found = test .before .before .before .before .before in
+    while-done _ _ _ _ _ (found .record-of .ensures) (tested test) _ (not-true _ (c .if1 .taken))
     ∙ found .before .before .before .loop .inv .1 .1
 
 split-requires : tie.Need-split-requires Inv-loop μ-loop
 split-requires c κs =
-    let found = c .before .before .before .before .before .before .before .before .before in
-    (whole (found .before .before .before), (omega (arith, c .before .if2 .left), inside found))
-
-sub-f : tie.Need-sub-f Inv-loop μ-loop
-sub-f c = search needs
-
-loop-less : tie.Need-loop-less Inv-loop μ-loop
-loop-less c = search needs
+    let test = c .before .before in
+    let found = test .before .before .before .before .before in
+    let turn = found .before .before .before in
+    let yes = sym (tested test) ∙ not-false _ (c .before .if1 .left) in
+    (whole turn, (splittable-depth (turn .loop .words) (turn .before .before .args .g) (found .record-of .result) yes, inside found))
 
 loop-again : tie.Need-loop-again Inv-loop μ-loop
 loop-again c =
     let done = c .before .before in
-    let deep = done .before .before in
-    let low = deep .before .before in
-    let tested = low .before .before in
-    let read = tested .before .before in
-    let found = read .before .before in
+    let full = done .before .before in
+    let test = full .before in
+    let found = test .before .before .before .before .before in
     let turn = found .before .before in (
       search needs,
       (
         search needs,
-        while-turn _ _ _ _ _ (found .record-of .ensures) (read .get .ensures) _ (low .get2 .ensures) (tested .if1 .left) _ _ (turn .loop-test .taken)
-            (deep .if2 .left) (done .split .ensures)
+        while-turn _ _ _ _ _ (found .record-of .ensures) (tested test) _ _ (turn .loop-test .taken) (not-false _ (full .if1 .left))
+            (done .split .ensures)
             ∙ turn .before .loop .inv .1 .1,
       ),
     )
 
-same-length-3 : tie.Need-same-length-3 Inv-loop μ-loop
-same-length-3 c = search needs
-
-returns-3 : tie.Need-returns-3 Inv-loop μ-loop
-returns-3 c = while-end _ _ _ _ (c .loop-test .left) ∙ c .before .loop .inv .1 .1
+returns-2 : tie.Need-returns-2 Inv-loop μ-loop
+returns-2 c = while-end _ _ _ _ (c .loop-test .left) ∙ c .before .loop .inv .1 .1
 
 pub split-while-spec : {M : Type 1} → statement M
 split-while-spec =
-    tie.close
-    (tie.spec
-    Inv-loop
-    μ-loop
-    loop-holds
-    record-of-requires
-    get-requires
-    same-length
-    returns
-    add-get
-    get-requires-2
-    same-length-2
-    returns-2
-    split-requires
-    sub-f
-    loop-less
-    loop-again
-    same-length-3
-    returns-3)
+    tie.close (tie.spec Inv-loop μ-loop loop-holds record-of-requires add-get get-requires add-get-2 get-requires-2
+    (λ c κs. search needs) (λ c. search needs) returns split-requires (λ c. search needs) (λ c. search needs)
+    loop-again (λ c. search needs) returns-2)

@@ -15,26 +15,12 @@ use Rattle.engine.proofs.splits.swap_directory.Tie as tie
 -- after the splits, if there are any, as many words as before
 same :
     (c : tie.Joined2)
-    → length (c .if2 .words) ≡ length (c .before .before .before .before .before .before .before .before .before .before .before .args .words .now)
+    → length (c .if2 .words) ≡ length
+    (c .before .before .before .before .before .before .before .before .before .before .before .args .words .now)
 same c = ⊎-elim (λ w. ap length (w .5) ∙ search needs) (λ w. ap length (w .1)) (c .if2 .came)
-
-worker-word-requires : tie.Need-worker-word-requires
-worker-word-requires c κs = search needs
-
-get-requires : tie.Need-get-requires
-get-requires c κs = search needs
-
-same-length : tie.Need-same-length
-same-length c = search needs
 
 returns : tie.Need-returns
 returns c = redirected-not _ _ _ _ _ (c .before .before .before .worker-word .ensures) (c .before .get .ensures) (c .if1 .taken)
-
-fresh-directory-requires : tie.Need-fresh-directory-requires
-fresh-directory-requires c κs = search needs
-
-nothing-requires : tie.Need-nothing-requires
-nothing-requires c κs = search needs
 
 resolve-requires : tie.Need-resolve-requires
 resolve-requires c κs =
@@ -43,8 +29,9 @@ resolve-requires c κs =
 
 put-requires : tie.Need-put-requires
 put-requires c κs =
+    let start = c .before .before .before .before .before .before .before .before .before .before .before .before in
     let h = same (c .before) in
-    omega (arith, long (c .before .before .before .before .before .before .before .before .before .before .before .before .pre .0))
+    omega (arith, long (start .pre .0))
 
 same-length-2 : tie.Need-same-length-2
 same-length-2 c = let h = same (c .before .before .before .before) in search needs
@@ -60,20 +47,11 @@ returns-2 c =
     let read = tested .before .before .before in
     redirected-done _ _ _ _ _ (read .worker-word .ensures) (tested .before .get .ensures) (joined .if2 .words) _ _ (idle .nothing .result)
     (tested .if1 .left) (fresh .fresh-directory .ensures) (idle .nothing .ensures) (put .put .ensures)
-    (⊎-elim (λ w. rw (w .5, w .2 .ensures, not-true (idle .nothing .result) (w .0 .taken))) (λ w. rw (w .1, not-false (idle .nothing .result) (w .0 .left)))
+    (⊎-elim (λ w. rw (w .5, w .2 .ensures, not-true (idle .nothing .result) (w .0 .taken)))
+    (λ w. rw (w .1, not-false (idle .nothing .result) (w .0 .left)))
     (joined .if2 .came))
 
 pub swap-directory-spec : {M : Type 1} → statement M
 swap-directory-spec =
-    tie.close
-    (tie.spec
-    worker-word-requires
-    get-requires
-    same-length
-    returns
-    fresh-directory-requires
-    nothing-requires
-    resolve-requires
-    put-requires
-    same-length-2
-    returns-2)
+    tie.close (tie.spec (λ c κs. search needs) (λ c κs. search needs) (λ c. search needs) returns
+    (λ c κs. search needs) (λ c κs. search needs) resolve-requires put-requires same-length-2 returns-2)

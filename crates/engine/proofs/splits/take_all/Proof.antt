@@ -6,7 +6,7 @@ use mathlib.Core.Path.{_≡_, refl, sym, _∙_, ap}
 use mathlib.Core.Logic.{⊎-elim}
 use lib.ListN.{length}
 use borrow.Author.Needs.{needs}
-use Rattle.layout.specs.Places.{workerAt}
+use Rattle.fields.specs.Regions.{workerAt}
 use Rattle.engine.specs.Splits.{takenAll}
 use Rattle.layout.proofs.Pool.{whole-kept}
 use Rattle.engine.proofs.Splitting.{all-more, all-same}
@@ -33,22 +33,20 @@ take-requires c κs =
     let start = turn .before .before .before in
     (whole-kept (sym (turn .before .loop .inv .1 .0)) (start .pre .0), (start .pre .1, turn .loop-test .taken))
 
-add-i : tie.Need-add-i Inv-loop μ-loop
-add-i c = search needs
-
-loop-less : tie.Need-loop-less Inv-loop μ-loop
-loop-less c = search needs
-
 loop-again : tie.Need-loop-again Inv-loop μ-loop
 loop-again c =
     let here = c .before .before in
     ⊎-elim
-    (λ w. (search needs, (ap length (w .5) ∙ search needs, w .5 ∙ all-more _ _ _ _ _ _ (here .loop .inv .1 .1) _ (w .0 .taken) (w .2 .ensures))))
+    (λ w. (
+      search needs,
+      (
+        ap length (w .5) ∙ search needs,
+        w .5
+            ∙ all-more _ _ _ _ _ _ (here .loop .inv .1 .1) _ (w .0 .taken) (w .2 .ensures),
+      ),
+    ))
     (λ w. (search needs, (ap length (w .1) ∙ here .loop .inv .1 .0, w .1 ∙ all-same _ _ _ _ _ _ (here .loop .inv .1 .1) (w .0 .left))))
     (c .if1 .came)
-
-same-length : tie.Need-same-length Inv-loop μ-loop
-same-length c = search needs
 
 returns : tie.Need-returns Inv-loop μ-loop
 returns c =
@@ -58,15 +56,5 @@ returns c =
 
 pub take-all-spec : {M : Type 1} → statement M
 take-all-spec =
-    tie.close
-    (tie.spec
-    Inv-loop
-    μ-loop
-    loop-holds
-    shr-if1
-    take-requires
-    add-i
-    loop-less
-    loop-again
-    same-length
-    returns)
+    tie.close (tie.spec Inv-loop μ-loop loop-holds shr-if1 take-requires (λ c. search needs) (λ c. search needs)
+    loop-again (λ c. search needs) returns)

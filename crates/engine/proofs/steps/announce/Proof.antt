@@ -8,22 +8,10 @@ use Rattle.layout.proofs.Positions.{placed}
 use Rattle.engine.proofs.steps.announce.Statement.{statement}
 use Rattle.engine.proofs.steps.announce.Tie as tie
 
-worker-at-requires : tie.Need-worker-at-requires
-worker-at-requires c κs = search needs
-
-mul-copy : tie.Need-mul-copy
-mul-copy c = search needs
-
-add-copy : tie.Need-add-copy
-add-copy c = search needs
-
 copy-requires : tie.Need-copy-requires
 copy-requires c κs =
     let known = c .before .before .before .pre in
     let b = placed (known .0) _ (known .1) in (omega arith, (omega arith, inr (omega arith)))
-
-same-length : tie.Need-same-length
-same-length c = search needs
 
 returns : tie.Need-returns
 unfolding announcedAt
@@ -31,4 +19,5 @@ returns c = let copied = c .before .before in rw (copied .copy .ensures, copied 
 
 pub announce-spec : {M : Type 1} → statement M
 announce-spec =
-    tie.close (tie.spec worker-at-requires mul-copy add-copy copy-requires same-length returns)
+    tie.close (tie.spec (λ c κs. search needs) (λ c. search needs) (λ c. search needs) copy-requires
+    (λ c. search needs) returns)

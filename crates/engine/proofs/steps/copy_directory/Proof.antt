@@ -5,18 +5,6 @@ use borrow.Author.Needs.{needs}
 use Rattle.engine.proofs.steps.copy_directory.Statement.{statement}
 use Rattle.engine.proofs.steps.copy_directory.Tie as tie
 
-get-requires : tie.Need-get-requires
-get-requires c κs = search needs
-
-put-worker-word-requires : tie.Need-put-worker-word-requires
-put-worker-word-requires c κs = search needs
-
-put-worker-word-requires-2 : tie.Need-put-worker-word-requires-2
-put-worker-word-requires-2 c κs = search needs
-
-same-length : tie.Need-same-length
-same-length c = search needs
-
 returns : tie.Need-returns
 unfolding directoryReadAt
 returns c =
@@ -26,5 +14,5 @@ returns c =
 
 pub copy-directory-spec : {M : Type 1} → statement M
 copy-directory-spec =
-    tie.close
-    (tie.spec get-requires put-worker-word-requires put-worker-word-requires-2 same-length returns)
+    tie.close (tie.spec (λ c κs. search needs) (λ c κs. search needs) (λ c κs. search needs) (λ c. search needs)
+    returns)

@@ -9,12 +9,6 @@ use borrow.Author.Needs.{needs}
 use Rattle.engine.proofs.steps.flip_bit.Statement.{statement}
 use Rattle.engine.proofs.steps.flip_bit.Tie as tie
 
-shl-bit : tie.Need-shl-bit
-shl-bit c = search needs
-
-shr-if1 : tie.Need-shr-if1
-shr-if1 c = search needs
-
 add-result : tie.Need-add-result
 unfolding bit
 add-result c =
@@ -37,4 +31,4 @@ unfolding bit
 returns-2 c = flip-clear (c .before .args .x) (c .before .args .w) (c .if1 .left) (c .before .pre)
 
 pub flip-bit-spec : {M : Type 1} → statement M
-flip-bit-spec = tie.close (tie.spec shl-bit shr-if1 add-result sub-result returns returns-2)
+flip-bit-spec = tie.close (tie.spec (λ c. search needs) (λ c. search needs) add-result sub-result returns returns-2)

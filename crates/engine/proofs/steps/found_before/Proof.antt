@@ -4,7 +4,7 @@ use Prim.Native.Nat.{_≤_}
 use native.Mathlib.Omega.{arith}
 use mathlib.Core.Path.{_≡_, refl, sym, _∙_}
 use Rattle.bucket.specs.State.{bit}
-use Rattle.layout.specs.Places.{workerAt}
+use Rattle.fields.specs.Regions.{workerAt}
 use Rattle.layout.specs.Numbers.{any}
 use Rattle.engine.specs.Engine.{foundBefore}
 use Rattle.layout.proofs.Searches.{any-hit, any-turn, any-none}
@@ -20,24 +20,12 @@ Inv-loop words g w j q bits i₀ i =
 abbrev μ-loop : tie.MeasureT-loop
 μ-loop words g w j q bits i₀ i = i
 
-worker-word-requires : tie.Need-worker-word-requires Inv-loop μ-loop
-worker-word-requires c κs = search needs
-
 loop-holds : tie.Need-loop-holds Inv-loop μ-loop
 unfolding foundBefore
 loop-holds c = (search needs, refl)
 
-sub-i : tie.Need-sub-i Inv-loop μ-loop
-sub-i c = search needs
-
 shr-if1 : tie.Need-shr-if1 Inv-loop μ-loop
 shr-if1 c = let few = c .before .before .before .before .pre .0 .workers in omega arith
-
-slot-word-requires : tie.Need-slot-word-requires Inv-loop μ-loop
-slot-word-requires c κs = search needs
-
-record-of-requires : tie.Need-record-of-requires Inv-loop μ-loop
-record-of-requires c κs = search needs
 
 returns : tie.Need-returns Inv-loop μ-loop
 unfolding bit
@@ -49,12 +37,10 @@ returns c =
     let loop = turn .before in
     sym
     (any-hit _ _ (turn .loop-test .taken)
-    (found-it _ _ _ _ _ _ (loop .before .worker-word .ensures) _ _ (slot .slot-word .ensures) (here .record-of .ensures) (marked .if1 .taken)
+    (found-it _ _ _ _ _ _ (loop .before .worker-word .ensures) _ _ (slot .slot-word .ensures) (here .record-of .ensures)
+    (marked .if1 .taken)
     (c .if2 .taken)))
     ∙ loop .loop .inv .1
-
-loop-less : tie.Need-loop-less Inv-loop μ-loop
-loop-less c = search needs
 
 loop-again : tie.Need-loop-again Inv-loop μ-loop
 loop-again c =
@@ -64,12 +50,10 @@ loop-again c =
     let loop = turn .before in (
       search needs,
       any-turn _ _ (turn .loop-test .taken)
-          (found-not _ _ _ _ _ _ (loop .before .worker-word .ensures) _ _ (slot .slot-word .ensures) (here .record-of .ensures) (c .if2 .left))
+          (found-not _ _ _ _ _ _ (loop .before .worker-word .ensures) _ _ (slot .slot-word .ensures) (here .record-of .ensures)
+          (c .if2 .left))
           ∙ loop .loop .inv .1,
     )
-
-loop-less-2 : tie.Need-loop-less-2 Inv-loop μ-loop
-loop-less-2 c = search needs
 
 loop-again-2 : tie.Need-loop-again-2 Inv-loop μ-loop
 unfolding bit
@@ -79,7 +63,8 @@ loop-again-2 c =
     let args = loop .before .before .before .args in (
       search needs,
       any-turn _ _ (turn .loop-test .taken)
-          (found-unmarked (args .words .now) (args .g) (workerAt (args .g .workers) (args .w)) (args .q) _ _ (loop .before .worker-word .ensures)
+          (found-unmarked (args .words .now) (args .g) (workerAt (args .g .workers) (args .w)) (args .q) _ _
+          (loop .before .worker-word .ensures)
           (c .if1 .left))
           ∙ loop .loop .inv .1,
     )
@@ -89,19 +74,6 @@ returns-2 c = sym (any-none _ _ (c .loop-test .left)) ∙ c .before .loop .inv .
 
 pub found-before-spec : {M : Type 1} → statement M
 found-before-spec =
-    tie.close
-    (tie.spec
-    Inv-loop
-    μ-loop
-    worker-word-requires
-    loop-holds
-    sub-i
-    shr-if1
-    slot-word-requires
-    record-of-requires
-    returns
-    loop-less
-    loop-again
-    loop-less-2
-    loop-again-2
-    returns-2)
+    tie.close (tie.spec Inv-loop μ-loop (λ c κs. search needs) loop-holds (λ c. search needs) shr-if1
+    (λ c κs. search needs) (λ c κs. search needs) returns (λ c. search needs) loop-again (λ c. search needs)
+    loop-again-2 returns-2)

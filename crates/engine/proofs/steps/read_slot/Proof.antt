@@ -8,20 +8,8 @@ use Rattle.layout.proofs.Positions.{placed}
 use Rattle.engine.proofs.steps.read_slot.Statement.{statement}
 use Rattle.engine.proofs.steps.read_slot.Tie as tie
 
-mul-copy : tie.Need-mul-copy
-mul-copy c = search needs
-
-add-copy : tie.Need-add-copy
-add-copy c = search needs
-
-worker-at-requires : tie.Need-worker-at-requires
-worker-at-requires c κs = search needs
-
 add-copy-2 : tie.Need-add-copy-2
 add-copy-2 c = let b = placed (c .before .before .before .pre .0) _ (c .before .before .before .pre .1 .0) in omega arith
-
-mul-copy-2 : tie.Need-mul-copy-2
-mul-copy-2 c = search needs
 
 add-copy-3 : tie.Need-add-copy-3
 add-copy-3 c = let b = placed (c .before .before .before .pre .0) _ (c .before .before .before .pre .1 .0) in omega arith
@@ -31,23 +19,11 @@ copy-requires c κs =
     let known = c .before .before .before .pre in
     let b = placed (known .0) _ (known .1 .0) in (omega arith, (omega arith, inl (omega arith)))
 
-same-length : tie.Need-same-length
-same-length c = search needs
-
 returns : tie.Need-returns
 unfolding slotReadAt
 returns c = let copied = c .before .before in rw (copied .copy .ensures, copied .before .worker-at .ensures)
 
 pub read-slot-spec : {M : Type 1} → statement M
 read-slot-spec =
-    tie.close
-    (tie.spec
-    mul-copy
-    add-copy
-    worker-at-requires
-    add-copy-2
-    mul-copy-2
-    add-copy-3
-    copy-requires
-    same-length
-    returns)
+    tie.close (tie.spec (λ c. search needs) (λ c. search needs) (λ c κs. search needs) add-copy-2 (λ c. search needs)
+    add-copy-3 copy-requires (λ c. search needs) returns)

@@ -2,30 +2,12 @@
 -- Rests on the cases of `stateStepAt` and the laws of single bits.
 use mathlib.Core.Path.{_∙_}
 use Rattle.bucket.specs.State.{bit}
-use Rattle.layout.specs.Places.{workerAt}
+use Rattle.fields.specs.Regions.{workerAt}
 use Rattle.engine.proofs.Bits.{mark-set}
 use Rattle.engine.proofs.Cases.{step-none, step-marked, step-kept}
 use borrow.Author.Needs.{needs}
 use Rattle.engine.proofs.steps.state_step.Statement.{statement}
 use Rattle.engine.proofs.steps.state_step.Tie as tie
-
-marking-requires : tie.Need-marking-requires
-marking-requires c κs = search needs
-
-worker-word-requires : tie.Need-worker-word-requires
-worker-word-requires c κs = search needs
-
-shr-if2 : tie.Need-shr-if2
-shr-if2 c = search needs
-
-flip-bit-requires : tie.Need-flip-bit-requires
-flip-bit-requires c κs = search needs
-
-put-worker-word-requires : tie.Need-put-worker-word-requires
-put-worker-word-requires c κs = search needs
-
-same-length : tie.Need-same-length
-same-length c = search needs
 
 returns : tie.Need-returns
 unfolding bit
@@ -37,11 +19,9 @@ returns c =
     let marked = read .before .before in
     let args = marked .before .before .before .before .args in
     rw (put .put-worker-word .ensures)
-    (step-marked (args .words .now) (args .g) (workerAt (args .g .workers) (args .w)) (args .j) _ (marked .before .marking .ensures) (marked .if1 .taken) _ _
+    (step-marked (args .words .now) (args .g) (workerAt (args .g .workers) (args .w)) (args .j) _ (marked .before .marking .ensures)
+    (marked .if1 .taken) _ _
     (read .worker-word .ensures) (flipped .flip-bit .ensures ∙ mark-set _ (args .j) (clear .if2 .taken)))
-
-same-length-2 : tie.Need-same-length-2
-same-length-2 c = search needs
 
 returns-2 : tie.Need-returns-2
 unfolding bit
@@ -49,11 +29,9 @@ returns-2 c =
     let read = c .before in
     let marked = read .before .before in
     let args = marked .before .before .before .before .args in
-    step-kept (args .words .now) (args .g) (workerAt (args .g .workers) (args .w)) (args .j) _ (marked .before .marking .ensures) (marked .if1 .taken) _
+    step-kept (args .words .now) (args .g) (workerAt (args .g .workers) (args .w)) (args .j) _ (marked .before .marking .ensures)
+    (marked .if1 .taken) _
     (read .worker-word .ensures) (c .if2 .left)
-
-same-length-3 : tie.Need-same-length-3
-same-length-3 c = search needs
 
 returns-3 : tie.Need-returns-3
 returns-3 c =
@@ -62,16 +40,5 @@ returns-3 c =
 
 pub state-step-spec : {M : Type 1} → statement M
 state-step-spec =
-    tie.close
-    (tie.spec
-    marking-requires
-    worker-word-requires
-    shr-if2
-    flip-bit-requires
-    put-worker-word-requires
-    same-length
-    returns
-    same-length-2
-    returns-2
-    same-length-3
-    returns-3)
+    tie.close (tie.spec (λ c κs. search needs) (λ c κs. search needs) (λ c. search needs) (λ c κs. search needs)
+    (λ c κs. search needs) (λ c. search needs) returns (λ c. search needs) returns-2 (λ c. search needs) returns-3)

@@ -4,7 +4,8 @@ use Prim.Native.Nat.{_+_, _≤_}
 use native.Mathlib.Omega.{arith}
 use mathlib.Core.Path.{_≡_, _∙_, ap}
 use lib.ListN.{length}
-use Rattle.layout.specs.Places.{workerAt}
+use Rattle.fields.specs.Fields.{widestRecord}
+use Rattle.fields.specs.Regions.{workerAt}
 use Rattle.engine.specs.Engine.{swappedAt}
 use Rattle.layout.proofs.Positions.{held-inside}
 use Rattle.engine.proofs.Cases.{swap-none, swap-done}
@@ -13,23 +14,14 @@ use Rattle.engine.proofs.steps.swap.Statement.{statement}
 use Rattle.engine.proofs.steps.swap.Tie as tie
 
 -- the record that the worker holds is inside the words
-inside : (c : tie.After-held-by) → c .held-by .result + 54 ≤ length (c .before .before .before .args .words .now)
+inside : (c : tie.After-held-by) → c .held-by .result + widestRecord ≤ length (c .before .before .before .args .words .now)
 inside c = let start = c .before .before .before in rw (c .held-by .ensures) (held-inside (start .pre .0) _)
-
-held-by-requires : tie.Need-held-by-requires
-held-by-requires c κs = search needs
-
-worker-word-requires : tie.Need-worker-word-requires
-worker-word-requires c κs = search needs
 
 add-get : tie.Need-add-get
 add-get c = let h = inside (c .before .before .before) in omega arith
 
 get-requires : tie.Need-get-requires
 get-requires c κs = let h = inside (c .before .before .before) in omega arith
-
-same-length : tie.Need-same-length
-same-length c = search needs
 
 returns : tie.Need-returns
 returns c =
@@ -39,9 +31,6 @@ returns c =
     let p = workerAt (args .g .workers) (args .w) in
     swap-none (args .words .now) (args .g) p _ _ _ (read .worker-word .ensures) (c .before .get .ensures) (c .if1 .taken)
     ∙ ap (swappedAt (args .words .now) (args .g) p) (held .held-by .ensures)
-
-fresh-number-requires : tie.Need-fresh-number-requires
-fresh-number-requires c κs = search needs
 
 round-requires : tie.Need-round-requires
 round-requires c κs =
@@ -62,9 +51,6 @@ put-requires c κs =
     let e : length (round .round .last .0) ≡ length (start .args .words .now) = search needs in
     omega arith
 
-same-length-2 : tie.Need-same-length-2
-same-length-2 c = search needs
-
 returns-2 : tie.Need-returns-2
 returns-2 c =
     let put = c .before .before in
@@ -82,17 +68,5 @@ returns-2 c =
 
 pub swap-spec : {M : Type 1} → statement M
 swap-spec =
-    tie.close
-    (tie.spec
-    held-by-requires
-    worker-word-requires
-    add-get
-    get-requires
-    same-length
-    returns
-    fresh-number-requires
-    round-requires
-    add-put
-    put-requires
-    same-length-2
-    returns-2)
+    tie.close (tie.spec (λ c κs. search needs) (λ c κs. search needs) add-get get-requires (λ c. search needs)
+    returns (λ c κs. search needs) round-requires add-put put-requires (λ c. search needs) returns-2)

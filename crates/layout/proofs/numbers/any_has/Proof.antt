@@ -18,20 +18,11 @@ abbrev μ-loop : tie.MeasureT-loop
 loop-holds : tie.Need-loop-holds Inv-loop μ-loop
 loop-holds c = (search needs, refl)
 
-sub-j : tie.Need-sub-j Inv-loop μ-loop
-sub-j c = search needs
-
-worker-word-requires : tie.Need-worker-word-requires Inv-loop μ-loop
-worker-word-requires c κs = search needs
-
 returns : tie.Need-returns Inv-loop μ-loop
 returns c =
     let read = c .before in
     let turn = read .before in
     sym (any-hit _ _ (turn .loop-test .taken) (eq-eqb _ _ (sym (read .worker-word .ensures) ∙ c .if1 .taken))) ∙ turn .before .loop .inv .1
-
-loop-less : tie.Need-loop-less Inv-loop μ-loop
-loop-less c = search needs
 
 loop-again : tie.Need-loop-again Inv-loop μ-loop
 loop-again c =
@@ -46,14 +37,5 @@ returns-2 c = sym (any-none _ _ (c .loop-test .left)) ∙ c .before .loop .inv .
 
 pub any-has-spec : {M : Type 1} → statement M
 any-has-spec =
-    tie.close
-    (tie.spec
-    Inv-loop
-    μ-loop
-    loop-holds
-    sub-j
-    worker-word-requires
-    returns
-    loop-less
-    loop-again
-    returns-2)
+    tie.close (tie.spec Inv-loop μ-loop loop-holds (λ c. search needs) (λ c κs. search needs) returns
+    (λ c. search needs) loop-again returns-2)

@@ -30,19 +30,14 @@ returns c =
     let tested = c .before in
     sym (least-hit _ _ _ (sym (tested .any-has .ensures) ∙ not-true _ (c .if2 .taken))) ∙ tested .before .before .before .loop .inv .1
 
-add-x : tie.Need-add-x Inv-loop μ-loop
-add-x c = search needs
-
-loop-less : tie.Need-loop-less Inv-loop μ-loop
-loop-less c = search needs
-
 loop-again : tie.Need-loop-again Inv-loop μ-loop
 unfolding directoryTaken
 loop-again c =
     let tested = c .before in
     let turn = tested .before in (
       search needs,
-      least-turn _ _ _ (turn .if1 .taken) (sym (tested .any-has .ensures) ∙ not-false _ (c .if2 .left)) ∙ turn .before .before .loop .inv .1,
+      least-turn _ _ _ (turn .if1 .taken) (sym (tested .any-has .ensures) ∙ not-false _ (c .if2 .left))
+          ∙ turn .before .before .loop .inv .1,
     )
 
 returns-2 : tie.Need-returns-2 Inv-loop μ-loop
@@ -50,14 +45,5 @@ returns-2 c = sym (least-end _ _ _ (c .if1 .left)) ∙ c .before .before .loop .
 
 pub fresh-directory-spec : {M : Type 1} → statement M
 fresh-directory-spec =
-    tie.close
-    (tie.spec
-    Inv-loop
-    μ-loop
-    loop-holds
-    any-has-requires
-    returns
-    add-x
-    loop-less
-    loop-again
-    returns-2)
+    tie.close (tie.spec Inv-loop μ-loop loop-holds any-has-requires returns (λ c. search needs) (λ c. search needs)
+    loop-again returns-2)

@@ -20,15 +20,6 @@ loop-holds : tie.Need-loop-holds Inv-loop μ-loop
 unfolding numberTaken
 loop-holds c = (search needs, refl)
 
-sub-j : tie.Need-sub-j Inv-loop μ-loop
-sub-j c = search needs
-
-worker-word-requires : tie.Need-worker-word-requires Inv-loop μ-loop
-worker-word-requires c κs = search needs
-
-worker-word-requires-2 : tie.Need-worker-word-requires-2 Inv-loop μ-loop
-worker-word-requires-2 c κs = search needs
-
 returns : tie.Need-returns Inv-loop μ-loop
 returns c =
     let second = c .before in
@@ -36,29 +27,26 @@ returns c =
     let first = tested .before in
     let turn = first .before in
     sym (any-hit _ _ (turn .loop-test .taken)
-    (and-true (eq-eqb _ _ (sym (first .worker-word .ensures) ∙ tested .if1 .taken)) (eq-eqb _ _ (sym (second .worker-word2 .ensures) ∙ c .if2 .taken))))
+    (and-true (eq-eqb _ _ (sym (first .worker-word .ensures) ∙ tested .if1 .taken))
+    (eq-eqb _ _ (sym (second .worker-word2 .ensures) ∙ c .if2 .taken))))
     ∙ turn .before .loop .inv .1
-
-loop-less : tie.Need-loop-less Inv-loop μ-loop
-loop-less c = search needs
 
 loop-again : tie.Need-loop-again Inv-loop μ-loop
 loop-again c =
     let second = c .before in
     let turn = second .before .before .before in (
       search needs,
-      any-turn _ _ (turn .loop-test .taken) (and-no _ (ne-eqb _ _ (λ e. c .if2 .left (second .worker-word2 .ensures ∙ e)))) ∙ turn .before .loop .inv .1,
+      any-turn _ _ (turn .loop-test .taken) (and-no _ (ne-eqb _ _ (λ e. c .if2 .left (second .worker-word2 .ensures ∙ e))))
+          ∙ turn .before .loop .inv .1,
     )
-
-loop-less-2 : tie.Need-loop-less-2 Inv-loop μ-loop
-loop-less-2 c = search needs
 
 loop-again-2 : tie.Need-loop-again-2 Inv-loop μ-loop
 loop-again-2 c =
     let first = c .before in
     let turn = first .before in (
       search needs,
-      any-turn _ _ (turn .loop-test .taken) (and-left-false _ (ne-eqb _ _ (λ e. c .if1 .left (first .worker-word .ensures ∙ e)))) ∙ turn .before .loop .inv .1,
+      any-turn _ _ (turn .loop-test .taken) (and-left-false _ (ne-eqb _ _ (λ e. c .if1 .left (first .worker-word .ensures ∙ e))))
+          ∙ turn .before .loop .inv .1,
     )
 
 returns-2 : tie.Need-returns-2 Inv-loop μ-loop
@@ -66,17 +54,5 @@ returns-2 c = sym (any-none _ _ (c .loop-test .left)) ∙ c .before .loop .inv .
 
 pub number-taken-spec : {M : Type 1} → statement M
 number-taken-spec =
-    tie.close
-    (tie.spec
-    Inv-loop
-    μ-loop
-    loop-holds
-    sub-j
-    worker-word-requires
-    worker-word-requires-2
-    returns
-    loop-less
-    loop-again
-    loop-less-2
-    loop-again-2
-    returns-2)
+    tie.close (tie.spec Inv-loop μ-loop loop-holds (λ c. search needs) (λ c κs. search needs) (λ c κs. search needs)
+    returns (λ c. search needs) loop-again (λ c. search needs) loop-again-2 returns-2)

@@ -9,24 +9,6 @@ use Rattle.layout.proofs.Positions.{start-bound}
 use Rattle.layout.proofs.records.current.Statement.{statement}
 use Rattle.layout.proofs.records.current.Tie as tie
 
-directory-start-requires : tie.Need-directory-start-requires
-directory-start-requires c κs = search needs
-
-add-get : tie.Need-add-get
-add-get c = search needs
-
-get-requires : tie.Need-get-requires
-get-requires c κs = search needs
-
-add-get-2 : tie.Need-add-get-2
-add-get-2 c = search needs
-
-get-requires-2 : tie.Need-get-requires-2
-get-requires-2 c κs = search needs
-
-first-entry-requires : tie.Need-first-entry-requires
-first-entry-requires c κs = search needs
-
 add-e : tie.Need-add-e
 add-e c =
     let start = c .before .before .before .before .before in
@@ -38,9 +20,6 @@ add-e c =
       entry-below (start .args .g) (c .before .before .get .result) (c .before .get2 .result),
       pow-mono (start .pre .0 .depth),
     )
-
-get-or-requires : tie.Need-get-or-requires
-get-or-requires c κs = search needs
 
 returns : tie.Need-returns
 unfolding currentAt
@@ -56,14 +35,5 @@ returns c =
 
 pub current-spec : {M : Type 1} → statement M
 current-spec =
-    tie.close
-    (tie.spec
-    directory-start-requires
-    add-get
-    get-requires
-    add-get-2
-    get-requires-2
-    first-entry-requires
-    add-e
-    get-or-requires
-    returns)
+    tie.close (tie.spec (λ c κs. search needs) (λ c. search needs) (λ c κs. search needs) (λ c. search needs)
+    (λ c κs. search needs) (λ c κs. search needs) add-e (λ c κs. search needs) returns)

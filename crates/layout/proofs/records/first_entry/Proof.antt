@@ -10,21 +10,13 @@ use Rattle.layout.proofs.Pool.{shift-one, entry-is, width-one, entry-pr
 use Rattle.layout.proofs.records.first_entry.Statement.{statement}
 use Rattle.layout.proofs.records.first_entry.Tie as tie
 
-shl-span : tie.Need-shl-span
-shl-span c = search needs
-
-sub-width : tie.Need-sub-width
-sub-width c = search needs
-
-shl-width : tie.Need-shl-width
-shl-width c = search needs
-
 rem-result : tie.Need-rem-result
 rem-result c =
     let start = c .before .before .before in
     omega (arith, pow-mono (start .pre), pow-pos (start .args .g .depth))
 
-width-is : (c : tie.After-row-known) → let args = c .before .before .before .before .args in c .before .if1 .width ≡ 2 ^ (args .g .depth - args .d)
+width-is :
+    (c : tie.After-row-known) → let args = c .before .before .before .before .args in c .before .if1 .width ≡ 2 ^ (args .g .depth - args .d)
 width-is c = ⊎-elim (λ w. w .2 ∙ shift-one _ (omega arith)) (λ w. w .1 ∙ width-one _ _ (w .0 .left)) (c .before .if1 .came)
 
 mul-result : tie.Need-mul-result
@@ -44,4 +36,5 @@ returns c =
 
 pub first-entry-spec : {M : Type 1} → statement M
 first-entry-spec =
-    tie.close (tie.spec shl-span sub-width shl-width rem-result mul-result rem-result-2 returns)
+    tie.close (tie.spec (λ c. search needs) (λ c. search needs) (λ c. search needs) rem-result mul-result
+    rem-result-2 returns)

@@ -3,12 +3,9 @@
 use native.Mathlib.Omega.{arith}
 use lib.Pow.{pow-mono}
 use borrow.Author.Needs.{needs}
-use Rattle.layout.specs.Records.{poolOf}
+use Rattle.fields.specs.Regions.{poolSize}
 use Rattle.layout.proofs.records.pool.Statement.{statement}
 use Rattle.layout.proofs.records.pool.Tie as tie
-
-shl-result : tie.Need-shl-result
-shl-result c = search needs
 
 add-result : tie.Need-add-result
 add-result c = omega (arith, pow-mono (c .pre .1))
@@ -17,8 +14,8 @@ add-result-2 : tie.Need-add-result-2
 add-result-2 c = omega (arith, pow-mono (c .pre .1))
 
 returns : tie.Need-returns
-unfolding poolOf
+unfolding poolSize
 returns c = omega (arith, pow-mono (c .pre .1))
 
 pub pool-spec : {M : Type 1} → statement M
-pool-spec = tie.close (tie.spec shl-result add-result add-result-2 returns)
+pool-spec = tie.close (tie.spec (λ c. search needs) add-result add-result-2 returns)

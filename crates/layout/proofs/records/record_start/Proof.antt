@@ -8,33 +8,15 @@ use Rattle.layout.proofs.Positions.{start-bound}
 use Rattle.layout.proofs.records.record_start.Statement.{statement}
 use Rattle.layout.proofs.records.record_start.Tie as tie
 
-directory-start-requires : tie.Need-directory-start-requires
-directory-start-requires c κs = search needs
-
-shl-result : tie.Need-shl-result
-shl-result c = search needs
-
 add-result : tie.Need-add-result
 add-result c =
     let known = c .before .pre in
     omega (arith, c .directory-start .ensures, start-bound (c .before .args .g .workers) (known .0), pow-mono (known .1 .1 .0))
 
-mul-result : tie.Need-mul-result
-mul-result c = search needs
-
-mul-result-2 : tie.Need-mul-result-2
-mul-result-2 c = search needs
-
-add-result-2 : tie.Need-add-result-2
-add-result-2 c = search needs
-
-add-result-3 : tie.Need-add-result-3
-add-result-3 c = search needs
-
 mul-result-3 : tie.Need-mul-result-3
 mul-result-3 c =
     let known = c .before .pre in
-    omega (arith, product-bound (c .before .args .g) (c .before .args .r) (known .0) (known .1 .0) (known .1 .1 .1))
+    omega (arith, product-bound (c .before .args .g) (c .before .args .r) (known .0) (known .1 .0) (known .1 .1 .0) (known .1 .1 .1))
 
 add-result-4 : tie.Need-add-result-4
 add-result-4 c =
@@ -44,7 +26,7 @@ add-result-4 c =
       c .directory-start .ensures,
       start-bound (c .before .args .g .workers) (known .0),
       pow-mono (known .1 .1 .0),
-      product-bound (c .before .args .g) (c .before .args .r) (known .0) (known .1 .0) (known .1 .1 .1),
+      product-bound (c .before .args .g) (c .before .args .r) (known .0) (known .1 .0) (known .1 .1 .0) (known .1 .1 .1),
     )
 
 returns : tie.Need-returns
@@ -52,15 +34,5 @@ returns c = start-is (c .before .args .g) (c .before .args .r) _ _ (c .directory
 
 pub record-start-spec : {M : Type 1} → statement M
 record-start-spec =
-    tie.close
-    (tie.spec
-    directory-start-requires
-    shl-result
-    add-result
-    mul-result
-    mul-result-2
-    add-result-2
-    add-result-3
-    mul-result-3
-    add-result-4
-    returns)
+    tie.close (tie.spec (λ c κs. search needs) (λ c. search needs) add-result (λ c. search needs) (λ c. search needs)
+    (λ c. search needs) (λ c. search needs) mul-result-3 add-result-4 returns)

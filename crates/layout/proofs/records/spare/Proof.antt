@@ -7,14 +7,15 @@ use mathlib.Core.Path.{_≡_, sym, _∙_, ap}
 use mathlib.Core.Logic.{⊎-elim}
 use borrow.Author.Needs.{needs}
 use borrow.Author.Tests.{not-false, not-true}
-use Rattle.layout.specs.Records.{poolOf, spareFrom, spareOf}
+use Rattle.fields.specs.Regions.{poolSize}
+use Rattle.layout.specs.Records.{spareFrom, spareOf}
 use Rattle.layout.proofs.Pool.{pool-bound, spare-start, spare-found, spare-up, spare-round, spare-end}
 use Rattle.layout.proofs.Positions.{long}
 use Rattle.layout.proofs.records.spare.Statement.{statement}
 use Rattle.layout.proofs.records.spare.Tie as tie
 
 abbrev Inv-loop : tie.InvT-loop
-Inv-loop words g all r₀ k₀ r k = (r < poolOf g) × (spareFrom words g r k ≡ spareOf words g)
+Inv-loop words g all r₀ k₀ r k = (r < poolSize g) × (spareFrom words g r k ≡ spareOf words g)
 
 abbrev μ-loop : tie.MeasureT-loop
 μ-loop words g all r₀ k₀ r k = k
@@ -26,11 +27,11 @@ get-requires : tie.Need-get-requires Inv-loop μ-loop
 get-requires c κs = omega (arith, long (c .before .before .pre .fits))
 
 rem-r : tie.Need-rem-r Inv-loop μ-loop
-unfolding poolOf
+unfolding poolSize
 rem-r c = omega (arith, c .before .pool .ensures)
 
 loop-holds : tie.Need-loop-holds Inv-loop μ-loop
-unfolding poolOf
+unfolding poolSize
 loop-holds c =
     let few : 0 < c .before .pool .result = omega (arith, c .before .pool .ensures) in
     (omega (arith, c .before .pool .ensures, mod-lt (c .get .result) few), spare-start _ _ _ _ (c .before .pool .ensures) (c .get .ensures))
@@ -41,7 +42,8 @@ used-requires c κs = (c .before .before .before .before .before .pre, c .before
 returns : tie.Need-returns Inv-loop μ-loop
 returns c =
     let turn = c .before .before in
-    sym (spare-found _ _ _ _ (turn .loop-test .taken) (sym (c .before .used .ensures) ∙ not-true _ (c .if1 .taken))) ∙ turn .before .loop .inv .1
+    sym (spare-found _ _ _ _ (turn .loop-test .taken) (sym (c .before .used .ensures) ∙ not-true _ (c .if1 .taken)))
+    ∙ turn .before .loop .inv .1
 
 add-if2 : tie.Need-add-if2 Inv-loop μ-loop
 add-if2 c =
@@ -55,12 +57,6 @@ add-r c =
     let fits = here .before .before .before .before .pre .fits in
     omega (arith, here .loop .inv .0, pool-bound (here .before .before .before .before .args .g) (fits .workers) (fits .depth))
 
-sub-k : tie.Need-sub-k Inv-loop μ-loop
-sub-k c = search needs
-
-loop-less : tie.Need-loop-less Inv-loop μ-loop
-loop-less c = search needs
-
 loop-again : tie.Need-loop-again Inv-loop μ-loop
 loop-again c =
     let tested = c .before in
@@ -71,8 +67,16 @@ loop-again c =
     let search-from : ℕ → ℕ = λ (r : ℕ). spareFrom (here .before .before .before .before .args .words .now)
     (here .before .before .before .before .args .g) r (here .loop .k - 1) in
     ⊎-elim
-    (λ w. (omega arith, ap search-from (w .1) ∙ spare-up _ _ _ _ (turn .loop-test .taken) full (omega (arith, w .0 .taken)) ∙ here .loop .inv .1))
-    (λ w. (omega arith, ap search-from (w .1) ∙ spare-round _ _ _ _ (turn .loop-test .taken) full (omega (arith, w .0 .left)) ∙ here .loop .inv .1))
+    (λ w. (
+      omega arith,
+      ap search-from (w .1) ∙ spare-up _ _ _ _ (turn .loop-test .taken) full (omega (arith, w .0 .taken))
+          ∙ here .loop .inv .1,
+    ))
+    (λ w. (
+      omega arith,
+      ap search-from (w .1) ∙ spare-round _ _ _ _ (turn .loop-test .taken) full (omega (arith, w .0 .left))
+          ∙ here .loop .inv .1,
+    ))
     (c .if2 .came)
 
 returns-2 : tie.Need-returns-2 Inv-loop μ-loop
@@ -80,19 +84,5 @@ returns-2 c = sym (spare-end _ _ _ _ (c .loop-test .left)) ∙ c .before .loop .
 
 pub spare-spec : {M : Type 1} → statement M
 spare-spec =
-    tie.close
-    (tie.spec
-    Inv-loop
-    μ-loop
-    pool-requires
-    get-requires
-    rem-r
-    loop-holds
-    used-requires
-    returns
-    add-if2
-    add-r
-    sub-k
-    loop-less
-    loop-again
-    returns-2)
+    tie.close (tie.spec Inv-loop μ-loop pool-requires get-requires rem-r loop-holds used-requires returns add-if2
+    add-r (λ c. search needs) (λ c. search needs) loop-again returns-2)

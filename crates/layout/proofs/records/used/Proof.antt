@@ -11,7 +11,14 @@ record-start-requires : tie.Need-record-start-requires
 record-start-requires c κs =
     let whole = c .before .pre .0 in (
       whole .fits .workers,
-      (whole .fits .capacity, (whole .fits .depth, omega (arith, pool-bound (c .before .args .g) (whole .fits .workers) (whole .fits .depth)))),
+      (
+        whole .fits .capacity,
+        (
+          whole .fits .depth,
+          omega
+              (arith, pool-bound (c .before .args .g) (whole .fits .workers) (whole .fits .depth)),
+        ),
+      ),
     )
 
 current-requires : tie.Need-current-requires
@@ -24,9 +31,6 @@ returns c =
     let tested = c .before in
     used-current _ _ _ _ _ (tested .before .record-start .ensures) (tested .current .ensures) (c .if1 .taken)
 
-any-has-requires : tie.Need-any-has-requires
-any-has-requires c κs = search needs
-
 returns-2 : tie.Need-returns-2
 unfolding heldByAny
 returns-2 c =
@@ -34,6 +38,4 @@ returns-2 c =
     used-held _ _ _ _ _ (tested .before .record-start .ensures) (tested .current .ensures) _ (c .before .if1 .left) (c .any-has .ensures)
 
 pub used-spec : {M : Type 1} → statement M
-used-spec =
-    tie.close
-    (tie.spec record-start-requires current-requires returns any-has-requires returns-2)
+used-spec = tie.close (tie.spec record-start-requires current-requires returns (λ c κs. search needs) returns-2)

@@ -6,15 +6,10 @@ use Rattle.layout.specs.Shape.{settingsOf}
 use Rattle.layout.proofs.shape.settings_of.Statement.{statement}
 use Rattle.layout.proofs.shape.settings_of.Tie as tie
 
-add-t3 : tie.Need-add-t3
-add-t3 c = search needs
-
-add-t6 : tie.Need-add-t6
-add-t6 c = search needs
-
 returns : tie.Need-returns
 unfolding settingsOf
 returns c = refl
 
 pub settings-of-spec : {M : Type 1} → statement M
-settings-of-spec = tie.close (tie.spec add-t3 add-t6 returns)
+settings-of-spec =
+    tie.close (tie.spec (λ c. search needs) (λ c. search needs) (λ c. search needs) (λ c. search needs) returns)

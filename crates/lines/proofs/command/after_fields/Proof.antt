@@ -10,9 +10,6 @@ use Rattle.lines.proofs.Splitting.{one-field, more-fields, too-many}
 use Rattle.lines.proofs.command.after_fields.Statement.{statement}
 use Rattle.lines.proofs.command.after_fields.Tie as tie
 
-first-field-requires : tie.Need-first-field-requires
-first-field-requires c κs = search needs
-
 returns : tie.Need-returns
 returns c =
     let s = c .before .before .before .before .before in
@@ -21,9 +18,6 @@ returns c =
     too-many (s .args .letter ∷ []) (s .args .x .now) (s .args .y .now) (take n l) (drop (n + 1) l)
     ∙ sym (ap (λ (fs : List (List ℕ)). ofFields ((s .args .letter ∷ []) ∷ s .args .x .now ∷ s .args .y .now ∷ fs))
     (more-fields l n (c .before .first-field .ensures) (c .if1 .taken)))
-
-four-fields-requires : tie.Need-four-fields-requires
-four-fields-requires c κs = search needs
 
 returns-2 : tie.Need-returns-2
 unfolding ofFields letterOf
@@ -35,5 +29,4 @@ returns-2 c =
     (one-field l (rw (sym (c .before .before .first-field .ensures)) (c .before .if1 .left))))
 
 pub after-fields-spec : {M : Type 1} → statement M
-after-fields-spec =
-    tie.close (tie.spec first-field-requires returns four-fields-requires returns-2)
+after-fields-spec = tie.close (tie.spec (λ c κs. search needs) returns (λ c κs. search needs) returns-2)

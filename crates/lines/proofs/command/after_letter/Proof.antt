@@ -11,9 +11,6 @@ use Rattle.lines.proofs.Splitting.{one-field, more-fields, part-from}
 use Rattle.lines.proofs.command.after_letter.Statement.{statement}
 use Rattle.lines.proofs.command.after_letter.Tie as tie
 
-first-field-requires : tie.Need-first-field-requires
-first-field-requires c κs = search needs
-
 returns : tie.Need-returns
 unfolding ofFields
 returns c =
@@ -21,43 +18,21 @@ returns c =
     sym (ap (λ (fs : List (List ℕ)). ofFields ((c .before .before .before .args .letter ∷ []) ∷ fs))
     (one-field l (rw (sym (c .before .first-field .ensures)) (c .if1 .taken))))
 
-add-next : tie.Need-add-next
-add-next c = search needs
-
 slice-aggregate-after-field : tie.Need-slice-aggregate-after-field
 slice-aggregate-after-field c = sym (length-take-le _ _ (omega arith))
 
-sub-after-field : tie.Need-sub-after-field
-sub-after-field c = search needs
-
-part-after-field-start : tie.Need-part-after-field-start
-part-after-field-start c = search needs
-
-part-after-field-end : tie.Need-part-after-field-end
-part-after-field-end c = search needs
-
-after-field-requires : tie.Need-after-field-requires
-after-field-requires c κs = search needs
-
 returns-2 : tie.Need-returns-2
 returns-2 c =
-    let s = c .before .before .before .before .before .before in
+    let g = c .before .before .before in
+    let p = g .before in
+    let s = p .before .before in
     let l = s .args .rest .now in
-    let n = c .before .before .before .before .first-field .result in
+    let n = p .first-field .result in
     c .after-field .ensures
     ∙ rw (part-from l (n + 1)) (sym (ap (λ (fs : List (List ℕ)). ofFields ((s .args .letter ∷ []) ∷ fs))
-    (more-fields l n (c .before .before .before .before .first-field .ensures) (c .before .before .before .if1 .left))))
+    (more-fields l n (p .first-field .ensures) (g .if1 .left))))
 
 pub after-letter-spec : {M : Type 1} → statement M
 after-letter-spec =
-    tie.close
-    (tie.spec
-    first-field-requires
-    returns
-    add-next
-    slice-aggregate-after-field
-    sub-after-field
-    part-after-field-start
-    part-after-field-end
-    after-field-requires
-    returns-2)
+    tie.close (tie.spec (λ c κs. search needs) returns (λ c. search needs) slice-aggregate-after-field
+    (λ c. search needs) (λ c. search needs) (λ c. search needs) (λ c κs. search needs) returns-2)

@@ -4,29 +4,23 @@ use mathlib.Core.Path.{_∙_}
 use borrow.Author.Tests.{ne-eqb}
 use borrow.Author.Needs.{needs}
 use Rattle.machine.specs.Choice.{if_then_else_}
-use Rattle.lines.specs.Grammar.{fourFields}
+use Rattle.lines.specs.Grammar.{openLetter, insertLetter, operationCommand, fourFields}
 use Rattle.lines.proofs.command.four_fields.Statement.{statement}
 use Rattle.lines.proofs.command.four_fields.Tie as tie
-
-open-requires : tie.Need-open-requires
-open-requires c κs = search needs
-
-insert-requires : tie.Need-insert-requires
-insert-requires c κs = search needs
 
 returns : tie.Need-returns
 unfolding fourFields if_then_else_
 returns c = c .open .ensures ∙ rw (c .before .match .keys1)
 
 returns-2 : tie.Need-returns-2
-unfolding fourFields if_then_else_
-returns-2 c = c .insert .ensures ∙ rw (c .before .match .keys2)
+unfolding fourFields operationCommand if_then_else_
+returns-2 c = c .operation .ensures ∙ rw (c .before .match .keys2)
 
 returns-3 : tie.Need-returns-3
 unfolding fourFields if_then_else_
 returns-3 c =
     let a = c .before .before .before .before .args .letter in
-    rw (ne-eqb a 79 (c .match .rest .0 .1), ne-eqb a 73 (c .match .rest .1))
+    rw (ne-eqb a openLetter (c .match .rest .0 .1), ne-eqb a insertLetter (c .match .rest .1))
 
 pub four-fields-spec : {M : Type 1} → statement M
-four-fields-spec = tie.close (tie.spec open-requires insert-requires returns returns-2 returns-3)
+four-fields-spec = tie.close (tie.spec (λ c κs. search needs) (λ c κs. search needs) returns returns-2 returns-3)

@@ -5,9 +5,6 @@ use Rattle.lines.proofs.Splitting.{letter-one, letter-none}
 use Rattle.lines.proofs.command.letter.Statement.{statement}
 use Rattle.lines.proofs.command.letter.Tie as tie
 
-shared-slice-read-result : tie.Need-shared-slice-read-result
-shared-slice-read-result c = search needs
-
 returns : tie.Need-returns
 returns c = letter-one _ (c .before .if1 .taken)
 
@@ -15,4 +12,4 @@ returns-2 : tie.Need-returns-2
 returns-2 c = letter-none _ (c .if1 .left)
 
 pub letter-spec : {M : Type 1} → statement M
-letter-spec = tie.close (tie.spec shared-slice-read-result returns returns-2)
+letter-spec = tie.close (tie.spec (λ c. search needs) returns returns-2)

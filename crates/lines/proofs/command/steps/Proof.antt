@@ -1,73 +1,36 @@
--- `steps`: two fields, each of which is read, and the second is not 0.
+-- `steps`: two numbers, of which the second has a least value too.
 -- Rests on the laws that it cites and on the contracts of what is called.
-use mathlib.Core.Path.{_≡_, sym, _∙_}
+use mathlib.Core.Path.{_≡_, sym, _∙_, ap}
 use mathlib.Core.Option.{some}
-use native.Mathlib.Nat.{pos-of-ne-zero}
-use borrow.Author.Tests.{le-leb}
+use borrow.Author.Tests.{le-leb, lt-leb}
 use borrow.Author.Needs.{needs}
 use Rattle.machine.specs.Choice.{if_then_else_}
+use Rattle.lines.specs.declared.command.Command.the-variants.{Steps}
 use Rattle.lines.specs.Numerals.{numeral, upTo, from}
-use Rattle.lines.specs.Grammar.{smallOf, stepsOf, with2}
-use Rattle.lines.proofs.Numerals.{number-none, number-some}
+use Rattle.lines.specs.Grammar.{leastSteps, greatestSteps, smallOf, stepsOf, with2}
+use Rattle.lines.proofs.Pairs.{pair-some, unread2}
 use Rattle.lines.proofs.command.steps.Statement.{statement}
 use Rattle.lines.proofs.command.steps.Tie as tie
 
-first : (c : tie.After-known-told)
-    → smallOf (c .before .before .before .before .before .before .args .x .now) ≡ some (c .before .w .given .0 .0)
-unfolding smallOf
-first c = number-some _ (c .before .w .given .0 .0) (sym (c .before .w .given .1) ∙ c .before .before .before .read-number .ensures)
-
-second : (c : tie.After-known-told2)
-    → upTo 9999 (numeral (c .before .before .before .before .before .before .before .before .before .before .args .y .now)) ≡ some
-    (c .before .k .given .0 .0)
-second c = number-some _ (c .before .k .given .0 .0) (sym (c .before .k .given .1) ∙ c .before .before .before .read-number2 .ensures)
-
-read-number-requires : tie.Need-read-number-requires
-read-number-requires c κs = search needs
-
-enum-known-w : tie.Need-enum-known-w
-enum-known-w c = search needs
-
-enum-told : tie.Need-enum-told
-enum-told c = search needs
+both-read : (c : tie.After-known-told) →
+    let p = c .before .before .before in
+    let s = p .before .before .before in
+    let v = c .before .w .given .0 in
+    (smallOf (s .args .x .now) ≡ some (v .0)) × (upTo greatestSteps (numeral (s .args .y .now)) ≡ some (v .1 .0))
+both-read c = pair-some _ _ _ _ (sym (c .before .w .given .1) ∙ c .before .before .before .read-pair .ensures)
 
 returns : tie.Need-returns
-unfolding smallOf with2
-returns c = rw (number-none _ (sym (c .enum-told .given .1) ∙ c .before .before .read-number .ensures))
-
-read-number-requires-2 : tie.Need-read-number-requires-2
-read-number-requires-2 c κs = search needs
-
-enum-known-k : tie.Need-enum-known-k
-enum-known-k c = search needs
-
-enum-told-2 : tie.Need-enum-told-2
-enum-told-2 c = search needs
+unfolding stepsOf from
+returns c = unread2 Steps _ _ _ (ap (from leastSteps)) (sym (c .enum-told .given .1) ∙ c .before .before .read-pair .ensures)
 
 returns-2 : tie.Need-returns-2
-unfolding stepsOf from with2
-returns-2 c =
-    rw (first (c .before .before .before), number-none _ (sym (c .enum-told2 .given .1) ∙ c .before .before .read-number2 .ensures))
+unfolding stepsOf from with2 if_then_else_
+returns-2 c = let b = both-read (c .before) in rw (b .0, b .1, lt-leb leastSteps _ (c .if1 .taken))
 
 returns-3 : tie.Need-returns-3
 unfolding stepsOf from with2 if_then_else_
-returns-3 c = rw (first (c .before .before .before .before .before), second (c .before), c .if1 .taken)
-
-returns-4 : tie.Need-returns-4
-unfolding stepsOf from with2 if_then_else_
-returns-4 c = rw (first (c .before .before .before .before .before), second (c .before), le-leb 1 _ (pos-of-ne-zero (c .if1 .left)))
+returns-3 c = let b = both-read (c .before) in rw (b .0, b .1, le-leb leastSteps _ (c .if1 .left))
 
 pub steps-spec : {M : Type 1} → statement M
 steps-spec =
-    tie.close
-    (tie.spec
-    read-number-requires
-    enum-known-w
-    enum-told
-    returns
-    read-number-requires-2
-    enum-known-k
-    enum-told-2
-    returns-2
-    returns-3
-    returns-4)
+    tie.close (tie.spec (λ c κs. search needs) (λ c. search needs) (λ c. search needs) returns returns-2 returns-3)

@@ -20,9 +20,6 @@ abbrev μ-loop : tie.MeasureT-loop
 loop-holds : tie.Need-loop-holds Inv-loop μ-loop
 loop-holds c = (search needs, (search needs, refl))
 
-shared-slice-read-byte : tie.Need-shared-slice-read-byte Inv-loop μ-loop
-shared-slice-read-byte c = search needs
-
 returns : tie.Need-returns Inv-loop μ-loop
 returns c =
     let l = c .before .before .before in
@@ -37,9 +34,6 @@ returns-2 c =
     let f = s .args .field .now in
     nothing _ (sym (l .loop .inv .1 .1) ∙ stop-high (s .args .most) (l .loop .value) f (l .loop .i) (omega arith) (c .if2 .taken))
 
-wide-requires : tie.Need-wide-requires Inv-loop μ-loop
-wide-requires c κs = search needs
-
 returns-3 : tie.Need-returns-3 Inv-loop μ-loop
 returns-3 c =
     let l = c .before .before .before .before .before .before in
@@ -48,12 +42,6 @@ returns-3 c =
     nothing _ (sym (l .loop .inv .1 .1) ∙ stop-large (s .args .most) (l .loop .value) f (l .loop .i) (omega arith) (omega arith)
     (omega arith) (omega arith))
 
-mul-tens : tie.Need-mul-tens Inv-loop μ-loop
-mul-tens c = search needs
-
-sub-if4 : tie.Need-sub-if4 Inv-loop μ-loop
-sub-if4 c = search needs
-
 returns-4 : tie.Need-returns-4 Inv-loop μ-loop
 returns-4 c =
     let l = c .before .before .before .before .before .before .before in
@@ -61,15 +49,6 @@ returns-4 c =
     let f = s .args .field .now in
     nothing _ (sym (l .loop .inv .1 .1) ∙ stop-large (s .args .most) (l .loop .value) f (l .loop .i) (omega arith) (omega arith)
     (omega arith) (omega arith))
-
-add-value : tie.Need-add-value Inv-loop μ-loop
-add-value c = search needs
-
-add-i : tie.Need-add-i Inv-loop μ-loop
-add-i c = search needs
-
-loop-less : tie.Need-loop-less Inv-loop μ-loop
-loop-less c = search needs
 
 loop-again : tie.Need-loop-again Inv-loop μ-loop
 loop-again c =
@@ -93,21 +72,6 @@ returns-5 c =
 
 pub read-digits-spec : {M : Type 1} → statement M
 read-digits-spec =
-    tie.close
-    (tie.spec
-    Inv-loop
-    μ-loop
-    loop-holds
-    shared-slice-read-byte
-    returns
-    returns-2
-    wide-requires
-    returns-3
-    mul-tens
-    sub-if4
-    returns-4
-    add-value
-    add-i
-    loop-less
-    loop-again
-    returns-5)
+    tie.close (tie.spec Inv-loop μ-loop loop-holds (λ c. search needs) returns returns-2 (λ c κs. search needs)
+    returns-3 (λ c. search needs) (λ c. search needs) returns-4 (λ c. search needs) (λ c. search needs)
+    (λ c. search needs) loop-again returns-5)

@@ -1,4 +1,4 @@
--- `read_negative`: the size is read up to 2 ^ 63, and is not 0; its bits are flipped.
+-- `read_negative`: the size is read up to that of the least total, and is not 0; its bits are flipped.
 -- Rests on the laws that it cites and on the contracts of what is called.
 use Prim.Native.Nat.{ℕ, suc, _-_, _^_, _<_}
 use mathlib.Core.Path.{_≡_, sym, _∙_, ap}
@@ -11,13 +11,13 @@ use mir.Val.{toZ}
 use mir.Facts.{toZ-neg}
 use borrow.Author.Needs.{needs}
 use Rattle.lines.specs.declared.number.Signed.the-variants as Signed
-use Rattle.lines.specs.Numerals.{numeral, minus, upTo}
+use Rattle.lines.specs.Numerals.{numeral, minus, upTo, leastTotalSize}
 use Rattle.lines.proofs.Numerals.{number-none, number-some, no-signed, signed-value, limited, minus-limit, minus-some}
 use Rattle.lines.proofs.number.read_negative.Statement.{statement}
 use Rattle.lines.proofs.number.read_negative.Tie as tie
 
 read : (c : tie.Else1)
-    → upTo (2 ^ 63) (numeral (c .before .before .before .before .before .before .args .field .now)) ≡ some
+    → upTo leastTotalSize (numeral (c .before .before .before .before .before .before .args .field .now)) ≡ some
     (c .before .before .size .given .0 .0)
 read c =
     number-some _ (c .before .before .size .given .0 .0)
@@ -25,15 +25,6 @@ read c =
 
 above : (c : tie.Else1) → 0 < c .before .before .size .given .0 .0
 above c = pos-of-ne-zero (c .if1 .left)
-
-read-number-requires : tie.Need-read-number-requires
-read-number-requires c κs = search needs
-
-enum-known-size : tie.Need-enum-known-size
-enum-known-size c = search needs
-
-enum-told : tie.Need-enum-told
-enum-told c = search needs
 
 returns : tie.Need-returns
 unfolding minus
@@ -45,17 +36,14 @@ returns-2 c =
     no-signed _ (minus-limit _ ∙ ap minus (number-some _ (c .before .before .size .given .0 .0)
     (sym (c .before .before .size .given .1) ∙ c .before .before .before .before .read-number .ensures) ∙ ap some (c .if1 .taken)))
 
-sub-t5 : tie.Need-sub-t5
-sub-t5 c = search needs
-
 cast-t6 : tie.Need-cast-t6
-cast-t6 c = record { sfits = omega (arith, limited (2 ^ 63) _ _ (read c)) }
+cast-t6 c = record { sfits = omega (arith, limited leastTotalSize _ _ (read c)) }
 
 returns-3 : tie.Need-returns-3
 returns-3 c =
     let n = c .before .before .size .given .0 .0 in
     let h = above c in
-    let k = limited (2 ^ 63) _ _ (read c) in
+    let k = limited leastTotalSize _ _ (read c) in
     let e : 18446744073709551615 - (n - 1) ≡ 2 ^ 64 - suc (n - 1) = omega arith in
     ap (λ (m : ℕ). Signed.Value (toZ w64 m)) e
     ∙ ap Signed.Value (toZ-neg w64 (n - 1) (omega arith))
@@ -63,13 +51,5 @@ returns-3 c =
 
 pub read-negative-spec : {M : Type 1} → statement M
 read-negative-spec =
-    tie.close
-    (tie.spec
-    read-number-requires
-    enum-known-size
-    enum-told
-    returns
-    returns-2
-    sub-t5
-    cast-t6
-    returns-3)
+    tie.close (tie.spec (λ c κs. search needs) (λ c. search needs) (λ c. search needs) returns returns-2
+    (λ c. search needs) cast-t6 returns-3)

@@ -16,9 +16,6 @@ returns c =
     let f = c .before .before .args .field .now in
     nothing _ (ap (upTo (c .before .before .args .most)) (no-bytes f (c .if1 .taken)))
 
-shared-slice-read-if2 : tie.Need-shared-slice-read-if2
-shared-slice-read-if2 c = search needs
-
 returns-2 : tie.Need-returns-2
 returns-2 c =
     let s = c .before .before .before .before .before in
@@ -32,9 +29,6 @@ returns-3 c =
     let f = s .args .field .now in
     nothing _ (ap (upTo (s .args .most)) (leading-zero f (c .before .if2 .taken) (c .if3 .left)))
 
-read-digits-requires : tie.Need-read-digits-requires
-read-digits-requires c κs = search needs
-
 returns-4 : tie.Need-returns-4
 returns-4 c =
     let s = c .before .before .before .before .before in
@@ -44,5 +38,4 @@ returns-4 c =
 
 pub read-number-spec : {M : Type 1} → statement M
 read-number-spec =
-    tie.close
-    (tie.spec returns shared-slice-read-if2 returns-2 returns-3 read-digits-requires returns-4)
+    tie.close (tie.spec returns (λ c. search needs) returns-2 returns-3 (λ c κs. search needs) returns-4)

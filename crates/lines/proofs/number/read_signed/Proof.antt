@@ -17,30 +17,12 @@ returns : tie.Need-returns
 unfolding in64
 returns c = no-signed _ (ap in64 (signed-empty (c .before .before .args .field .now) (c .if1 .taken)))
 
-shared-slice-read-if2 : tie.Need-shared-slice-read-if2
-shared-slice-read-if2 c = search needs
-
-sub-read-negative : tie.Need-sub-read-negative
-sub-read-negative c = search needs
-
-part-read-negative-start : tie.Need-part-read-negative-start
-part-read-negative-start c = search needs
-
-part-read-negative-end : tie.Need-part-read-negative-end
-part-read-negative-end c = search needs
-
-read-negative-requires : tie.Need-read-negative-requires
-read-negative-requires c κs = search needs
-
 returns-2 : tie.Need-returns-2
 returns-2 c =
     let f = c .before .before .before .before .before .before .args .field .now in
     c .read-negative .ensures
     ∙ ap (λ (l : List ℕ). asSigned (in64 (minus (numeral l)))) (part-from f 1)
     ∙ ap (λ (o : Option ℤ). asSigned (in64 o)) (sym (signed-minus f (omega arith) (c .before .before .if2 .taken)))
-
-read-positive-requires : tie.Need-read-positive-requires
-read-positive-requires c κs = search needs
 
 returns-3 : tie.Need-returns-3
 returns-3 c =
@@ -49,14 +31,5 @@ returns-3 c =
 
 pub read-signed-spec : {M : Type 1} → statement M
 read-signed-spec =
-    tie.close
-    (tie.spec
-    returns
-    shared-slice-read-if2
-    sub-read-negative
-    part-read-negative-start
-    part-read-negative-end
-    read-negative-requires
-    returns-2
-    read-positive-requires
-    returns-3)
+    tie.close (tie.spec returns (λ c. search needs) (λ c. search needs) (λ c. search needs) (λ c. search needs)
+    (λ c κs. search needs) returns-2 (λ c κs. search needs) returns-3)

@@ -6,12 +6,6 @@ use borrow.Author.Needs.{needs}
 use Rattle.table.proofs.opening.open.Statement.{statement}
 use Rattle.table.proofs.opening.open.Tie as tie
 
-new-requires : tie.Need-new-requires
-new-requires c κs = search needs
-
-enum-known-s : tie.Need-enum-known-s
-enum-known-s c = search needs
-
 needed-requires : tie.Need-needed-requires
 needed-requires c κs =
     let at-new = c .before .before .before in
@@ -25,23 +19,23 @@ returns c =
 
 fresh-requires : tie.Need-fresh-requires
 fresh-requires c κs =
-    let at-s = c .before .before .before .before in
+    let needed = c .before .before in
+    let before = needed .before in
+    let at-s = before .before in
     let at-new = at-s .before .before in
-    let f = ranged _ _ _ _ _ (at-new .new .ensures) (at-s .s .given .1) in (f .least, (f .workers, (f .least-capacity, (f .capacity, (f .depth, omega (arith, c .before .before .needed .ensures))))))
-
-enum-known-r : tie.Need-enum-known-r
-enum-known-r c = search needs
-
-same-length : tie.Need-same-length
-same-length c = search needs
+    let f = ranged _ _ _ _ _ (at-new .new .ensures) (at-s .s .given .1) in
+    (f .least, (f .workers, (f .least-capacity, (f .capacity, (f .depth, omega (arith, needed .needed .ensures))))))
 
 returns-2 : tie.Need-returns-2
 returns-2 c =
-    let at-if1 = c .before .before .before .before in
+    let fresh = c .before .before in
+    let before = fresh .before in
+    let at-if1 = before .before in
     let at-needed = at-if1 .before in
     let at-s = at-needed .before .before in
     let at-new = at-s .before .before in
-    opened-fresh _ _ _ _ (at-new .new .ensures) _ _ _ (at-s .s .given .1) (at-needed .needed .ensures) _ (at-if1 .if1 .left) (c .before .before .fresh .ensures)
+    opened-fresh _ _ _ _ (at-new .new .ensures) _ _ _ (at-s .s .given .1) (at-needed .needed .ensures) _ (at-if1 .if1 .left)
+    (fresh .fresh .ensures)
 
 returns-3 : tie.Need-returns-3
 returns-3 c =
@@ -50,14 +44,5 @@ returns-3 c =
 
 pub open-spec : {M : Type 1} → statement M
 open-spec =
-    tie.close
-    (tie.spec
-    new-requires
-    enum-known-s
-    needed-requires
-    returns
-    fresh-requires
-    enum-known-r
-    same-length
-    returns-2
-    returns-3)
+    tie.close (tie.spec (λ c κs. search needs) (λ c. search needs) needed-requires returns fresh-requires
+    (λ c. search needs) (λ c. search needs) returns-2 returns-3)

@@ -1,136 +1,138 @@
 -- `check` ends an operation, or lets it go on, as `checkAt` says of what `checkedAt` finds: a case for each `return`.
 -- Rests on the laws of a check, and on the bounds of words that fit.
+use Prim.Native.Nat.{_+_, _≤_}
 use native.Mathlib.Omega.{arith}
-use mathlib.Core.Path.{refl}
-use Rattle.layout.proofs.Positions.{placed}
-use Rattle.table.specs.Turns.{numbered}
-use Rattle.table.proofs.TurnLaws.{held-room, numbered-stored, numbered-none, check-settled, check-room, check-deep, check-crowded}
+use mathlib.Core.Path.{_≡_, refl}
+use lib.ListN.{length}
+use borrow.Author.Tests.{not-true, not-false}
+use Rattle.fields.specs.Fields.{widestRecord}
+use Rattle.bucket.specs.State.{crowdedBy}
+use Rattle.layout.proofs.Positions.{Placed, placed}
+use Rattle.engine.specs.Engine.{crowdedAt}
+use Rattle.engine.proofs.Cases.{both-read}
+use Rattle.table.specs.Turns.{numbered, updateAt}
+use Rattle.table.proofs.TurnLaws.{held-room, numbered-stored, numbered-none, check-settled, check-moved, check-crowded}
 use borrow.Author.Needs.{needs}
 use Rattle.table.proofs.turns.check.Statement.{statement}
 use Rattle.table.proofs.turns.check.Tie as tie
 
-held-by-requires : tie.Need-held-by-requires
-held-by-requires c κs = search needs
+-- the record held is inside the words, and so is the worker's record
+inside : (c : tie.After-held-by) → c .held-by .result + widestRecord ≤ length (c .before .before .before .args .words .now)
+inside c =
+    let start = c .before .before .before in
+    held-room _ _ (start .pre .0) (c .held-by .ensures)
 
-worker-at-requires : tie.Need-worker-at-requires
-worker-at-requires c κs = search needs
+own :
+    (c : tie.After-worker-at) → let args = c .before .before .before .before .args in
+    Placed (args .words .now) (args .g) (c .worker-at .result)
+own c = let start = c .before .before .before .before in rw (c .worker-at .ensures) (placed (start .pre .0) _ (start .pre .1))
+
+-- whether the bucket is full at depth M
+tested :
+    (c : tie.After-crowded)
+    → let held = c .before .before .before .before .before .before .before .before .before .before .before in
+    let args = held .before .before .before .args in
+    c .crowded .result ≡ crowdedAt (args .words .now) (args .g) (held .held-by .result)
+tested c = both-read (crowdedBy _) (c .crowded .ensures) (c .before .before .before .get2 .ensures) (c .before .get3 .ensures)
 
 add-get : tie.Need-add-get
-add-get c = let b = placed (c .before .before .before .before .before .pre .0) _ (c .before .before .before .before .before .pre .1) in omega (arith, c .before .worker-at .ensures)
+add-get c = let b = own (c .before) in omega arith
 
 get-requires : tie.Need-get-requires
-get-requires c κs = let b = placed (c .before .before .before .before .before .pre .0) _ (c .before .before .before .before .before .pre .1) in omega (arith, c .before .worker-at .ensures)
+get-requires c κs = let b = own (c .before) in omega arith
 
-settled-word-requires : tie.Need-settled-word-requires
-settled-word-requires c κs = (c .before .before .before .before .before .before .before .pre .0, (c .before .before .before .before .before .before .before .pre .1, held-room _ _ (c .before .before .before .before .before .before .before .pre .0) (c .before .before .before .before .held-by .ensures)))
+settled-ticket-requires : tie.Need-settled-ticket-requires
+settled-ticket-requires c κs =
+    let held = c .before .before .before .before in
+    let known = held .before .before .before .pre in
+    (known .0, (known .1, inside held))
 
-add-get-2 : tie.Need-add-get-2
-add-get-2 c = omega (arith, held-room _ _ (c .before .before .before .before .before .before .before .before .before .before .pre .0) (c .before .before .before .before .before .before .before .held-by .ensures))
-
-add-get-3 : tie.Need-add-get-3
-add-get-3 c = omega (arith, held-room _ _ (c .before .before .before .before .before .before .before .before .before .before .pre .0) (c .before .before .before .before .before .before .before .held-by .ensures))
-
-add-get-4 : tie.Need-add-get-4
-add-get-4 c = omega (arith, held-room _ _ (c .before .before .before .before .before .before .before .before .before .before .pre .0) (c .before .before .before .before .before .before .before .held-by .ensures))
-
-add-get-5 : tie.Need-add-get-5
-add-get-5 c = omega (arith, held-room _ _ (c .before .before .before .before .before .before .before .before .before .before .pre .0) (c .before .before .before .before .before .before .before .held-by .ensures))
-
-add-get-6 : tie.Need-add-get-6
-add-get-6 c = omega (arith, held-room _ _ (c .before .before .before .before .before .before .before .before .before .before .pre .0) (c .before .before .before .before .before .before .before .held-by .ensures))
-
-get-requires-2 : tie.Need-get-requires-2
-get-requires-2 c κs = omega (arith, held-room _ _ (c .before .before .before .before .before .before .before .before .before .before .pre .0) (c .before .before .before .before .before .before .before .held-by .ensures))
+settled-answer-requires : tie.Need-settled-answer-requires
+settled-answer-requires c κs =
+    let held = c .before .before .before .before .before .before .before in
+    let known = held .before .before .before .pre in
+    (known .0, (known .1, inside held))
 
 finish-requires : tie.Need-finish-requires
-finish-requires c κs = let b = placed (c .before .before .before .before .before .before .before .before .before .before .before .before .pre .0) _ (c .before .before .before .before .before .before .before .before .before .before .before .before .pre .1) in omega (arith, c .before .before .before .before .before .before .before .before .worker-at .ensures)
-
-same-length : tie.Need-same-length
-same-length c = search needs
+finish-requires c κs = let b = own (c .before .before .before .before .before .before .before .before) in omega arith
 
 returns : tie.Need-returns
+unfolding updateAt
 returns c =
     λ k.
-    rw (← c .before .before .before .before .before .before .before .before .before .before .before .before .before .held-by .ensures, ← c .before .before .before .before .before .before .before .before .before .before .before .before .worker-at .ensures)
-    (check-settled _ _ _ _ _ k _ _ (c .before .before .before .before .before .before .before .before .before .before .get .ensures) (c .before .before .before .before .before .before .before .before .settled-word .ensures) _ _ _ (c .before .before .before .before .before .before .before .if1 .taken) (c .before .before .before .before .before .get2 .ensures) (numbered-none k _ (c .if2 .taken)) (c .before .before .before .finish .ensures))
-
-same-length-2 : tie.Need-same-length-2
-same-length-2 c = search needs
+    let done = c .before .before .before in
+    let answer = done .before .before in
+    let late = answer .before .before in
+    let settled = late .before in
+    let ticket = settled .before .before in
+    let worker = ticket .before .before in
+    rw (← worker .before .held-by .ensures, ← worker .worker-at .ensures)
+    (check-settled _ _ _ _ _ k _ _ (ticket .get .ensures) (settled .settled-ticket .ensures) _ _ _ (late .if1 .taken)
+    (answer .settled-answer .ensures) (numbered-none k _ (c .if2 .taken)) (done .finish .ensures))
 
 returns-2 : tie.Need-returns-2
+unfolding updateAt
 returns-2 c =
     λ k.
-    rw (← c .before .before .before .before .before .before .before .before .before .before .before .before .before .held-by .ensures, ← c .before .before .before .before .before .before .before .before .before .before .before .before .worker-at .ensures)
-    (check-settled _ _ _ _ _ k _ _ (c .before .before .before .before .before .before .before .before .before .before .get .ensures) (c .before .before .before .before .before .before .before .before .settled-word .ensures) _ _ _ (c .before .before .before .before .before .before .before .if1 .taken) (c .before .before .before .before .before .get2 .ensures) (numbered-stored k _ _ (c .if2 .left) refl) (c .before .before .before .finish .ensures))
+    let done = c .before .before .before in
+    let answer = done .before .before in
+    let late = answer .before .before in
+    let settled = late .before in
+    let ticket = settled .before .before in
+    let worker = ticket .before .before in
+    rw (← worker .before .held-by .ensures, ← worker .worker-at .ensures)
+    (check-settled _ _ _ _ _ k _ _ (ticket .get .ensures) (settled .settled-ticket .ensures) _ _ _ (late .if1 .taken)
+    (answer .settled-answer .ensures) (numbered-stored k _ _ (c .if2 .left) refl) (done .finish .ensures))
+
+add-get-2 : tie.Need-add-get-2
+add-get-2 c = omega (arith, inside (c .before .before .before .before .before .before .before))
+
+get-requires-2 : tie.Need-get-requires-2
+get-requires-2 c κs = omega (arith, inside (c .before .before .before .before .before .before .before))
+
+add-get-3 : tie.Need-add-get-3
+add-get-3 c = omega (arith, inside (c .before .before .before .before .before .before .before .before .before))
 
 get-requires-3 : tie.Need-get-requires-3
-get-requires-3 c κs = omega (arith, held-room _ _ (c .before .before .before .before .before .before .before .before .before .before .pre .0) (c .before .before .before .before .before .before .before .held-by .ensures))
-
-same-length-3 : tie.Need-same-length-3
-same-length-3 c = search needs
+get-requires-3 c κs = omega (arith, inside (c .before .before .before .before .before .before .before .before .before))
 
 returns-3 : tie.Need-returns-3
-unfolding numbered
+unfolding numbered updateAt
 returns-3 c =
     λ k.
-    rw (← c .before .before .before .before .before .before .before .before .before .before .held-by .ensures, ← c .before .before .before .before .before .before .before .before .before .worker-at .ensures)
-    (check-room _ _ _ _ _ k _ _ (c .before .before .before .before .before .before .before .get .ensures) (c .before .before .before .before .before .settled-word .ensures) _ (c .before .before .before .before .if1 .left) (c .before .before .get3 .ensures) (c .if3 .taken))
-
-add-get-7 : tie.Need-add-get-7
-add-get-7 c = omega (arith, held-room _ _ (c .before .before .before .before .before .before .before .before .before .before .before .before .before .before .pre .0) (c .before .before .before .before .before .before .before .before .before .before .before .held-by .ensures))
-
-get-requires-4 : tie.Need-get-requires-4
-get-requires-4 c κs = omega (arith, held-room _ _ (c .before .before .before .before .before .before .before .before .before .before .before .before .before .before .pre .0) (c .before .before .before .before .before .before .before .before .before .before .before .held-by .ensures))
-
-same-length-4 : tie.Need-same-length-4
-same-length-4 c = search needs
-
-returns-4 : tie.Need-returns-4
-unfolding numbered
-returns-4 c =
-    λ k.
-    rw (← c .before .before .before .before .before .before .before .before .before .before .before .before .before .before .held-by .ensures, ← c .before .before .before .before .before .before .before .before .before .before .before .before .before .worker-at .ensures)
-    (check-deep _ _ _ _ _ k _ _ (c .before .before .before .before .before .before .before .before .before .before .before .get .ensures) (c .before .before .before .before .before .before .before .before .before .settled-word .ensures) _ (c .before .before .before .before .before .before .before .before .if1 .left) (c .before .before .before .before .before .before .get3 .ensures) _ (c .before .before .before .before .if3 .left) (c .before .before .get4 .ensures) (c .if4 .taken))
+    let test = c .before in
+    let early = test .before .before .before .before .before in
+    let settled = early .before in
+    let ticket = settled .before .before in
+    let worker = ticket .before .before in
+    rw (← worker .before .held-by .ensures, ← worker .worker-at .ensures)
+    (check-moved _ _ _ _ _ k _ _ (ticket .get .ensures) (settled .settled-ticket .ensures) _ (early .if1 .left) (tested test)
+    (not-true _ (c .if3 .taken)))
 
 finish-requires-2 : tie.Need-finish-requires-2
-finish-requires-2 c κs = let b = placed (c .before .before .before .before .before .before .before .before .before .before .before .before .before .before .before .before .before .before .pre .0) _ (c .before .before .before .before .before .before .before .before .before .before .before .before .before .before .before .before .before .before .pre .1) in omega (arith, c .before .before .before .before .before .before .before .before .before .before .before .before .before .before .worker-at .ensures)
+finish-requires-2 c κs =
+    let test = c .before .before in
+    let b = own (test .before .before .before .before .before .before .before .before .before .before) in
+    omega arith
 
-same-length-5 : tie.Need-same-length-5
-same-length-5 c = search needs
-
-returns-5 : tie.Need-returns-5
-returns-5 c =
+returns-4 : tie.Need-returns-4
+unfolding updateAt
+returns-4 c =
     λ k.
-    rw (← c .before .before .before .before .before .before .before .before .before .before .before .before .before .before .before .before .before .before .held-by .ensures, ← c .before .before .before .before .before .before .before .before .before .before .before .before .before .before .before .before .before .worker-at .ensures)
-    (check-crowded _ _ _ _ _ k _ _ (c .before .before .before .before .before .before .before .before .before .before .before .before .before .before .before .get .ensures) (c .before .before .before .before .before .before .before .before .before .before .before .before .before .settled-word .ensures) _ (c .before .before .before .before .before .before .before .before .before .before .before .before .if1 .left) (c .before .before .before .before .before .before .before .before .before .before .get3 .ensures) _ (c .before .before .before .before .before .before .before .before .if3 .left) (c .before .before .before .before .before .before .get4 .ensures) _ (c .before .before .before .before .if4 .left) (c .before .before .finish2 .ensures))
+    let done = c .before .before in
+    let full = done .before .before in
+    let test = full .before in
+    let early = test .before .before .before .before .before in
+    let settled = early .before in
+    let ticket = settled .before .before in
+    let worker = ticket .before .before in
+    rw (← worker .before .held-by .ensures, ← worker .worker-at .ensures)
+    (check-crowded _ _ _ _ _ k _ _ (ticket .get .ensures) (settled .settled-ticket .ensures) _ (early .if1 .left) (tested test) _
+    (not-false _ (full .if3 .left)) (done .finish2 .ensures))
 
 pub check-spec : {M : Type 1} → statement M
 check-spec =
-    tie.close
-    (tie.spec
-    held-by-requires
-    worker-at-requires
-    add-get
-    get-requires
-    settled-word-requires
-    add-get-2
-    add-get-3
-    add-get-4
-    add-get-5
-    add-get-6
-    get-requires-2
-    finish-requires
-    same-length
-    returns
-    same-length-2
-    returns-2
-    get-requires-3
-    same-length-3
-    returns-3
-    add-get-7
-    get-requires-4
-    same-length-4
-    returns-4
-    finish-requires-2
-    same-length-5
-    returns-5)
+    tie.close (tie.spec (λ c κs. search needs) (λ c κs. search needs) add-get get-requires settled-ticket-requires
+    settled-answer-requires finish-requires (λ c. search needs) returns (λ c. search needs) returns-2 add-get-2
+    get-requires-2 add-get-3 get-requires-3 (λ c κs. search needs) (λ c. search needs) returns-3 finish-requires-2
+    (λ c. search needs) returns-4)

@@ -11,14 +11,8 @@ returns : tie.Need-returns
 unfolding numbered
 returns c = rw (c .if1 .taken)
 
-answer-of-requires : tie.Need-answer-of-requires
-answer-of-requires c κs = search needs
-
-completed-requires : tie.Need-completed-requires
-completed-requires c κs = search needs
-
 returns-2 : tie.Need-returns-2
 returns-2 c = rw (c .completed .ensures) (sym (numbered-stored _ _ _ (c .before .before .if1 .left) (c .before .answer-of .ensures)))
 
 pub stepped-spec : {M : Type 1} → statement M
-stepped-spec = tie.close (tie.spec returns answer-of-requires completed-requires returns-2)
+stepped-spec = tie.close (tie.spec returns (λ c κs. search needs) (λ c κs. search needs) returns-2)

@@ -14,9 +14,6 @@ returns : tie.Need-returns
 unfolding commandIn if_then_else_
 returns c = rw (c .if1 .taken)
 
-slice-aggregate-kept : tie.Need-slice-aggregate-kept
-slice-aggregate-kept c = search needs
-
 returns-2 : tie.Need-returns-2
 unfolding commandIn if_then_else_
 returns-2 c = rw (c .before .before .before .if1 .left, lt-leb _ _ (c .if2 .taken))
@@ -24,20 +21,10 @@ returns-2 c = rw (c .before .before .before .if1 .left, lt-leb _ _ (c .if2 .take
 slice-aggregate-parse : tie.Need-slice-aggregate-parse
 slice-aggregate-parse c = sym (length-take-le _ _ (omega arith))
 
-parse-requires : tie.Need-parse-requires
-parse-requires c κs = search needs
-
 returns-3 : tie.Need-returns-3
 unfolding commandIn if_then_else_
 returns-3 c = c .parse .ensures ∙ rw (c .before .before .before .before .before .if1 .left, le-leb _ _ (c .before .before .if2 .left))
 
 pub command-spec : {M : Type 1} → statement M
 command-spec =
-    tie.close
-    (tie.spec
-    returns
-    slice-aggregate-kept
-    returns-2
-    slice-aggregate-parse
-    parse-requires
-    returns-3)
+    tie.close (tie.spec returns (λ c. search needs) returns-2 slice-aggregate-parse (λ c κs. search needs) returns-3)

@@ -1,25 +1,19 @@
--- `Reader::push`: the byte is kept while there is a place.
+-- `Reader::push`: the byte is kept while there is room.
 -- Rests on the laws that it cites and on the contracts of what is called.
 use borrow.Author.Tests.{lt-ltb, le-ltb}
 use borrow.Author.Needs.{needs}
 use Rattle.machine.specs.Choice.{if_then_else_}
-use Rattle.lines.specs.Reading.{pushed}
+use Rattle.lines.specs.Reading.{lineRoom, pushed}
 use Rattle.lines.proofs.reader.Reader.push.Statement.{statement}
 use Rattle.lines.proofs.reader.Reader.push.Tie as tie
 
-element-write-self : tie.Need-element-write-self
-element-write-self c = search needs
-
-add-self : tie.Need-add-self
-add-self c = search needs
-
 returns : tie.Need-returns
 unfolding pushed if_then_else_
-returns c = rw (lt-ltb _ 64 (c .if1 .taken))
+returns c = rw (lt-ltb _ lineRoom (c .if1 .taken))
 
 returns-2 : tie.Need-returns-2
 unfolding pushed if_then_else_
-returns-2 c = rw (le-ltb _ 64 (c .if1 .left))
+returns-2 c = rw (le-ltb _ lineRoom (c .if1 .left))
 
 pub push-spec : {M : Type 1} → statement M
-push-spec = tie.close (tie.spec element-write-self add-self returns returns-2)
+push-spec = tie.close (tie.spec (λ c. search needs) (λ c. search needs) returns returns-2)

@@ -1,0 +1,2 @@
+pub mod WordsLimit
+pub mod Regions
