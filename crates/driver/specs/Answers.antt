@@ -22,6 +22,9 @@ pub record Output : Type 0 where
   pub bytes : List ℕ
   pub used : ℕ
 
+abbrev pub outputOf : List ℕ → ℕ → Output
+outputOf bytes used = record { bytes = bytes; used = used }
+
 -- a text behind the used bytes, where it has room
 unfoldable pub emitted : Output → List ℕ → Output
 emitted o xs =
@@ -50,6 +53,11 @@ pub record DriverState : Type 0 where
   pub accounts : List ℕ
   pub totals : List ℤ
   pub output : Output
+
+-- these words and lists, and a buffer with so many bytes used
+abbrev pub stateOf : List ℕ → List ℕ → List ℤ → List ℕ → ℕ → DriverState
+stateOf words accounts totals bytes used =
+    record { words = words; accounts = accounts; totals = totals; output = outputOf bytes used }
 
 -- after the listing answered so
 unfoldable pub listedAs : DriverState → Shown → DriverState

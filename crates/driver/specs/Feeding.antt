@@ -25,6 +25,9 @@ pub record Feeding : Type 0 where
   pub reader : Reader
   pub taken : ℕ
 
+abbrev pub feedingOf : DriverState → Reader → ℕ → Feeding
+feedingOf s r k = record { state = s; reader = r; taken = k }
+
 -- the next byte; 10 is the line feed
 unfoldable pub took : Feeding → ℕ → Feeding
 took f b =

@@ -4,7 +4,7 @@ ghost use mathlib.Core.Path.{_≡_};
 ghost use Prim.Native.Nat.{_≤_};
 ghost use lib.ListN.{length};
 ghost use Rattle.replies.specs.Printed.{printedReply, printedRow, printedEnd};
-ghost use Rattle.driver.specs.Answers.{Output, DriverState, emitted, putRows, rowsAt, listed, isList, answered};
+ghost use Rattle.driver.specs.Answers.{outputOf, emitted, putRows, rowsAt, stateOf, listed, isList, answered};
 use crate::responses::respond;
 use interface::Listed;
 use lines::Command;
@@ -19,18 +19,9 @@ pub fn answer(
     used: usize,
     c: Command,
 ) -> usize
-    ensures { λ r. ⌜ _≡_ {A = DriverState} (record {
-      words = now (words .exit);
-      accounts = now (accounts .exit);
-      totals = now (totals .exit);
-      output = record { bytes = now (out .exit); used = r };
-    })
-        (answered (record {
-          words = now (words .entry);
-          accounts = now (accounts .entry);
-          totals = now (totals .entry);
-          output = record { bytes = now (out .entry); used = used };
-        }) c) ⌝ }
+    ensures { λ r. ⌜ stateOf (now (words .exit)) (now (accounts .exit)) (now (totals .exit)) (now (out .exit)) r
+        ≡ answered (stateOf (now (words .entry)) (now (accounts .entry)) (now (totals .entry)) (now (out .entry)) used)
+        c ⌝ }
 {
     if is_list(c) {
         return show(words, accounts, totals, out, used);
@@ -60,18 +51,9 @@ fn show(
     out: &mut [u8],
     used: usize,
 ) -> usize
-    ensures { λ r. ⌜ _≡_ {A = DriverState} (record {
-      words = now (words .entry);
-      accounts = now (accounts .exit);
-      totals = now (totals .exit);
-      output = record { bytes = now (out .exit); used = r };
-    })
-        (listed (record {
-          words = now (words .entry);
-          accounts = now (accounts .entry);
-          totals = now (totals .entry);
-          output = record { bytes = now (out .entry); used = used };
-        })) ⌝ }
+    ensures { λ r. ⌜ stateOf (now (words .entry)) (now (accounts .exit)) (now (totals .exit)) (now (out .exit)) r
+        ≡ listed (stateOf (now (words .entry)) (now (accounts .entry)) (now (totals .entry)) (now (out .entry))
+        used) ⌝ }
 {
     match table::listing(words, accounts, totals) {
         Listed::Count(count) => {
@@ -85,9 +67,9 @@ fn show(
 // The first rows of the two lists.
 fn put_rows(accounts: &[u32], totals: &[i64], count: usize, out: &mut [u8], used: usize) -> usize
     requires { ⌜ (count ≤ length (now accounts)) × (count ≤ length (now totals)) ⌝ }
-    ensures { λ r. ⌜ _≡_ {A = Output} (record { bytes = now (out .exit); used = r })
-        (putRows (record { bytes = now (out .entry); used = used })
-        (rowsAt (now (accounts .entry)) (now (totals .entry)) 0 count)) ⌝ }
+    ensures { λ r. ⌜ outputOf (now (out .exit)) r
+        ≡ putRows (outputOf (now (out .entry)) used)
+        (rowsAt (now (accounts .entry)) (now (totals .entry)) 0 count) ⌝ }
 {
     let mut used = used;
     let mut i: usize = 0;
@@ -99,22 +81,22 @@ fn put_rows(accounts: &[u32], totals: &[i64], count: usize, out: &mut [u8], used
 }
 
 fn put_row(out: &mut [u8], used: usize, account: u32, total: i64) -> usize
-    ensures { λ r. ⌜ _≡_ {A = Output} (record { bytes = now (out .exit); used = r })
-        (emitted (record { bytes = now (out .entry); used = used }) (printedRow account total)) ⌝ }
+    ensures { λ r. ⌜ outputOf (now (out .exit)) r
+        ≡ emitted (outputOf (now (out .entry)) used) (printedRow account total) ⌝ }
 {
     used + replies::print_row(out, used, account, total)
 }
 
 fn put_end(out: &mut [u8], used: usize, count: u64) -> usize
-    ensures { λ r. ⌜ _≡_ {A = Output} (record { bytes = now (out .exit); used = r })
-        (emitted (record { bytes = now (out .entry); used = used }) (printedEnd count)) ⌝ }
+    ensures { λ r. ⌜ outputOf (now (out .exit)) r
+        ≡ emitted (outputOf (now (out .entry)) used) (printedEnd count) ⌝ }
 {
     used + replies::print_end(out, used, count)
 }
 
 fn put_reply(out: &mut [u8], used: usize, reply: Reply) -> usize
-    ensures { λ r. ⌜ _≡_ {A = Output} (record { bytes = now (out .exit); used = r })
-        (emitted (record { bytes = now (out .entry); used = used }) (printedReply reply)) ⌝ }
+    ensures { λ r. ⌜ outputOf (now (out .exit)) r
+        ≡ emitted (outputOf (now (out .entry)) used) (printedReply reply) ⌝ }
 {
     used + replies::print_reply(out, used, reply)
 }

@@ -1,6 +1,7 @@
 // Input of any length, a part at a time: each line that it ends is answered.
 ghost use mathlib.Core.Path.{_≡_};
-ghost use Rattle.driver.specs.Feeding.{Feeding, fed, longest, roomFor};
+ghost use Rattle.driver.specs.Answers.{stateOf};
+ghost use Rattle.driver.specs.Feeding.{feedingOf, fed, longest, roomFor};
 use crate::answers::answer;
 use lines::Reader;
 
@@ -25,25 +26,12 @@ pub fn feed(
     reader: Reader,
     input: &[u8],
 ) -> Fed
-    ensures { λ r. ⌜ _≡_ {A = Feeding} (record {
-      state = record {
-        words = now (words .exit);
-        accounts = now (accounts .exit);
-        totals = now (totals .exit);
-        output = record { bytes = now (out .exit); used = r .used };
-      };
-      reader = r .reader;
-      taken = r .taken;
-    }) (fed (record {
-      state = record {
-        words = now (words .entry);
-        accounts = now (accounts .entry);
-        totals = now (totals .entry);
-        output = record { bytes = now (out .entry); used = 0 };
-      };
-      reader = reader;
-      taken = 0;
-    }) (now (input .entry))) ⌝ }
+    ensures { λ r. ⌜ feedingOf
+        (stateOf (now (words .exit)) (now (accounts .exit)) (now (totals .exit)) (now (out .exit)) (r .used))
+        (r .reader) (r .taken)
+        ≡ fed (feedingOf
+        (stateOf (now (words .entry)) (now (accounts .entry)) (now (totals .entry)) (now (out .entry)) 0)
+        reader 0) (now (input .entry)) ⌝ }
 {
     let mut reader = reader;
     let mut used: usize = 0;

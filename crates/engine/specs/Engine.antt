@@ -1,23 +1,24 @@
 -- One step on the words, for any words: each kind of step but the directory swap. Rests on the bucket's functions, on
 -- loads and stores, and on the regions of the lent words. Worker w's record is at p; a bucket's record is at q.
-use Prim.Native.Nat.{ℕ, _+_, _-_, _*_, _^_}
+use Prim.Native.Nat.{ℕ, _+_, _-_, _*_, _^_, _≤_, _<_}
+use mathlib.Core.Path.{_≡_}
 use mathlib.Core.Bool.{Bool, not}
 use mathlib.Core.List.{List}
 use mathlib.Core.Option.{Option, none, some}
 use lib.Dec.{ltb, leb, eqb}
-use lib.ListN.{set}
+use lib.ListN.{length, set}
 use Rattle.interface.specs.Numbers.{kindNone, answerNumber}
 use Rattle.interface.specs.declared.Settings.{Settings}
 use Rattle.interface.specs.declared.Answer.the-variants.{Crowded}
-use Rattle.fields.specs.Fields.{headerNumber, slotKind, slotAccount, slotTicket, slotSize, workerAccount, workerTicket, workerHeld, workerState, workerToggle, workerDirectory, workerMarks, workerSlots, recordCount, recordApplied, recordToggle, recordDepth, recordNumber, settledFrom, answersFrom}
-use Rattle.fields.specs.Regions.{slotAt, readAt}
+use Rattle.fields.specs.Fields.{headerNumber, slotKind, slotAccount, slotTicket, slotSize, workerAccount, workerTicket, workerHeld, workerState, workerToggle, workerDirectory, workerMarks, workerSlots, recordCount, recordApplied, recordToggle, recordDepth, recordNumber, settledFrom, answersFrom, widestRecord}
+use Rattle.fields.specs.Regions.{workerAt, slotAt, readAt}
 use Rattle.machine.specs.Choice.{if_then_else_, _and_}
 use Rattle.bucket.specs.State.{bit, holdsBackBy, splittableBy, crowdedBy, carryOf, withApplied, roundOf}
 use Rattle.bucket.specs.declared.BucketState.{BucketState}
 use Rattle.bucket.specs.declared.Descriptor.{Descriptor}
 use Rattle.lists.specs.Parts.{part, overlay}
 use Rattle.memory.specs.Loads.{loadedState, storedState}
-use Rattle.layout.specs.Shape.{word}
+use Rattle.layout.specs.Shape.{word, Fits}
 use Rattle.layout.specs.Addresses.{recordOf}
 use Rattle.layout.specs.Numbers.{any, freshNumber}
 
@@ -94,6 +95,13 @@ roundAt l s p q =
 -- the record at q after worker j's update alone, with other applied bits
 unfoldable pub ownAt : List ℕ → Settings → ℕ → ℕ → ℕ → Descriptor → List ℕ
 ownAt l s q bits j u = withBucketAt l s q (withApplied (carryOf (bucketAt l s q) j u) bits)
+
+-- worker w has read toggle bits that differ from those applied in the record at q by its own alone
+abbrev pub OwnAlone : List ℕ → Settings → ℕ → ℕ → ℕ → Type 0
+OwnAlone l s w q toggle =
+    Fits l s × ((w < s .workers) × ((q + widestRecord ≤ length l)
+    × ((toggle ≡ word l (workerAt (s .workers) w + workerToggle))
+    × (toggle ≡ flipBit (word l (q + recordApplied)) w))))
 
 -- "only if the bucket's state is still the one that was read"
 unfoldable pub swappedAt : List ℕ → Settings → ℕ → ℕ → List ℕ

@@ -8,11 +8,11 @@ ghost use mathlib.Core.List.{_∷_};
 ghost use Prim.Native.Nat.{_+_, _-_, _≤_, _<_};
 ghost use lib.ListN.{length, set};
 ghost use Rattle.interface.specs.Numbers.{kindInsert};
-ghost use Rattle.fields.specs.Fields.{workerToggle, recordCount, recordApplied, settledFrom, answersFrom, widestRecord};
+ghost use Rattle.fields.specs.Fields.{recordCount, recordApplied, settledFrom, answersFrom, widestRecord};
 ghost use Rattle.fields.specs.Regions.{workerAt};
 ghost use Rattle.lists.specs.Parts.{part, overlay};
 ghost use Rattle.layout.specs.Shape.{word, Fits};
-ghost use Rattle.engine.specs.Engine.{flipBit, roundAt, ownAt};
+ghost use Rattle.engine.specs.Engine.{roundAt, ownAt, OwnAlone};
 use crate::steps::settled_ticket;
 use bucket::Descriptor;
 use bucket::Position;
@@ -140,9 +140,7 @@ fn delete_own(
 
 // A round that has only worker w's own update to carry out, as worker w has read it, in the record at q.
 pub fn own_round(words: &mut [u64], g: Settings, w: usize, q: usize, toggle: u64)
-    requires { ⌜ Fits (now words) g × ((w < g .workers) × ((q + widestRecord ≤ length (now words))
-        × ((toggle ≡ word (now words) (workerAt (g .workers) w + workerToggle))
-        × (toggle ≡ flipBit (word (now words) (q + recordApplied)) w)))) ⌝ }
+    requires { ⌜ OwnAlone (now words) g w q toggle ⌝ }
     ensures { λ _. ⌜ now (words .exit) ≡ roundAt (now (words .entry)) g (workerAt (g .workers) w) q ⌝ }
 {
     let count = memory::get(words, q + RECORD_COUNT);

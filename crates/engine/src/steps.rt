@@ -96,7 +96,8 @@ pub fn flip(words: &mut [u64], g: Settings, w: usize)
 pub fn read_state(words: &mut [u64], g: Settings, w: usize)
     requires { ⌜ Fits (now words) g × (w < g .workers) ⌝ }
     ensures { λ _. ⌜ now (words .exit)
-        ≡ stateReadAt (now (words .entry)) (workerAt (g .workers) w) (heldBy (now (words .entry)) (workerAt (g .workers) w)) ⌝ }
+        ≡ stateReadAt (now (words .entry)) (workerAt (g .workers) w)
+        (heldBy (now (words .entry)) (workerAt (g .workers) w)) ⌝ }
 {
     put_worker_word(
         words,
@@ -110,7 +111,8 @@ pub fn read_state(words: &mut [u64], g: Settings, w: usize)
 pub fn read_toggle(words: &mut [u64], g: Settings, w: usize)
     requires { ⌜ Fits (now words) g × (w < g .workers) ⌝ }
     ensures { λ _. ⌜ now (words .exit)
-        ≡ toggleReadAt (now (words .entry)) (workerAt (g .workers) w) (heldBy (now (words .entry)) (workerAt (g .workers) w)) ⌝ }
+        ≡ toggleReadAt (now (words .entry)) (workerAt (g .workers) w)
+        (heldBy (now (words .entry)) (workerAt (g .workers) w)) ⌝ }
 {
     put_worker_word(
         words,
@@ -149,7 +151,8 @@ fn round(words: &mut [u64], g: Settings, w: usize, q: usize)
 pub fn swap(words: &mut [u64], g: Settings, w: usize)
     requires { ⌜ Fits (now words) g × (w < g .workers) ⌝ }
     ensures { λ _. ⌜ now (words .exit)
-        ≡ swappedAt (now (words .entry)) g (workerAt (g .workers) w) (heldBy (now (words .entry)) (workerAt (g .workers) w)) ⌝ }
+        ≡ swappedAt (now (words .entry)) g (workerAt (g .workers) w)
+        (heldBy (now (words .entry)) (workerAt (g .workers) w)) ⌝ }
 {
     let q = held_by(words, g, w);
     if worker_word(words, g, w, WORKER_STATE) != memory::get(words, q + RECORD_NUMBER) {

@@ -1,6 +1,7 @@
 -- The listing on the words, for any words: for each entry of the directory at depth M in order, those accounts of its
 -- bucket whose first M bits are the entry. Rests on the regions of the lent words.
 use Prim.Native.Nat.{ℕ, zero, suc, _+_, _%_, _^_}
+use mathlib.Core.Path.{_≡_}
 use mathlib.Core.Bool.{_||_}
 use mathlib.Core.List.{List, [], _∷_, _++_, map}
 use lib.Dec.{ltb, eqb}
@@ -54,6 +55,11 @@ accountsWith accounts k r = overlay accounts k (map (λ x. x .0) r)
 
 abbrev pub totalsWith : List ℤ → ℕ → List (ℕ × ℤ) → List ℤ
 totalsWith totals k r = overlay totals k (map (λ x. x .1) r)
+
+-- what both lists are with the rows from place k on
+abbrev pub RowsWritten : List ℕ → List ℤ → ℕ → List (ℕ × ℤ) → List ℕ → List ℤ → Type 0
+RowsWritten accounts totals k r accountsAfter totalsAfter =
+    (accountsAfter ≡ accountsWith accounts k r) × (totalsAfter ≡ totalsWith totals k r)
 
 -- the two lists and the answer
 pub record Shown : Type 0 where

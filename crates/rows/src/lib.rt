@@ -4,7 +4,7 @@ ghost use mathlib.Core.Path.{_≡_};
 ghost use Prim.Native.Nat.{_+_, _^_, _≤_, _<_};
 ghost use lib.ListN.{length};
 ghost use Rattle.layout.specs.Shape.{Fits};
-ghost use Rattle.rows.specs.Rows.{entryRecord, rowsOf, rows, accountsWith, totalsWith, listingWords};
+ghost use Rattle.rows.specs.Rows.{entryRecord, rowsOf, rows, RowsWritten, listingWords};
 use bucket::first_bits;
 use fields::HEADER_SETTINGS;
 use fields::RECORD_ACCOUNTS;
@@ -71,8 +71,8 @@ fn write_in(
         × ((k + length (rowsOf (now words) g e) ≤ length (now accounts))
         × (k + length (rowsOf (now words) g e) ≤ length (now totals)))) ⌝ }
     ensures { λ r. ⌜ (r ≡ k + length (rowsOf (now (words .entry)) g e))
-        × ((now (accounts .exit) ≡ accountsWith (now (accounts .entry)) k (rowsOf (now (words .entry)) g e))
-        × (now (totals .exit) ≡ totalsWith (now (totals .entry)) k (rowsOf (now (words .entry)) g e))) ⌝ }
+        × RowsWritten (now (accounts .entry)) (now (totals .entry)) k (rowsOf (now (words .entry)) g e)
+        (now (accounts .exit)) (now (totals .exit)) ⌝ }
 {
     let q = entry_record(words, g, e);
     let b = g.capacity as usize;
@@ -95,8 +95,8 @@ fn write_in(
 fn write(words: &[u64], g: Settings, accounts: &mut [u32], totals: &mut [i64])
     requires { ⌜ Fits (now words) g × ((length (rows (now words) g) ≤ length (now accounts))
         × (length (rows (now words) g) ≤ length (now totals))) ⌝ }
-    ensures { λ _. ⌜ (now (accounts .exit) ≡ accountsWith (now (accounts .entry)) 0 (rows (now (words .entry)) g))
-        × (now (totals .exit) ≡ totalsWith (now (totals .entry)) 0 (rows (now (words .entry)) g)) ⌝ }
+    ensures { λ _. ⌜ RowsWritten (now (accounts .entry)) (now (totals .entry)) 0 (rows (now (words .entry)) g)
+        (now (accounts .exit)) (now (totals .exit)) ⌝ }
 {
     let span: usize = 1 << g.depth;
     let mut k: usize = 0;

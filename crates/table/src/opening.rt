@@ -60,7 +60,8 @@ fn header(words: &mut [u64], first: u64, all: u64)
 // The header, empty slots, idle workers, a directory whose entries all name the first record, empty records.
 fn fresh(words: &mut [u64], s: Settings)
     requires { ⌜ (1 ≤ s .workers) × ((s .workers ≤ greatestWorkers)
-        × ((1 ≤ s .capacity) × ((s .capacity ≤ greatestCapacity) × ((s .depth ≤ deepest) × (wordsNeeded s ≤ length (now words)))))) ⌝ }
+        × ((1 ≤ s .capacity) × ((s .capacity ≤ greatestCapacity)
+        × ((s .depth ≤ deepest) × (wordsNeeded s ≤ length (now words)))))) ⌝ }
     ensures { λ _. ⌜ now (words .exit) ≡ overlay (now (words .entry)) 0 (freshWords s) ⌝ }
 {
     let start = directory_start(s);

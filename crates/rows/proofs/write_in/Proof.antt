@@ -44,7 +44,8 @@ room c =
     let at-loop = c .before .before .before .before in
     let s = at-loop .before .before .before .before .before in
     let l = at-loop .loop in
-    let bits = same-bits (s .args .words .now) (s .args .g) _ (l .i) _ _ (c .before .before .get .ensures) (c .before .first-bits .ensures) in
+    let bits = same-bits (s .args .words .now) (s .args .g) _ (l .i) _ _ (c .before .before .get .ensures)
+    (c .before .first-bits .ensures) in
     let hit = sym bits ∙ c .if1 .taken in
     let test = c .before .before .before .loop-test .taken in (
       written-room _ _ _ _ _ _ _ _ _ _ _ (l .inv .1 .1) _ _ (l .inv .0) hit test (s .pre .1 .1 .0),
