@@ -1,24 +1,27 @@
 // A bucket's state by value, and what the two passes do with it: search, put and remove, one worker's update carried
-// out, a whole round, and a half of a split; and the parts that work on any slice. Every field is a word, so that a
-// state is loaded and stored by copying. Each contract is an equality with a definition of specs/, for any values.
+// out, a whole round, and a half of a split. Every field is a word, so that a state is loaded and stored by copying. Each
+// contract is an equality with a definition of specs/, for any values.
 ghost use mathlib.Core.Path.{_≡_};
-ghost use Prim.Native.Nat.{_+_, _≤_};
 ghost use lib.ListN.{length, getD};
-ghost use Rattle.fields.specs.Fields.{slotSize};
-ghost use Rattle.machine.specs.Sequential.{place, firstBits};
-ghost use Rattle.bucket.specs.State.{arraySize, insertedIn, removedFrom, scan, sizeOf, searchOf, putOf, removeOf, settleOf};
-ghost use Rattle.bucket.specs.State.{fullBy, holdsBackBy, splittableBy, crowdedBy, descriptorIn, answerBy, carryOf, pendingBy, roundOf, halfOf};
-use fields::SLOT_ACCOUNT;
-use fields::SLOT_KIND;
+ghost use Rattle.bucket.specs.State.{arraySize, sizeOf, searchOf, putOf, removeOf, settleOf, carryOf, roundOf, halfOf};
+use arrays::Position;
+use arrays::lower;
+use arrays::raise;
+use arrays::scan;
 use fields::SLOT_SIZE;
 use fields::SLOT_TICKET;
-use fields::SLOT_TOTAL;
 use interface::ANSWER_ABSENT;
 use interface::ANSWER_ADDED;
 use interface::ANSWER_REMOVED;
 use interface::ANSWER_REPLACED;
 use interface::KIND_INSERT;
 use interface::Settings;
+use rules::Descriptor;
+use rules::answer_number;
+use rules::descriptor_at;
+use rules::first_bits;
+use rules::holds_back;
+use rules::pending;
 
 // The items of each array of a state.
 pub const ARRAY_SIZE: usize = Settings::GREATEST_CAPACITY as usize;
@@ -34,77 +37,6 @@ pub struct BucketState {
     pub applied: u64,
 }
 
-// Where an account stands among ascending accounts, or before which it belongs.
-pub enum Position {
-    At(usize),
-    Before(usize),
-}
-
-// A worker's update as announced in its slot: the field's operation descriptor.
-pub struct Descriptor {
-    pub kind: u64,
-    pub account: u64,
-    pub total: u64,
-    pub ticket: u64,
-}
-
-// ---- slices
-
-// v put at position i of a slice's first c items, the later ones moved up, where there is room.
-pub fn raise(a: &mut [u64], c: usize, i: usize, v: u64)
-    ensures { λ _. ⌜ now (a .exit) ≡ insertedIn (now (a .entry)) c i v ⌝ }
-{
-    if a.len() <= c {
-        return;
-    }
-    if c < i {
-        return;
-    }
-    let mut k = c;
-    while i < k {
-        let x = a[k - 1];
-        a[k] = x;
-        k -= 1;
-    }
-    a[i] = v;
-}
-
-// Position i taken out of a slice's first c items, the later ones moved down.
-pub fn lower(a: &mut [u64], c: usize, i: usize)
-    ensures { λ _. ⌜ now (a .exit) ≡ removedFrom (now (a .entry)) c i ⌝ }
-{
-    if a.len() < c {
-        return;
-    }
-    if c <= i {
-        return;
-    }
-    let mut k = i;
-    while k + 1 < c {
-        let x = a[k + 1];
-        a[k] = x;
-        k += 1;
-    }
-}
-
-// The first position whose account is not below this one.
-pub fn scan(accounts: &[u64], account: u64) -> Position
-    ensures { λ r. ⌜ r ≡ scan (now (accounts .entry)) account 0 ⌝ }
-{
-    let mut i: usize = 0;
-    while i < accounts.len() {
-        let x = accounts[i];
-        if account <= x {
-            if account == x {
-                return Position::At(i);
-            }
-            return Position::Before(i);
-        }
-        i += 1;
-    }
-    Position::Before(i)
-}
-
 // What stands at position j of an array, and 0 past the end.
 fn at(a: &[u64; ARRAY_SIZE], j: usize) -> u64
     requires { ⌜ length (now a) ≡ arraySize ⌝ }
@@ -113,97 +45,7 @@ fn at(a: &[u64; ARRAY_SIZE], j: usize) -> u64
     if j < ARRAY_SIZE { a[j] } else { 0 }
 }
 
-// ---- the bits of an account
-
-// The number whose bits place an account in the directory.
-pub fn place(account: u64) -> u64
-    ensures { λ r. ⌜ r ≡ place account ⌝ }
-{
-    account
-}
-
-// The first d bits of an account, of 32.
-pub fn first_bits(d: u64, account: u64) -> u64
-    ensures { λ r. ⌜ r ≡ firstBits d account ⌝ }
-{
-    let rest: u64 = if d < 32 { 32 - d } else { 0 };
-    (place(account) % 4294967296) >> rest
-}
-
-// ---- full buckets: by the settings, the bucket's depth and how many accounts it has
-
-// Whether there is no room left.
-pub fn full(s: Settings, count: u64) -> bool
-    ensures { λ r. ⌜ r ≡ fullBy s count ⌝ }
-{
-    s.capacity <= count
-}
-
-// Whether the bucket takes no update.
-pub fn holds_back(s: Settings, depth: u64, count: u64) -> bool
-    ensures { λ r. ⌜ r ≡ holdsBackBy s depth count ⌝ }
-{
-    full(s, count)
-}
-
-// Whether the bucket is to be split.
-pub fn splittable(s: Settings, depth: u64, count: u64) -> bool
-    ensures { λ r. ⌜ r ≡ splittableBy s depth count ⌝ }
-{
-    if full(s, count) {
-        return depth < s.depth;
-    }
-    false
-}
-
-// Whether an update that is not settled there is crowded.
-pub fn crowded(s: Settings, depth: u64, count: u64) -> bool
-    ensures { λ r. ⌜ r ≡ crowdedBy s depth count ⌝ }
-{
-    if full(s, count) {
-        return s.depth <= depth;
-    }
-    false
-}
-
 // ---- one update
-
-// The update in the slot whose words stand from `at` on.
-pub fn descriptor_at(words: &[u64], at: usize) -> Descriptor
-    requires { ⌜ at + slotSize ≤ length (now words) ⌝ }
-    ensures { λ r. ⌜ r ≡ descriptorIn (now (words .entry)) at ⌝ }
-{
-    Descriptor {
-        kind: words[at + SLOT_KIND],
-        account: words[at + SLOT_ACCOUNT],
-        total: words[at + SLOT_TOTAL],
-        ticket: words[at + SLOT_TICKET],
-    }
-}
-
-// One number where the account stands there, the other where it is missing.
-fn answer_number(p: Position, there: u64, missing: u64) -> u64
-    ensures { λ r. ⌜ r ≡ answerBy p there missing ⌝ }
-{
-    match p {
-        Position::At(_) => there,
-        Position::Before(_) => missing,
-    }
-}
-
-// Whether worker j's update is to be carried out: its toggle bit differs from its applied bit, and its ticket is above
-// the last settled one.
-fn pending(toggle: u64, applied: u64, j: usize, settled: u64, ticket: u64) -> bool
-    ensures { λ r. ⌜ r ≡ pendingBy toggle applied j settled ticket ⌝ }
-{
-    if 64 <= j {
-        return false;
-    }
-    if (toggle >> j) % 2 == (applied >> j) % 2 {
-        return false;
-    }
-    settled < ticket
-}
 
 impl BucketState {
     // How many accounts: at most as many as an array has items.

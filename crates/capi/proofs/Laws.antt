@@ -10,7 +10,7 @@ use borrow.Author.Tests.{le-leb, lt-leb}
 use Rattle.interface.specs.Numbers.{answerNumber}
 use Rattle.interface.specs.declared.Answer.{Answer}
 use Rattle.interface.specs.declared.Listed.{Listed}
-use Rattle.machine.proofs.Base.{if-true, if-false}
+use Rattle.machine.proofs.laws.Base.{if-true, if-false}
 use Rattle.lists.specs.Parts.{overlay}
 use Rattle.rows.specs.Rows.{Shown}
 use Rattle.capi.specs.Flat.{told, listedNumber, listedReport, flat, reported, written}

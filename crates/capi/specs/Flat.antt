@@ -19,7 +19,8 @@ use Rattle.interface.specs.declared.Listed.{Listed}
 use Rattle.machine.specs.Choice.{if_then_else_}
 use Rattle.lists.specs.Parts.{overlay}
 use Rattle.rows.specs.Rows.{Shown, listingWords}
-use Rattle.table.specs.Turns.{stepWords, runWords}
+use Rattle.turns.specs.Turns.{stepWords}
+use Rattle.runs.specs.Runs.{runWords}
 
 -- ---- numbers
 

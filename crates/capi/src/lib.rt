@@ -4,7 +4,8 @@
 ghost use mathlib.Core.Path.{_≡_};
 ghost use mathlib.Core.List.{[], _∷_};
 ghost use Rattle.interface.specs.Limits.{built};
-ghost use Rattle.table.specs.Turns.{neededFor, openWords, callWords};
+ghost use Rattle.opening.specs.Opening.{neededFor, openWords};
+ghost use Rattle.calls.specs.Calls.{callWords};
 ghost use Rattle.capi.specs.Flat.{neededNumber, openedNumber, calledNumber, endedNumber, told, totalWord, endedReport, flat, stepLeft, runLeft, listWritten};
 use interface::Answer;
 use interface::Called;

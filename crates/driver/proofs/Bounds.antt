@@ -9,7 +9,7 @@ use lib.ListN.{length}
 use borrow.Author.Tests.{leb-true, le-leb}
 use Rattle.interface.specs.declared.Listed.{Listed}
 use Rattle.machine.specs.Choice.{if_then_else_}
-use Rattle.machine.proofs.Base.{if-elim}
+use Rattle.machine.proofs.laws.Base.{if-elim}
 use Rattle.lines.specs.declared.command.Command.{Command}
 use Rattle.replies.specs.Printed.{fits, printedRow, printedEnd}
 use Rattle.lines.specs.Reading.{commandIn}

@@ -1,6 +1,5 @@
 -- Laws that belong to no one function.
 -- They rest on the definitions of specs/.
-pub mod Responding
 pub mod Outputs
 pub mod Bytes
 pub mod Bounds

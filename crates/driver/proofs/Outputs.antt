@@ -21,7 +21,7 @@ use Rattle.lines.specs.declared.command.Command.{Command}
 use Rattle.replies.specs.declared.Reply.{Reply}
 use Rattle.lists.specs.Parts.{overlay}
 use Rattle.replies.specs.Printed.{fits, Wrote, printedRow, printedEnd, printedReply}
-use Rattle.driver.specs.Responses.{responded}
+use Rattle.responses.specs.Responses.{responded}
 use Rattle.driver.specs.Answers.{Output, emitted, putRows, rowsAt, putListed, DriverState, listedAs, listed, repliedAs, isList, answered}
 
 module _ {l : List ℕ} {at : ℕ} {xs : List ℕ} {r : ℕ} {after : List ℕ} (w : Wrote l at xs r after) where

@@ -12,6 +12,7 @@ use Rattle.lines.specs.Grammar.{linesOf, commandOf}
 use Rattle.lines.specs.Reading.{fresh, pushed, commandIn, isEmpty, commandsRead}
 use Rattle.lines.proofs.Streaming.{commands-read}
 use Rattle.driver.specs.Texts.{textOn, wordsOn, textsOn, wordsAfter, ended, readerAfter}
+use Rattle.driver.specs.Feeding.{lastFeed}
 
 ended-append : (r : Reader) (xs ys : List ℕ) → ended r (xs ++ ys) ≡ ended r xs ++ ended (readerAfter r xs) ys
 unfolding ended readerAfter if_then_else_
@@ -42,10 +43,6 @@ pub in-parts : (l : List ℕ) (n m : ℕ) (r : Reader) (xs ys : List ℕ)
     → textsOn l n m (ended r (xs ++ ys)) ≡ textsOn l n m (ended r xs)
     ++ textsOn (wordsAfter l (ended r xs)) n m (ended (readerAfter r xs) ys)
 in-parts l n m r xs ys = rw (ended-append r xs ys) (texts-append l n m (ended r xs) (ended (readerAfter r xs) ys))
-
--- the line feed that the program puts behind input whose last line has none
-unfoldable pub lastFeed : Reader → List ℕ
-lastFeed r = if isEmpty r then [] else 10 ∷ []
 
 read-ended : (r : Reader) (xs : List ℕ) → commandsRead r xs ≡ ended r xs ++ ended (readerAfter r xs) (lastFeed (readerAfter r xs))
 unfolding commandsRead ended readerAfter lastFeed if_then_else_

@@ -22,17 +22,19 @@ use Rattle.interface.specs.declared.Stepped.{Stepped}
 use Rattle.interface.specs.declared.Ran.{Ran}
 use Rattle.fields.specs.Fields.{stepsRange, totalsFrom}
 use Rattle.machine.specs.Plan.{Phase, announce, readDirectory, flipToggle, readState, readToggle, swapState, checkState, copyDirectory, swapDirectory, readSlot, resizeFor}
-use Rattle.machine.proofs.Base.{if-elim}
-use Rattle.bucket.specs.declared.Position.{Position}
-use Rattle.bucket.specs.declared.Position.the-variants.{At, Before}
-use Rattle.bucket.specs.Items.{answerOf}
-use Rattle.memory.specs.Loads.{least}
-use Rattle.memory.proofs.States.{least-bound}
+use Rattle.machine.proofs.laws.Base.{if-elim}
+use Rattle.arrays.specs.declared.Position.{Position}
+use Rattle.arrays.specs.declared.Position.the-variants.{At, Before}
+use Rattle.rules.specs.Rules.{answerOf}
+use Rattle.memory.specs.Words.{least}
+use Rattle.memory.proofs.Lesser.{least-bound}
 use Rattle.layout.specs.Shape.{word}
-use Rattle.table.specs.Turns.{endedAt, checkAt, updateAt, foundAt, lookedAt, lookupAt, operationAt, lastOf, orElse, runIn, longestRun, runWords}
+use Rattle.updates.specs.Updates.{endedAt, checkAt, updateAt}
+use Rattle.turns.specs.Turns.{foundAt, lookedAt, lookupAt, operationAt}
+use Rattle.runs.specs.Runs.{lastOf, orElse, runIn, longestRun, runWords}
 use Rattle.lines.specs.declared.command.Command.{Command}
 use Rattle.replies.specs.declared.Reply.{Reply}
-use Rattle.driver.specs.Responses.{ofOpened, ofCalled, ofRan, replying, responded}
+use Rattle.responses.specs.Responses.{ofOpened, ofCalled, ofRan, replying, responded}
 use Rattle.driver.proofs.Lengths.{smallAnswer, smallReply}
 
 -- ---- totals and numbers of refusals

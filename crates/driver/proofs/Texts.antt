@@ -19,7 +19,7 @@ use Rattle.interface.specs.declared.Refusal.{Refusal}
 use Rattle.fields.specs.Fields.{accountsFrom, totalsFrom}
 use Rattle.machine.specs.Choice.{if_then_else_}
 use Rattle.machine.specs.Sequential.{Table}
-use Rattle.machine.proofs.Base.{if-elim, if-true}
+use Rattle.machine.proofs.laws.Base.{if-elim, if-true}
 use Rattle.layout.specs.Shape.{strange, shapeOf, word}
 use Rattle.rows.specs.Rows.{rowAt, rowsIn, rowsOf, rowsFrom, rows, Shown, shown, listingWords}
 use Rattle.lines.specs.declared.command.Command.{Command}
@@ -28,7 +28,7 @@ use Rattle.lists.specs.Parts.{overlay}
 use Rattle.replies.specs.Printed.{fits, printedRow, printedRows, printedEnd, printedReply}
 use Rattle.lists.proofs.PartLaws.{overlay-nil, length-overlay}
 use Rattle.replies.proofs.Overlays.{next}
-use Rattle.driver.specs.Responses.{responded}
+use Rattle.responses.specs.Responses.{responded}
 use Rattle.driver.specs.Answers.{Output, emitted, putRows, rowsAt, putListed, DriverState, listedAs, listed, repliedAs, isList, answered}
 use Rattle.driver.specs.Feeding.{longest}
 use Rattle.driver.specs.Texts.{rowsText, listingText, textOn, wordsOn}

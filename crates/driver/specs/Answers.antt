@@ -13,7 +13,7 @@ use Rattle.lines.specs.declared.command.Command.{Command}
 use Rattle.replies.specs.declared.Reply.{Reply}
 use Rattle.lists.specs.Parts.{overlay}
 use Rattle.replies.specs.Printed.{fits, printedReply, printedRow, printedEnd}
-use Rattle.driver.specs.Responses.{responded}
+use Rattle.responses.specs.Responses.{responded}
 
 -- ---- output
 

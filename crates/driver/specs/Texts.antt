@@ -17,7 +17,7 @@ use Rattle.replies.specs.declared.Reply.{Reply}
 use Rattle.lines.specs.declared.reader.Reader.{Reader}
 use Rattle.replies.specs.Printed.{printedReply, printedRows, printedEnd}
 use Rattle.lines.specs.Reading.{fresh, pushed, commandIn}
-use Rattle.driver.specs.Responses.{responded}
+use Rattle.responses.specs.Responses.{responded}
 use Rattle.driver.specs.Answers.{isList}
 
 -- ---- one command

@@ -5,10 +5,10 @@ ghost use Prim.Native.Nat.{_≤_};
 ghost use lib.ListN.{length};
 ghost use Rattle.replies.specs.Printed.{printedReply, printedRow, printedEnd};
 ghost use Rattle.driver.specs.Answers.{outputOf, emitted, putRows, rowsAt, stateOf, listed, isList, answered};
-use crate::responses::respond;
 use interface::Listed;
 use lines::Command;
 use replies::Reply;
+use responses::respond;
 
 // Carries a command out, and prints what it is met with.
 pub fn answer(

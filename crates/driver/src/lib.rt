@@ -3,9 +3,7 @@
 // and the texts.
 mod answers;
 mod feeding;
-mod responses;
 
 pub use answers::answer;
 pub use feeding::Fed;
 pub use feeding::feed;
-pub use responses::respond;

@@ -1,6 +1,6 @@
 -- The cases of the steps' definitions, in the order in which the code tests them: each takes what the code has read.
 -- Rests on the definitions of the steps.
-use Prim.Native.Nat.{ℕ, _+_, _-_, _*_, _≤_, _<_}
+use Prim.Native.Nat.{ℕ, _+_, _-_, _≤_, _<_}
 use native.Mathlib.Omega.{arith}
 use mathlib.Core.Path.{_≡_, sym, _∙_, ap}
 use mathlib.Core.Bool.{Bool, true, false, not}
@@ -11,37 +11,23 @@ use lib.Seq.{set-getD}
 use borrow.Author.Tests.{lt-ltb, le-ltb, eq-eqb, ne-eqb}
 use Rattle.interface.specs.Numbers.{kindNone}
 use Rattle.interface.specs.declared.Settings.{Settings}
-use Rattle.fields.specs.Fields.{slotKind, slotAccount, slotTicket, slotSize, workerState, workerToggle, workerMarks, workerSlots, recordApplied, recordDepth, recordNumber}
+use Rattle.fields.specs.Fields.{slotKind, slotAccount, slotTicket, workerState, workerMarks, recordNumber}
 use Rattle.fields.specs.Regions.{readAt}
 use Rattle.machine.specs.Choice.{_and_}
-use Rattle.machine.proofs.Base.{if-true, if-false, if-eq, if-ne, and-true, and-left-false}
-use Rattle.bucket.specs.State.{bit, roundOf}
-use Rattle.bucket.specs.declared.BucketState.{BucketState}
-use Rattle.lists.specs.Parts.{part}
+use Rattle.machine.proofs.laws.Base.{if-true, if-false, if-eq, if-ne, and-true, and-left-false}
+use Rattle.rules.specs.Rules.{bit, withBit}
 use Rattle.layout.specs.Shape.{word}
-use Rattle.layout.specs.Addresses.{recordOf}
-use Rattle.layout.specs.Numbers.{freshNumber}
-use Rattle.engine.specs.Engine.{bucketAt, withBucketAt, splittableAt, markedAt, withBit, roundAt, swappedAt, settledTicket, recordFor, foundBefore, splitsAt, marks, stateStepAt}
-use Rattle.layout.proofs.Searches.{and-no}
-use Rattle.engine.proofs.Bits.{mark-kept}
+use Rattle.layout.specs.Addresses.{recordOf, markedAt, recordFor}
+use Rattle.reuse.specs.Numbers.{freshNumber}
+use Rattle.record.specs.Bucket.{splittableAt, settledTicket}
+use Rattle.inplace.specs.InPlace.{roundAt}
+use Rattle.engine.specs.Engine.{swappedAt, foundBefore, splitsAt, marks, stateStepAt}
+use Rattle.reuse.proofs.Searches.{and-no}
+use Rattle.rules.proofs.Bits.{mark-kept}
 
 -- ---- the bucket swap
 
 module _ (l : List ℕ) (s : Settings) (p q a b : ℕ) where
-  module _ (toggle : a ≡ word l (p + workerToggle)) (applied : b ≡ word l (q + recordApplied)) where
-    pub round-none : a ≡ b → l ≡ roundAt l s p q
-    unfolding roundAt
-    round-none e = sym (if-eq (word l (p + workerToggle)) (word l (q + recordApplied)) l _ (omega arith))
-
-    pub round-done :
-        (a ≡ b → ⊥) → (x y : BucketState) (slots m : List ℕ) (d : ℕ) → x ≡ bucketAt l s q
-        → slots ≡ part l (p + workerSlots) (slotSize * s .workers) → d ≡ word l (q + recordDepth)
-        → y ≡ roundOf x slots s d a → m ≡ withBucketAt l s q y → m ≡ roundAt l s p q
-    unfolding roundAt
-    round-done n x y slots m d ex es ed ey em =
-        em ∙ ap (withBucketAt l s q) (ey ∙ rw (ex, es, ed, toggle))
-        ∙ sym (if-ne (word l (p + workerToggle)) (word l (q + recordApplied)) l _ (λ e. n (omega arith)))
-
   module _ (known : a ≡ word l (p + workerState)) (now : b ≡ word l (q + recordNumber)) where
     pub swap-none : (a ≡ b → ⊥) → l ≡ swappedAt l s p q
     unfolding swappedAt
@@ -52,12 +38,6 @@ module _ (l : List ℕ) (s : Settings) (p q a b : ℕ) where
         → set m (q + recordNumber) x ≡ swappedAt l s p q
     unfolding swappedAt
     swap-done e m x em ex = rw (em, ex) (sym (if-eq (word l (p + workerState)) (word l (q + recordNumber)) _ l (omega arith)))
-
--- ---- a bucket's predicates
-
--- a test of a record's depth and count, which the code has read one after the other
-pub both-read : (f : ℕ → ℕ → Bool) {t : Bool} {d c x y : ℕ} → t ≡ f d c → d ≡ x → c ≡ y → t ≡ f x y
-both-read f {t} {d} {c} {x} {y} e g h = e ∙ ap (λ (k : ℕ). f k c) g ∙ ap (f x) h
 
 -- ---- a state step's test
 

@@ -1,7 +1,2 @@
-pub mod ArrayChanges
-pub mod Bits
-pub mod Cases
-pub mod OneHelped
-pub mod OwnUpdate
 pub mod Phases
-pub mod Splitting
+pub mod Cases

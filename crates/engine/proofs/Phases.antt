@@ -11,7 +11,7 @@ use lib.ListN.{length, getD, length-append, List·getD-append}
 use lib.Seq.{getD-append-add, getD-at}
 use borrow.Author.Tests.{leb-true, leb-false}
 use Rattle.machine.specs.Choice.{if_then_else_}
-use Rattle.machine.proofs.Base.{if-elim}
+use Rattle.machine.proofs.laws.Base.{if-elim}
 use Rattle.machine.specs.Plan.{Phase, announce, readDirectory, flipToggle, readState, readToggle, swapState, checkState, copyDirectory, swapDirectory, readSlot, resizeFor, each, bucketRound, bucketPass, check, directoryRound, directoryPass, pass, plan, phase}
 
 -- ---- a place in a list of parts

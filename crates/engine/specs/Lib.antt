@@ -1,3 +1,2 @@
 pub mod Phases
 pub mod Engine
-pub mod Splits

@@ -1,6 +1,3 @@
-// The steps of an update on the lent words: which step comes, each kind of step, and the directory swap with its
-// splits.
-mod own;
+// The steps of an update on the lent words but the directory swap: which step comes, and each kind of step.
 pub mod phase;
-pub mod splits;
 pub mod steps;

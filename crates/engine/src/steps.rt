@@ -6,12 +6,11 @@ ghost use Rattle.fields.specs.Fields.{widestRecord};
 ghost use Rattle.fields.specs.Regions.{workerAt};
 ghost use Rattle.layout.specs.Shape.{Fits};
 ghost use Rattle.layout.specs.Addresses.{heldBy};
-ghost use Rattle.engine.specs.Engine.{announcedAt, slotReadAt, bucketReadAt, flipBit, flippedAt, stateReadAt, toggleReadAt, directoryReadAt, roundAt, swappedAt, settledTicket, settledAnswer, foundBefore, marks, stateStepAt};
-use crate::own::own_round;
-use bucket::splittable;
+ghost use Rattle.engine.specs.Engine.{announcedAt, slotReadAt, bucketReadAt, flippedAt, stateReadAt, toggleReadAt, directoryReadAt, swappedAt, foundBefore, marks, stateStepAt};
+ghost use Rattle.rules.specs.Rules.{flipBit};
+ghost use Rattle.inplace.specs.InPlace.{roundAt};
 use fields::HEADER_NUMBER;
 use fields::HEADER_SIZE;
-use fields::RECORD_ACCOUNTS;
 use fields::RECORD_APPLIED;
 use fields::RECORD_COUNT;
 use fields::RECORD_DEPTH;
@@ -28,6 +27,7 @@ use fields::WORKER_MARKS;
 use fields::WORKER_SLOTS;
 use fields::WORKER_STATE;
 use fields::WORKER_TOGGLE;
+use inplace::own_round;
 use interface::KIND_NONE;
 use interface::Settings;
 use layout::addresses::held_by;
@@ -37,7 +37,9 @@ use layout::addresses::record_of;
 use layout::addresses::slot_word;
 use layout::addresses::worker_at;
 use layout::addresses::worker_word;
-use layout::numbers::fresh_number;
+use record::settled_ticket;
+use reuse::numbers::fresh_number;
+use rules::splittable;
 
 pub fn announce(words: &mut [u64], g: Settings, w: usize)
     requires { ⌜ Fits (now words) g × (w < g .workers) ⌝ }
@@ -140,12 +142,12 @@ fn round(words: &mut [u64], g: Settings, w: usize, q: usize)
     }
     let n = g.workers as usize;
     let b = g.capacity as usize;
-    let s = memory::load_state(words, q, b, n);
+    let s = record::load_state(words, q, b, n);
     let depth = memory::get(words, q + RECORD_DEPTH);
     let from = worker_at(g, w) + WORKER_SLOTS;
     let to = from + SLOT_SIZE * n;
     let t = s.round(&words[from..to], g, depth, toggle);
-    memory::store_state(words, q, b, n, t);
+    record::store_state(words, q, b, n, t);
 }
 
 pub fn swap(words: &mut [u64], g: Settings, w: usize)
@@ -175,24 +177,6 @@ pub fn copy_directory(words: &mut [u64], g: Settings, w: usize)
         memory::get(words, HEADER_NUMBER),
     );
     put_worker_word(words, g, w, WORKER_MARKS, 0);
-}
-
-// The ticket of worker j that is settled in the record at q.
-pub fn settled_ticket(words: &[u64], g: Settings, q: usize, j: usize) -> u64
-    requires { ⌜ Fits (now words) g × ((j < g .workers) × (q + widestRecord ≤ length (now words))) ⌝ }
-    ensures { λ r. ⌜ r ≡ settledTicket (now (words .entry)) g q j ⌝ }
-{
-    let b = g.capacity as usize;
-    memory::get(words, q + RECORD_ACCOUNTS + b + b + j)
-}
-
-// The number of the answer with which that ticket was settled.
-pub fn settled_answer(words: &[u64], g: Settings, q: usize, j: usize) -> u64
-    requires { ⌜ Fits (now words) g × ((j < g .workers) × (q + widestRecord ≤ length (now words))) ⌝ }
-    ensures { λ r. ⌜ r ≡ settledAnswer (now (words .entry)) g q j ⌝ }
-{
-    let b = g.capacity as usize;
-    memory::get(words, q + RECORD_ACCOUNTS + b + b + g.workers as usize + j)
 }
 
 // Whether a step of this round has found the bucket in the record at q before.

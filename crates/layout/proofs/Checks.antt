@@ -11,7 +11,7 @@ use Rattle.interface.specs.declared.Settings.{Settings}
 use Rattle.fields.specs.Fields.{headerSettings, headerNeeded, markUnit, mark, widestRecord}
 use Rattle.fields.specs.Regions.{directoryStart, leastWords}
 use Rattle.machine.specs.Choice.{if_then_else_}
-use Rattle.machine.proofs.Base.{no-both, if-true, if-false}
+use Rattle.machine.proofs.laws.Base.{no-both, if-true, if-false}
 use Rattle.layout.specs.Shape.{word, settingsOf, strange, shapeOf, Fits}
 
 -- ---- words that pass the checks

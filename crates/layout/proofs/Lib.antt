@@ -1,4 +1,2 @@
-pub mod Checks
-pub mod Pool
 pub mod Positions
-pub mod Searches
+pub mod Checks

@@ -13,9 +13,9 @@ use Rattle.interface.specs.declared.Settings.{Settings}
 use Rattle.fields.specs.Fields.{deepest, workerSize, widestRecord}
 use Rattle.fields.specs.Regions.{slotAt, workerAt, directoryStart}
 use Rattle.machine.specs.Sequential.{place, firstBits}
-use Rattle.machine.proofs.Base.{if-elim}
-use Rattle.memory.specs.Loads.{least}
-use Rattle.memory.proofs.States.{least-bound}
+use Rattle.machine.proofs.laws.Base.{if-elim}
+use Rattle.memory.specs.Words.{least}
+use Rattle.memory.proofs.Lesser.{least-bound}
 use Rattle.layout.specs.Shape.{Fits, settingsOf}
 use Rattle.layout.specs.Addresses.{recordIn, recordOf, heldBy}
 

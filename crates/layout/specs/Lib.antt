@@ -1,4 +1,2 @@
 pub mod Shape
 pub mod Addresses
-pub mod Numbers
-pub mod Records

@@ -6,13 +6,11 @@ ghost use lib.ListN.{length, set};
 ghost use Rattle.interface.specs.Limits.{greatestWorkers};
 ghost use Rattle.fields.specs.Fields.{slotSize, workerSlots, recordCount, widestRecord};
 ghost use Rattle.fields.specs.Regions.{workerAt, readAt};
-ghost use Rattle.bucket.specs.State.{descriptorIn};
-ghost use Rattle.memory.specs.Loads.{least};
+ghost use Rattle.rules.specs.Rules.{descriptorIn};
+ghost use Rattle.memory.specs.Words.{least};
 ghost use Rattle.layout.specs.Shape.{word, Fits};
 ghost use Rattle.layout.specs.Addresses.{recordIn, recordOf, heldBy};
 use crate::shape::directory_start;
-use bucket::Descriptor;
-use bucket::first_bits;
 use fields::HEADER_SIZE;
 use fields::RECORD_COUNT;
 use fields::SLOT_SIZE;
@@ -20,6 +18,8 @@ use fields::WIDEST_RECORD;
 use fields::WORKER_HELD;
 use fields::WORKER_SLOTS;
 use interface::Settings;
+use rules::Descriptor;
+use rules::first_bits;
 
 // Where worker w's record begins.
 pub fn worker_at(g: Settings, w: usize) -> usize
@@ -59,7 +59,7 @@ pub fn slot_read(words: &[u64], g: Settings, w: usize, j: usize) -> Descriptor
     requires { ⌜ Fits (now words) g × ((w < g .workers) × (j < g .workers)) ⌝ }
     ensures { λ r. ⌜ r ≡ descriptorIn (now (words .entry)) (readAt (workerAt (g .workers) w) j) ⌝ }
 {
-    bucket::descriptor_at(words, worker_at(g, w) + WORKER_SLOTS + SLOT_SIZE * j)
+    rules::descriptor_at(words, worker_at(g, w) + WORKER_SLOTS + SLOT_SIZE * j)
 }
 
 // A word that is to be a record's address, if a whole record fits there; else 0.

@@ -1,7 +1,7 @@
 // The functions on a bucket record behind a C interface, for the comparison under bench/: a record's state is loaded,
 // changed and stored.
+use arrays::Position;
 use bucket::BucketState;
-use bucket::Position;
 use fields::WIDEST_RECORD;
 use interface::Settings;
 
@@ -61,10 +61,10 @@ pub extern "C" fn leaf(
     if Settings::GREATEST_WORKERS < n as u64 {
         return 0;
     }
-    let state = memory::load_state(words, q, b, n);
+    let state = record::load_state(words, q, b, n);
     if which == SEARCH {
         return position_number(state.search(account));
     }
-    memory::store_state(words, to, b, n, changed(state, which, account, total));
+    record::store_state(words, to, b, n, changed(state, which, account, total));
     0
 }

@@ -12,7 +12,7 @@ use lib.IntN.{ℤ, pos, negsuc}
 use lib.ListN.{length}
 use borrow.Author.Tests.{leb-true, leb-false, eqb-false}
 use Rattle.machine.specs.Choice.{if_then_else_}
-use Rattle.machine.proofs.Base.{and-parts, if-elim}
+use Rattle.machine.proofs.laws.Base.{and-parts, if-elim}
 use Rattle.replies.specs.Ascii.{space, minusSign, zeroDigit, nineDigit}
 use Rattle.lines.specs.declared.command.Command.{Command}
 use Rattle.lines.specs.declared.command.Command.the-variants.{Open, Insert, Delete, Lookup, Steps, Unread}

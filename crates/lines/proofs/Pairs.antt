@@ -6,7 +6,7 @@ use mathlib.Core.Option.{Option, none, some}
 use native.Mathlib.Omega.{arith}
 use lib.Dec.{eqb}
 use Rattle.interface.specs.Numbers.{kindDelete, kindLookup}
-use Rattle.machine.proofs.Base.{if-elim}
+use Rattle.machine.proofs.laws.Base.{if-elim}
 use Rattle.lines.specs.declared.command.Command.{Command}
 use Rattle.lines.specs.declared.command.Command.the-variants.{Insert, Delete, Lookup, Unread}
 use Rattle.lines.specs.declared.number.Pair.the-variants as Pair

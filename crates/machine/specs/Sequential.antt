@@ -1,5 +1,5 @@
 -- The sequential specification: document 01's plain table. Rests on the enum of answers alone.
-use Prim.Native.Nat.{ℕ, zero, suc, _-_, _/_, _%_, _^_}
+use Prim.Native.Nat.{ℕ, zero, suc, _-_, _/_, _%_, _^_, _<_}
 use mathlib.Core.Bool.{Bool}
 use mathlib.Core.List.{List, [], _∷_}
 use mathlib.Core.Option.{Option, none, some}
@@ -93,3 +93,14 @@ crowds b M a t = leb b (length (having M (firstBits M a) t))
 unfoldable pub serve : ℕ → ℕ → Operation → Table → Answer × Table
 serve b M (lookup a) t = (looked (find t a), t)
 serve b M (update u) t = if crowds b M (account u) t then (Crowded, t) else (result u t, changed u t)
+
+-- ---- ascending tables
+
+-- every account of the table is above x
+abbrev pub AccountsAbove : ℕ → Table → Type 0
+AccountsAbove x [] = Unit {0}
+AccountsAbove x (e ∷ t) = (x < e .0) × AccountsAbove x t
+
+abbrev pub Ascending : Table → Type 0
+Ascending [] = Unit {0}
+Ascending (e ∷ t) = AccountsAbove (e .0) t × Ascending t

@@ -1,4 +1,3 @@
+pub mod Lesser
 pub mod Runs
-pub mod States
 pub mod Totals
-pub mod Trips

@@ -1,18 +1,16 @@
--- Laws of runs of words that a loop writes or reads one word at a time: a run laid over words, an array stored, words copied.
+-- Laws of runs of words that a loop writes one word at a time: a run laid over words, a run copied, a run of one word.
 -- Rests on the laws of parts and overlays.
-use Prim.Native.Nat.{ℕ, zero, suc, _+_, _-_, _≤_, _<_}
-use mathlib.Core.Path.{_≡_, refl, sym, _∙_, ap}
+use Prim.Native.Nat.{ℕ, _+_, _-_, _≤_, _<_}
+use mathlib.Core.Path.{_≡_, sym, _∙_, ap}
 use mathlib.Core.Logic.{_⊎_, inl, inr, ⊎-elim}
 use mathlib.Core.List.{List, _++_}
-use native.Mathlib.Nat.{eq-or-lt-of-le, le-of-suc-le-suc}
-use native.Mathlib.Numerals.{add-one}
 use native.Mathlib.Omega.{arith}
-use lib.ListN.{length, take, drop, getD, set, replicate, length-append, length-drop, length-set, length-replicate, replicate-append-replicate}
-use lib.Seq.{length-take-le, take-suc, getD-take, getD-drop, set-append-left, take-set-lt, drop-set-lt, getD-set-same, getD-set-other}
-use Rattle.interface.specs.Limits.{greatestCapacity}
+use lib.ListN.{length, take, drop, getD, set, replicate, length-append, length-drop, length-replicate, replicate-append-replicate}
+use lib.Seq.{length-take-le, getD-drop, set-append-left, take-set-lt, drop-set-lt, take-suc, getD-take}
 use Rattle.lists.specs.Parts.{part, overlay}
-use Rattle.memory.specs.Loads.{copied, stored}
-use Rattle.lists.proofs.PartLaws.{overlay-nil, overlay-more, length-overlay, getD-overlay-in, getD-overlay-before, getD-overlay-after}
+use Rattle.lists.proofs.PartLaws.{overlay-more, overlay-nil, length-overlay, getD-overlay-in, getD-overlay-before, getD-overlay-after}
+use native.Mathlib.Numerals.{add-one}
+use Rattle.memory.specs.Words.{stored}
 
 -- ---- a run laid over words
 
@@ -64,33 +62,6 @@ stored-run m at a k h f =
       elsewhere = λ i p. ⊎-elim (getD-overlay-before m at (take k a) fits i)
           (λ e. getD-overlay-after m at (take k a) fits i (omega arith)) p;
     }
-
--- ---- words copied into an array
-
-pub copied-more : (a l : List ℕ) (at i : ℕ) → a ≡ copied l at i → set a i (getD l (at + i) 0) ≡ copied l at (i + 1)
-unfolding copied
-copied-more a l at i e = rw (e, add-one)
-
-pub length-copied : (l : List ℕ) (at k : ℕ) → length (copied l at k) ≡ greatestCapacity
-unfolding copied
-length-copied l at zero = refl
-length-copied l at (suc k) = length-set (copied l at k) k (getD l (at + k) 0) ∙ length-copied l at k
-
-pub getD-copied : (l : List ℕ) (at k i : ℕ) → k ≤ greatestCapacity → i < k → getD (copied l at k) i 0 ≡ getD l (at + i) 0
-unfolding copied
-getD-copied l at zero i h p = absurd (omega arith)
-getD-copied l at (suc k) i h p =
-    let n = length-copied l at k in
-    ⊎-elim
-    (λ e. rw e (getD-set-same (copied l at k) k (getD l (at + k) 0) 0 (omega arith)))
-    (λ m. getD-set-other (copied l at k) k i (getD l (at + k) 0) 0 (λ e. omega arith) ∙ getD-copied l at k i (omega arith) m)
-    (eq-or-lt-of-le (le-of-suc-le-suc p))
-
-pub copied-same :
-    (l m : List ℕ) (at to k : ℕ) → ((i : ℕ) → i < k → getD l (at + i) 0 ≡ getD m (to + i) 0) → copied l at k ≡ copied m to k
-unfolding copied
-copied-same l m at to zero h = refl
-copied-same l m at to (suc k) h = rw (copied-same l m at to k (λ i p. h i (omega arith)), h k (omega arith))
 
 -- ---- a run copied to another place, and a run of one word
 

@@ -7,15 +7,8 @@ ghost use Prim.Native.Nat.{_+_, _-_, _≤_, _<_};
 ghost use lib.ListN.{length, getD, set, replicate};
 ghost use mir.Syntax.{w64};
 ghost use mir.Val.{ofZ, toZ};
-ghost use Rattle.interface.specs.Limits.{greatestWorkers, greatestCapacity};
 ghost use Rattle.lists.specs.Parts.{part, overlay};
-ghost use Rattle.fields.specs.Fields.{widestRecord};
-ghost use Rattle.memory.specs.Loads.{least, loadedState, storedState};
-use bucket::ARRAY_SIZE;
-use bucket::BucketState;
-use fields::RECORD_ACCOUNTS;
-use fields::RECORD_APPLIED;
-use fields::RECORD_COUNT;
+ghost use Rattle.memory.specs.Words.{least};
 
 // The word that keeps a total: its bits.
 pub fn word_of(x: i64) -> u64
@@ -100,65 +93,5 @@ pub fn least(count: u64, capacity: usize) -> usize
         count as usize
     } else {
         capacity
-    }
-}
-
-// The state in the record at q. One bound serves every b and n.
-pub fn load_state(words: &[u64], q: usize, b: usize, n: usize) -> BucketState
-    requires { ⌜ (q + widestRecord ≤ length (now words)) × ((b ≤ greatestCapacity) × (n ≤ greatestWorkers)) ⌝ }
-    ensures { λ r. ⌜ r ≡ loadedState (now (words .entry)) q b n ⌝ }
-{
-    let c = least(words[q + RECORD_COUNT], b);
-    let zeros = [0u64; ARRAY_SIZE];
-    let mut s = BucketState {
-        accounts: zeros,
-        totals: zeros,
-        settled: zeros,
-        answers: zeros,
-        count: c as u64,
-        applied: words[q + RECORD_APPLIED],
-    };
-    let accounts = q + RECORD_ACCOUNTS;
-    let totals = accounts + b;
-    let mut i: usize = 0;
-    while i < c {
-        s.accounts[i] = words[accounts + i];
-        s.totals[i] = words[totals + i];
-        i += 1;
-    }
-    let settled = totals + b;
-    let answers = settled + n;
-    let mut j: usize = 0;
-    while j < n {
-        s.settled[j] = words[settled + j];
-        s.answers[j] = words[answers + j];
-        j += 1;
-    }
-    s
-}
-
-// The state s, written into the record at q.
-pub fn store_state(words: &mut [u64], q: usize, b: usize, n: usize, s: BucketState)
-    requires { ⌜ (q + widestRecord ≤ length (now words)) × ((b ≤ greatestCapacity) × (n ≤ greatestWorkers)) ⌝ }
-    ensures { λ _. ⌜ now (words .exit) ≡ storedState (now (words .entry)) q b n s ⌝ }
-{
-    let c = least(s.count, b);
-    words[q + RECORD_COUNT] = c as u64;
-    words[q + RECORD_APPLIED] = s.applied;
-    let accounts = q + RECORD_ACCOUNTS;
-    let totals = accounts + b;
-    let mut i: usize = 0;
-    while i < c {
-        words[accounts + i] = s.accounts[i];
-        words[totals + i] = s.totals[i];
-        i += 1;
-    }
-    let settled = totals + b;
-    let answers = settled + n;
-    let mut j: usize = 0;
-    while j < n {
-        words[settled + j] = s.settled[j];
-        words[answers + j] = s.answers[j];
-        j += 1;
     }
 }

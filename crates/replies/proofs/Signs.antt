@@ -15,7 +15,7 @@ use borrow.Author.Tests.{ltb-true}
 use Rattle.interface.specs.Numbers.{bytes, answerWord, answerTotal}
 use Rattle.interface.specs.declared.Answer.the-variants.{Found}
 use Rattle.machine.specs.Choice.{if_then_else_}
-use Rattle.machine.proofs.Base.{no-both}
+use Rattle.machine.proofs.laws.Base.{no-both}
 use Rattle.replies.specs.declared.Decimal.{Decimal}
 use Rattle.replies.specs.Ascii.{lineFeed, space, minusSign}
 use Rattle.replies.specs.Decimals.{decimal, signedDecimal}

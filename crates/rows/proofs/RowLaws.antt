@@ -18,9 +18,9 @@ use Rattle.interface.specs.declared.Refusal.{Refusal}
 use Rattle.interface.specs.declared.Listed.{Listed}
 use Rattle.fields.specs.Fields.{recordCount, accountsFrom, widestRecord}
 use Rattle.machine.specs.Choice.{if_then_else_}
-use Rattle.machine.proofs.Base.{if-elim, if-true, if-false}
+use Rattle.machine.proofs.laws.Base.{if-elim, if-true, if-false}
 use Rattle.lists.specs.Parts.{overlay}
-use Rattle.memory.specs.Loads.{least}
+use Rattle.memory.specs.Words.{least}
 use Rattle.layout.specs.Shape.{word, strange, shapeOf, Fits}
 use Rattle.machine.specs.Sequential.{firstBits}
 use Rattle.rows.specs.Rows.{entryRecord, rowAt, rowsIn, rowsOf, rowsFrom, rows, shown, listingWords}

@@ -17,7 +17,7 @@ use Rattle.fields.specs.Regions.{directoryStart}
 use Rattle.machine.specs.Choice.{if_then_else_}
 use Rattle.machine.specs.Sequential.{firstBits}
 use Rattle.lists.specs.Parts.{overlay}
-use Rattle.memory.specs.Loads.{least}
+use Rattle.memory.specs.Words.{least}
 use Rattle.layout.specs.Shape.{word, strange, shapeOf}
 use Rattle.layout.specs.Addresses.{recordIn}
 

@@ -5,7 +5,6 @@ ghost use Prim.Native.Nat.{_+_, _^_, _≤_, _<_};
 ghost use lib.ListN.{length};
 ghost use Rattle.layout.specs.Shape.{Fits};
 ghost use Rattle.rows.specs.Rows.{entryRecord, rowsOf, rows, RowsWritten, listingWords};
-use bucket::first_bits;
 use fields::HEADER_SETTINGS;
 use fields::RECORD_ACCOUNTS;
 use interface::Listed;
@@ -16,6 +15,7 @@ use layout::addresses::size;
 use layout::shape::directory_start;
 use layout::shape::settings_of;
 use layout::shape::strange_words;
+use rules::first_bits;
 
 // The record that entry e names.
 fn entry_record(words: &[u64], g: Settings, e: usize) -> usize

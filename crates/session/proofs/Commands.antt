@@ -25,23 +25,25 @@ use Rattle.machine.specs.Calls.{Opening, opens, refuses, opening, call, content
 use Rattle.machine.specs.History.{calling, next}
 use Rattle.machine.specs.Script as Script
 use Rattle.machine.proofs.Openings.{settings, opening-settings, opening-short, opening-opens}
-use Rattle.machine.proofs.Tasks.{opened-good}
+use Rattle.machine.proofs.invariant.Tasks.{opened-good}
 use Rattle.layout.specs.Shape.{strange, shapeOf}
 use Rattle.lists.specs.Parts.{overlay}
-use Rattle.table.specs.Turns.{openWords, callWords, runWords, freshWords}
+use Rattle.opening.specs.Opening.{openWords, freshWords}
+use Rattle.calls.specs.Calls.{callWords}
+use Rattle.runs.specs.Runs.{runWords}
 use Rattle.rows.specs.Rows.{rows}
 use Rattle.replies.specs.declared.Reply.{Reply}
 use Rattle.replies.specs.Printed.{printed, printedReply, printedRows, printedEnd}
 use Rattle.lines.specs.declared.command.Command.{Command}
 use Rattle.lines.specs.Grammar.{lineOf}
 use Rattle.lines.specs.Session.{told}
-use Rattle.driver.specs.Responses.{ofOpened, ofCalled, ofRan, replying, responded}
+use Rattle.responses.specs.Responses.{ofOpened, ofCalled, ofRan, replying, responded}
 use Rattle.driver.specs.Answers.{isList}
 use Rattle.driver.specs.Texts.{rowsText, listingText, textOn, wordsOn}
-use Rattle.simulation.proofs.Opening.{strange-never, shape-is, opened-means}
+use Rattle.simulation.proofs.OpeningMeans.{strange-never, shape-is, opened-means}
 use Rattle.simulation.proofs.RowsMean.{rows-are}
-use Rattle.simulation.proofs.Replies.{openedAs, open-alike, call-alike, represents-next}
-use Rattle.session.specs.Same.{Opened, Meant, Same, Alike}
+use Rattle.simulation.proofs.Demand3ForCalls.{openedAs, open-alike, call-alike, represents-next}
+use Rattle.session.proofs.Same.{Opened, Meant, Same, Alike}
 use Rattle.session.proofs.Lengths.{length-call, length-run, length-opened}
 use Rattle.session.proofs.Lines.{Said}
 use Rattle.session.proofs.Steps.{run-alike}

@@ -7,8 +7,8 @@ use lib.ListN.{length, length-append}
 use Rattle.interface.specs.declared.Settings.{Settings}
 use Rattle.fields.specs.Fields.{recordCount, recordSize, spareRecords}
 use Rattle.fields.specs.Regions.{directoryStart, recordStart, poolSize, wordsNeeded}
-use Rattle.memory.specs.Loads.{least}
-use Rattle.memory.proofs.States.{least-bound}
+use Rattle.memory.specs.Words.{least}
+use Rattle.memory.proofs.Lesser.{least-bound}
 use Rattle.layout.specs.Shape.{word}
 use Rattle.rows.specs.Rows.{entryRecord, rowsIn, rowsOf, rowsFrom, rows}
 use Rattle.rows.proofs.RowLaws.{rows-limit}

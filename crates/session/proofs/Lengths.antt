@@ -15,25 +15,29 @@ use Rattle.interface.specs.declared.Ran.{Ran}
 use Rattle.machine.specs.Plan.{Phase, announce, readDirectory, flipToggle, readState, readToggle, swapState, checkState, copyDirectory, swapDirectory, readSlot, resizeFor, phase}
 use Rattle.fields.specs.Fields.{headerNumber, slotSize, workerKind, workerSteps, stepsRange, workerState, workerDirectory, recordNumber, widestRecord}
 use Rattle.fields.specs.Regions.{slotAt, workerAt, readAt, wordsNeeded}
-use Rattle.machine.proofs.Base.{if-elim}
-use Rattle.bucket.specs.State.{bit}
+use Rattle.machine.proofs.laws.Base.{if-elim}
+use Rattle.rules.specs.Rules.{bit}
 use Rattle.lists.specs.Parts.{part, overlay}
 use Rattle.lists.proofs.PartLaws.{length-part, length-overlay}
-use Rattle.memory.specs.Loads.{least}
+use Rattle.memory.specs.Words.{least}
 use Rattle.layout.specs.Shape.{word, strange, shapeOf, Fits, Whole}
-use Rattle.layout.specs.Addresses.{heldBy}
+use Rattle.layout.specs.Addresses.{heldBy, markedAt}
 use Rattle.layout.proofs.Checks.{fits-of}
 use Rattle.layout.proofs.Positions.{fits-kept, placed, held-inside}
-use Rattle.layout.proofs.Pool.{whole-kept}
+use Rattle.reuse.proofs.Pool.{whole-kept}
 use Rattle.engine.specs.declared.phase.Phase as Code
 use Rattle.engine.specs.Phases.{planned}
-use Rattle.engine.specs.Engine.{slotReadAt, bucketReadAt, flippedAt, stateReadAt, toggleReadAt, directoryReadAt, swappedAt, markedAt, marks, stateStepAt}
-use Rattle.engine.specs.Splits.{takenAll, resolvedAt, nothingToSplit, redirectedAt}
-use Rattle.engine.proofs.Splitting.{whole-else}
+use Rattle.engine.specs.Engine.{slotReadAt, bucketReadAt, flippedAt, stateReadAt, toggleReadAt, directoryReadAt, swappedAt, marks, stateStepAt}
+use Rattle.splits.specs.Splits.{takenAll, resolvedAt, nothingToSplit, redirectedAt}
+use Rattle.splits.proofs.Splitting.{whole-else}
 use Rattle.session.proofs.StepLengths.{length-announced, length-round, length-taken}
-use Rattle.table.specs.Turns.{endedAt, checkAt, updateAt, lookupAt, operationAt, begunAt, callIn, callWords, freshWords, orElse, runIn, longestRun, runWords}
-use Rattle.table.proofs.TurnLaws.{slot-below}
-use Rattle.table.proofs.Fresh.{fresh-parts}
+use Rattle.updates.specs.Updates.{endedAt, checkAt, updateAt}
+use Rattle.turns.specs.Turns.{lookupAt, operationAt}
+use Rattle.calls.specs.Calls.{begunAt, callIn, callWords}
+use Rattle.opening.specs.Opening.{freshWords}
+use Rattle.runs.specs.Runs.{orElse, runIn, longestRun, runWords}
+use Rattle.updates.proofs.UpdateLaws.{slot-below}
+use Rattle.opening.proofs.FreshWords.{fresh-parts}
 
 -- as many words as before
 abbrev Long : List ℕ → List ℕ → Type 0

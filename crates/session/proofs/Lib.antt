@@ -5,7 +5,8 @@ pub mod StepLengths
 pub mod Lines
 pub mod Steps
 pub mod Commands
-pub mod Sessions
+pub mod ProgramIsSession
 pub mod Counts
-pub mod Narrow
-pub mod Blocks
+pub mod NeverNarrow
+pub mod ProgramInBlocks
+pub mod Same

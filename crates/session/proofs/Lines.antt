@@ -8,7 +8,7 @@ use lib.IntN.{ℤ, pos, negsuc}
 use mir.Syntax.{w64}
 use mir.Val.{SFits}
 use borrow.Author.Tests.{leb-true}
-use Rattle.machine.proofs.Base.{if-elim}
+use Rattle.machine.proofs.laws.Base.{if-elim}
 use Rattle.lines.specs.declared.command.Command.{Command}
 use Rattle.lines.specs.Numerals.{numeral, signedNumeral, upTo, from, in64}
 use Rattle.lines.specs.Grammar.{fieldsOf, letterOf, accountOf, totalOf, stepsOf, with2, with3, oneField, threeFields, fourFields, ofFields, commandOf}

@@ -13,24 +13,28 @@ use Rattle.interface.specs.declared.Settings.{Settings}
 use Rattle.fields.specs.Fields.{headerDepth, headerSpare, slotAccount, slotSize, workerToggle, recordCount, recordApplied, recordToggle, recordDepth, recordPrefix, recordNumber, widestRecord}
 use Rattle.fields.specs.Regions.{slotAt, workerAt, readAt, directoryStart, recordStart}
 use Rattle.machine.specs.Choice.{_and_}
-use Rattle.machine.proofs.Base.{if-elim, and-parts}
-use Rattle.bucket.specs.State.{arraySize, sizeOf, searchOf, putOf, removeOf, settleOf, fullBy, splittableBy, carryOf, helpOf, helpedOf, withApplied, roundOf, halfOf}
+use Rattle.machine.proofs.laws.Base.{if-elim, and-parts}
+use Rattle.bucket.specs.State.{arraySize, sizeOf, searchOf, putOf, removeOf, settleOf, carryOf, helpOf, helpedOf, withApplied, roundOf, halfOf}
+use Rattle.rules.specs.Rules.{fullBy, splittableBy}
 use Rattle.bucket.specs.declared.BucketState.{BucketState}
-use Rattle.bucket.specs.declared.Descriptor.{Descriptor}
-use Rattle.bucket.specs.declared.Position.{Position}
-use Rattle.bucket.specs.declared.Position.the-variants.{At, Before}
-use Rattle.bucket.proofs.Laws.{length-inserted, length-removed, size-limit, length-keeps, length-gathered}
+use Rattle.rules.specs.declared.Descriptor.{Descriptor}
+use Rattle.arrays.specs.declared.Position.{Position}
+use Rattle.arrays.specs.declared.Position.the-variants.{At, Before}
+use Rattle.arrays.proofs.Laws.{length-inserted, length-removed}
+use Rattle.bucket.proofs.Laws.{size-limit, length-keeps, length-gathered}
 use Rattle.lists.specs.Parts.{part, overlay}
 use Rattle.lists.proofs.PartLaws.{length-part, length-overlay}
-use Rattle.memory.proofs.States.{Sized, loaded-sized}
-use Rattle.memory.proofs.Trips.{length-state}
+use Rattle.record.proofs.States.{Sized, loaded-sized}
+use Rattle.record.proofs.Trips.{length-state}
 use Rattle.layout.specs.Shape.{word, Fits, Whole}
 use Rattle.layout.specs.Addresses.{recordOf}
-use Rattle.engine.specs.Engine.{bucketAt, holdsBackAt, splittableAt, announcedAt, roundAt}
-use Rattle.layout.specs.Records.{firstEntry, spareOf}
-use Rattle.engine.specs.Splits.{madeAt, directedAt, halfAt, deepenedAt, splitAt, splitWhileAt, carriedAt, takenAt}
+use Rattle.record.specs.Bucket.{bucketAt, holdsBackAt, splittableAt}
+use Rattle.engine.specs.Engine.{announcedAt}
+use Rattle.inplace.specs.InPlace.{roundAt}
+use Rattle.reuse.specs.Records.{firstEntry, spareOf}
+use Rattle.splits.specs.Splits.{madeAt, directedAt, halfAt, deepenedAt, splitAt, splitWhileAt, carriedAt, takenAt}
 use Rattle.layout.proofs.Positions.{fits-kept, record-inside, placed}
-use Rattle.layout.proofs.Pool.{whole-kept, pool-inside, directory-inside, entries-inside, spare-below}
+use Rattle.reuse.proofs.Pool.{whole-kept, pool-inside, directory-inside, entries-inside, spare-below}
 
 -- ---- a state's arrays keep their items
 

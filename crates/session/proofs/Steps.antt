@@ -14,11 +14,12 @@ use Rattle.machine.specs.Steps.{step}
 use Rattle.machine.specs.History.{stepping, next}
 use Rattle.machine.specs.Script as Script
 use Rattle.replies.specs.Printed.{printed, printedReply}
-use Rattle.table.specs.Turns.{stepWords, runWords}
-use Rattle.driver.specs.Responses.{ofRan}
+use Rattle.turns.specs.Turns.{stepWords}
+use Rattle.runs.specs.Runs.{runWords}
+use Rattle.responses.specs.Responses.{ofRan}
 use Rattle.simulation.specs.Runs.{goesOn, iterated, bySteps}
-use Rattle.simulation.proofs.Replies.{Represents, step-alike, represents-next}
-use Rattle.simulation.proofs.Runs.{run-iterates}
+use Rattle.simulation.proofs.Demand3ForCalls.{Represents, step-alike, represents-next}
+use Rattle.simulation.proofs.runs.RunIterates.{run-iterates}
 
 -- what a run on words left and replied is what the script's steps left and replied
 pub record AsSteps (s : Settings) (x : List ℕ × Ran) (y : Script.Response) : Type 0 where

@@ -23,20 +23,20 @@ use Rattle.machine.specs.Choice.{if_then_else_, assign}
 use Rattle.machine.specs.Sequential.{Update, insert, delete, Operation, update, lookup}
 use Rattle.machine.specs.Records.{Worker, Machine}
 use Rattle.machine.specs.Calls.{operationOf, ticketFor, begun, call}
-use Rattle.machine.proofs.Base.{if-true, if-false}
-use Rattle.machine.proofs.Counter.{counter-start}
+use Rattle.machine.proofs.laws.Base.{if-true, if-false}
+use Rattle.machine.proofs.invariant.Counter.{counter-start}
 use Rattle.machine.proofs.Openings.{call-busy, call-kind, call-spent, call-update, call-lookup}
-use Rattle.machine.proofs.Transitions.{counterOf}
-use Rattle.bucket.specs.declared.Descriptor.{Descriptor}
-use Rattle.bucket.specs.State.{descriptorIn}
-use Rattle.bucket.specs.Items.{signed, updateFrom}
+use Rattle.machine.specs.Tasks.{counterOf}
+use Rattle.rules.specs.declared.Descriptor.{Descriptor}
+use Rattle.rules.specs.Rules.{descriptorIn}
+use Rattle.simulation.specs.Buckets.{signed, updateFrom}
 use Rattle.fields.specs.Fields.{workerKind, workerAccount, workerTotal, workerTicket, workerSteps, workerToggle, workerMarks, workerSlots}
 use Rattle.fields.specs.Regions.{startOf, worker}
 use Rattle.layout.specs.Shape.{word}
-use Rattle.table.specs.Turns.{begunAt, updateCalled, lookupCalled, callIn}
+use Rattle.calls.specs.Calls.{begunAt, updateCalled, lookupCalled, callIn}
 use Rattle.simulation.specs.Meaning.{at, operationIn, Meaning}
-use Rattle.simulation.proofs.Entering.{is-busy, is-idle}
-use Rattle.simulation.proofs.OwnWorker.{worker-means, Ready, Free, nowhere, Words, words-here, words-set, mine-means, toggle-kept, slots-kept, free}
+use Rattle.simulation.proofs.frames.Entering.{is-busy, is-idle}
+use Rattle.simulation.proofs.frames.OwnWorker.{worker-means, Ready, Free, nowhere, Words, words-here, words-set, mine-means, toggle-kept, slots-kept, free}
 
 module _ {s : Settings} {l : List ℕ} {m : Machine} {w : ℕ} (ready : Ready s l m w) where
   abbrev pub p : ℕ

@@ -16,30 +16,32 @@ use Rattle.interface.specs.Limits.{inRange, Range}
 use Rattle.interface.proofs.Laws.{range-of}
 use Rattle.interface.specs.declared.Settings.{Settings}
 use Rattle.machine.specs.Choice.{if_then_else_}
-use Rattle.machine.specs.Sequential.{Table, place, firstBits, having}
+use Rattle.machine.specs.Sequential.{Table, place, firstBits, having, AccountsAbove, Ascending}
 use Rattle.machine.specs.Records.{Name, Leaf, Machine}
 use Rattle.machine.specs.DirectoryPass.{copyOf, nameOf}
 use Rattle.machine.specs.Calls.{contents}
-use Rattle.machine.proofs.Base.{if-elim, if-false, if-eq, if-ne}
-use Rattle.machine.proofs.Bits.{bits-below, representative, bits-representative}
-use Rattle.machine.proofs.Tables.{AccountsAbove, Ascending, having-having}
-use Rattle.machine.proofs.Copies.{Coherent, depthAt-le, leafOf-copyOf, partition-name, partition-of}
+use Rattle.machine.proofs.laws.Base.{if-elim, if-false, if-eq, if-ne}
+use Rattle.machine.proofs.laws.Bits.{bits-below, representative, bits-representative}
+use Rattle.machine.proofs.laws.Tables.{having-having}
+use Rattle.machine.proofs.laws.Copies.{Coherent, depthAt-le, leafOf-copyOf, partition-name, partition-of}
 use Rattle.machine.proofs.Listing.{contents-is}
-use Rattle.machine.proofs.Inv.{leaf, leafBody}
-use Rattle.machine.proofs.Tasks.{Good}
-use Rattle.machine.proofs.Explain.{Parts}
+use Rattle.machine.specs.Tasks.{leaf}
+use Rattle.machine.proofs.invariant.Inv.{leafBody}
+use Rattle.machine.proofs.invariant.Tasks.{Good}
+use Rattle.machine.proofs.moments.Explain.{Parts}
 use Rattle.bucket.specs.declared.BucketState.{BucketState}
-use Rattle.bucket.specs.Items.{signed, pairs, itemsOf, Below, Sound, Means}
+use Rattle.simulation.specs.Buckets.{signed, pairs, itemsOf, Below, Sound, Means}
 use Rattle.bucket.proofs.Laws.{size-is}
 use Rattle.fields.specs.Fields.{recordCount, accountsFrom, totalsFrom}
 use Rattle.fields.specs.Regions.{directoryStart, record′, startOf}
-use Rattle.memory.specs.Loads.{least, copied, loadedState}
-use Rattle.memory.proofs.Runs.{getD-copied}
+use Rattle.memory.specs.Words.{least}
+use Rattle.record.specs.Loads.{copied, loadedState}
+use Rattle.record.proofs.Runs.{getD-copied}
 use Rattle.layout.specs.Shape.{word}
 use Rattle.layout.specs.Addresses.{recordIn, recordOf}
 use Rattle.rows.specs.Rows.{entryRecord, rowAt, rowsIn, rowsOf, rowsFrom, rows}
 use Rattle.simulation.specs.Meaning.{at, current, Meaning}
-use Rattle.simulation.proofs.Entering.{directed-record}
+use Rattle.simulation.proofs.frames.Entering.{directed-record}
 
 -- ---- a table by the first bits of its accounts
 

@@ -9,18 +9,18 @@ use Rattle.interface.specs.declared.Answer.{Answer}
 use Rattle.machine.specs.Sequential.{Operation}
 use Rattle.machine.specs.Records.{Cells, Reads, Machine}
 use Rattle.machine.specs.Steps.{counted, step}
-use Rattle.machine.proofs.Counter.{slotB, swap, slotD, swapD, state}
-use Rattle.machine.proofs.Inv.{Task}
-use Rattle.machine.proofs.Transitions.{taskOf, tasksOf, Transition, looks, finds, announces, readsD, flips, readsS, readsT, slotsB, lastB, swaps, misses, checksD, answers, passes, copies, slotsD, lastD, resizes, lastState, redirects, missesD}
-use Rattle.table.specs.Turns.{stepIn}
+use Rattle.machine.specs.Counter.{slotB, swap, slotD, swapD, state}
+use Rattle.machine.specs.Tasks.{Task, taskOf, tasksOf}
+use Rattle.machine.proofs.invariant.Transitions.{Transition, looks, finds, announces, readsD, flips, readsS, readsT, slotsB, lastB, swaps, misses, checksD, answers, passes, copies, slotsD, lastD, resizes, lastState, redirects, missesD}
+use Rattle.turns.specs.Turns.{stepIn}
 use Rattle.simulation.specs.Meaning.{Meaning}
-use Rattle.simulation.proofs.Entering.{simulated, simulated-idle}
-use Rattle.simulation.proofs.OwnWorker.{Ready, Next}
-use Rattle.simulation.proofs.OwnSteps.{looks-means, readsD-means, readsS-means, readsT-means, slotB-means, misses-means, checksD-means, copies-means, slotD-means, missesD-means}
-use Rattle.simulation.proofs.CellSteps.{announces-means, flips-means, swaps-means}
-use Rattle.simulation.proofs.Redirects.{redirects-means}
-use Rattle.simulation.proofs.MarkSteps.{state-means}
-use Rattle.simulation.proofs.EndSteps.{finds-means, answers-means, passes-means}
+use Rattle.simulation.proofs.frames.Entering.{simulated, simulated-idle}
+use Rattle.simulation.proofs.frames.OwnWorker.{Ready, Next}
+use Rattle.simulation.proofs.own.OwnSteps.{looks-means, readsD-means, readsS-means, readsT-means, slotB-means, misses-means, checksD-means, copies-means, slotD-means, missesD-means}
+use Rattle.simulation.proofs.cells.CellSteps.{announces-means, flips-means, swaps-means}
+use Rattle.simulation.proofs.swap.Redirects.{redirects-means}
+use Rattle.simulation.proofs.own.MarkSteps.{state-means}
+use Rattle.simulation.proofs.own.EndSteps.{finds-means, answers-means, passes-means}
 
 module _ {s : Settings} {l : List ℕ} {m : Machine} {w : ℕ} (ready : Ready s l m w) where
   transition-means :

@@ -1,3 +1,4 @@
+pub mod Buckets
 pub mod Meaning
-pub mod Lent
+pub mod Demand3ForCalls
 pub mod Runs

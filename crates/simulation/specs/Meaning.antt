@@ -16,15 +16,14 @@ use Rattle.machine.specs.Records.{Name, Bucket, Slot, empty, announced, Machine
 use Rattle.machine.specs.DirectoryPass.{leafOf}
 use Rattle.fields.specs.Fields.{headerSettings, headerNeeded, headerDepth, headerNumber, slotKind, slotAccount, slotTotal, slotTicket, slotSize, workerAccount, workerTotal, workerTicket, workerSteps, workerHeld, workerState, workerToggle, workerDirectory, workerMarks, workerSlots, recordCount, recordToggle, recordDepth, recordPrefix, recordNumber}
 use Rattle.fields.specs.Regions.{readAt, poolSize, wordsNeeded, Region, record′, startOf, slot, worker, entry}
-use Rattle.machine.proofs.Counter.{PC, DStep, copyD, swapD, slotD, state}
-use Rattle.machine.proofs.Inv.{leaf, held, own, IsMade, DirectoryFresh}
-use Rattle.machine.proofs.Transitions.{tasksOf}
-use Rattle.machine.proofs.CounterFacts.{HoldsBucket, PastState, inBuckets, inDirectory, sinceState, sinceCopy}
-use Rattle.bucket.specs.declared.Descriptor.{Descriptor}
-use Rattle.bucket.specs.State.{bit, descriptorIn}
-use Rattle.bucket.specs.Items.{bitsOf, updateFrom, slotFrom, SoundSlots, Means}
+use Rattle.machine.specs.Counter.{PC, DStep, copyD, swapD, slotD, state}
+use Rattle.machine.specs.Tasks.{leaf, held, IsMade, DirectoryFresh, tasksOf, own}
+use Rattle.machine.specs.Passed.{HoldsBucket, PastState, inBuckets, inDirectory, sinceState, sinceCopy}
+use Rattle.rules.specs.declared.Descriptor.{Descriptor}
+use Rattle.rules.specs.Rules.{bit, descriptorIn}
+use Rattle.simulation.specs.Buckets.{bitsOf, updateFrom, slotFrom, SoundSlots, Means}
 use Rattle.lists.specs.Parts.{part}
-use Rattle.memory.specs.Loads.{loadedState}
+use Rattle.record.specs.Loads.{loadedState}
 use Rattle.layout.specs.Shape.{word, firstWord}
 
 -- two comparisons have the same outcome

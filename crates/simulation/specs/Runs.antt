@@ -11,8 +11,10 @@ use Rattle.interface.specs.declared.Stepped.{Stepped}
 use Rattle.interface.specs.declared.Ran.{Ran}
 use Rattle.fields.specs.Regions.{wordsNeeded}
 use Rattle.machine.specs.History.{Entry, stepping, showing, next, entryAt, stateAt, Linearizable}
-use Rattle.table.specs.Turns.{stepWords, runWords, openWords}
-use Rattle.simulation.specs.Lent.{Typed, lentWords}
+use Rattle.turns.specs.Turns.{stepWords}
+use Rattle.runs.specs.Runs.{runWords}
+use Rattle.opening.specs.Opening.{openWords}
+use Rattle.simulation.specs.Demand3ForCalls.{Typed, lentWords}
 
 -- ---- one run
 

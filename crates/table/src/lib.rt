@@ -1,12 +1,6 @@
-// The table over lent words: how many words are needed, opening, calls, steps and the listing. Every public function
-// takes any words and any arguments; its contract equals a definition of specs/ (Turns), the listing a definition of
-// crate rows.
-mod calls;
-mod early;
-mod opening;
-mod runs;
-mod turns;
-
+// The table over lent words, as the other crates call it: how many words are needed, opening, calls, steps, runs and the
+// listing. Every one of these functions takes any words and any arguments; its contract equals a definition of specs/ in
+// the crate that it stands in.
 pub use calls::call;
 pub use opening::open;
 pub use opening::words_needed;

@@ -3,7 +3,7 @@
 use borrow.Author.Needs.{needs}
 use mathlib.Core.Path.{refl, _∙_, ap}
 use mir.Facts.{toZ-ofZ}
-use Rattle.table.specs.Turns.{callWords}
+use Rattle.calls.specs.Calls.{callWords}
 use Rattle.capi.specs.Flat.{calledNumber}
 use Rattle.capi.proofs.Laws.{flat-is}
 use Rattle.capi.proofs.totals_call.Statement.{statement}

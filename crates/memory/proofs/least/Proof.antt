@@ -2,7 +2,7 @@
 -- Rests on the definition.
 use borrow.Author.Tests.{lt-ltb, le-ltb}
 use Rattle.machine.specs.Choice.{if_then_else_}
-use Rattle.memory.specs.Loads.{least}
+use Rattle.memory.specs.Words.{least}
 use Rattle.memory.proofs.least.Statement.{statement}
 use Rattle.memory.proofs.least.Tie as tie
 

@@ -15,7 +15,7 @@ use Rattle.rows.proofs.write_in.Reads as reads
 use Rattle.rows.proofs.write_in.Lts as lts
 use Rattle.memory.proofs.get.Reads as get-reads
 use Rattle.memory.proofs.total_of.Reads as total-of-reads
-use Rattle.bucket.proofs.first_bits.Reads as first-bits-reads
+use Rattle.rules.proofs.first_bits.Reads as first-bits-reads
 use Rattle.rows.proofs.entry_record.Reads as entry-record-reads
 use Rattle.layout.proofs.addresses.size.Reads as size-reads
 

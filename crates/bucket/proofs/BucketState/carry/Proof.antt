@@ -2,7 +2,7 @@
 -- Rests on the laws of one update.
 use mathlib.Core.Path.{_∙_}
 use borrow.Author.Needs.{needs}
-use Rattle.bucket.specs.State.{insertAnswer, deleteAnswer}
+use Rattle.rules.specs.Rules.{insertAnswer, deleteAnswer}
 use Rattle.bucket.proofs.Laws.{carry-insert, carry-delete}
 use Rattle.bucket.proofs.BucketState.carry.Statement.{statement}
 use Rattle.bucket.proofs.BucketState.carry.Tie as tie

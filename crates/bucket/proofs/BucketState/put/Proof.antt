@@ -4,7 +4,7 @@ use native.Mathlib.Omega.{arith}
 use mathlib.Core.Path.{_≡_, sym, _∙_, ap}
 use lib.ListN.{length}
 use borrow.Author.Needs.{needs}
-use Rattle.bucket.specs.declared.Position.{Position}
+use Rattle.arrays.specs.declared.Position.{Position}
 use Rattle.bucket.specs.State.{arraySize, putOf}
 use Rattle.bucket.proofs.Laws.{put-new, put-none, put-past}
 use Rattle.bucket.proofs.BucketState.put.Statement.{statement}

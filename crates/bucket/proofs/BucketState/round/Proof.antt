@@ -10,8 +10,9 @@ use borrow.Author.Needs.{needs}
 use borrow.Author.Tests.{not-true, not-false}
 use Rattle.fields.specs.Fields.{slotSize}
 use Rattle.bucket.specs.declared.BucketState.{BucketState}
-use Rattle.bucket.specs.declared.Descriptor.{Descriptor}
-use Rattle.bucket.specs.State.{descriptorIn, carryOf, pendingBy, helpedOf, withApplied}
+use Rattle.rules.specs.declared.Descriptor.{Descriptor}
+use Rattle.rules.specs.Rules.{descriptorIn, pendingBy}
+use Rattle.bucket.specs.State.{carryOf, helpedOf, withApplied}
 use Rattle.bucket.proofs.Laws.{help-left, help-back, help-carried, helped-settled, helped-turn, helped-few, round-end}
 use Rattle.bucket.proofs.BucketState.round.Statement.{statement}
 use Rattle.bucket.proofs.BucketState.round.Tie as tie

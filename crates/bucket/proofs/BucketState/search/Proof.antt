@@ -5,7 +5,8 @@ use native.Mathlib.Omega.{arith}
 use mathlib.Core.Path.{_≡_, _∙_, ap}
 use lib.ListN.{length, take}
 use borrow.Author.Needs.{needs}
-use Rattle.bucket.specs.State.{arraySize, scan, sizeOf, searchOf}
+use Rattle.bucket.specs.State.{arraySize, sizeOf, searchOf}
+use Rattle.arrays.specs.Arrays.{scan}
 use Rattle.bucket.proofs.Laws.{size-limit}
 use Rattle.bucket.proofs.BucketState.search.Statement.{statement}
 use Rattle.bucket.proofs.BucketState.search.Tie as tie

@@ -2,7 +2,7 @@
 -- Rests on nothing but the test.
 use mathlib.Core.Path.{sym}
 use borrow.Author.Tests.{le-leb, lt-leb}
-use Rattle.machine.proofs.Base.{if-true, if-false}
+use Rattle.machine.proofs.laws.Base.{if-true, if-false}
 use Rattle.engine.proofs.phase.reduce.Statement.{statement}
 use Rattle.engine.proofs.phase.reduce.Tie as tie
 

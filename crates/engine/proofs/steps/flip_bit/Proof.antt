@@ -2,9 +2,9 @@
 -- Rests on the laws of single bits.
 use Prim.Native.Nat.{_^_, _<_}
 use native.Mathlib.Omega.{arith}
-use Rattle.bucket.specs.State.{bit}
-use Rattle.layout.proofs.Pool.{shift-one}
-use Rattle.engine.proofs.Bits.{bit-room, bit-clear-fits, flip-set, flip-clear}
+use Rattle.rules.specs.Rules.{bit}
+use Rattle.rules.proofs.Bits.{shift-one}
+use Rattle.rules.proofs.Bits.{bit-room, bit-clear-fits, flip-set, flip-clear}
 use borrow.Author.Needs.{needs}
 use Rattle.engine.proofs.steps.flip_bit.Statement.{statement}
 use Rattle.engine.proofs.steps.flip_bit.Tie as tie

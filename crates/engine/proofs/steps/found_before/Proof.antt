@@ -3,11 +3,11 @@
 use Prim.Native.Nat.{_≤_}
 use native.Mathlib.Omega.{arith}
 use mathlib.Core.Path.{_≡_, refl, sym, _∙_}
-use Rattle.bucket.specs.State.{bit}
+use Rattle.rules.specs.Rules.{bit}
 use Rattle.fields.specs.Regions.{workerAt}
-use Rattle.layout.specs.Numbers.{any}
+use Rattle.reuse.specs.Numbers.{any}
 use Rattle.engine.specs.Engine.{foundBefore}
-use Rattle.layout.proofs.Searches.{any-hit, any-turn, any-none}
+use Rattle.reuse.proofs.Searches.{any-hit, any-turn, any-none}
 use Rattle.engine.proofs.Cases.{found, found-unmarked, found-it, found-not}
 use borrow.Author.Needs.{needs}
 use Rattle.engine.proofs.steps.found_before.Statement.{statement}

@@ -7,10 +7,11 @@ use lib.ListN.{length}
 use borrow.Author.Tests.{not-true, not-false}
 use Rattle.fields.specs.Fields.{widestRecord}
 use Rattle.fields.specs.Regions.{workerAt}
-use Rattle.bucket.specs.State.{splittableBy}
+use Rattle.rules.specs.Rules.{splittableBy}
 use Rattle.layout.proofs.Positions.{record-inside}
-use Rattle.engine.specs.Engine.{splittableAt}
-use Rattle.engine.proofs.Cases.{both-read, marks-idle, marks-not, marks-settled, marks-found}
+use Rattle.record.specs.Bucket.{splittableAt}
+use Rattle.record.proofs.Tests.{both-read}
+use Rattle.engine.proofs.Cases.{marks-idle, marks-not, marks-settled, marks-found}
 use borrow.Author.Needs.{needs}
 use Rattle.engine.proofs.steps.marking.Statement.{statement}
 use Rattle.engine.proofs.steps.marking.Tie as tie

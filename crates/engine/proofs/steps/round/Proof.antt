@@ -6,8 +6,8 @@ use mathlib.Core.Path.{_∙_, ap}
 use Rattle.fields.specs.Fields.{slotSize, workerSlots}
 use Rattle.fields.specs.Regions.{workerAt}
 use Rattle.layout.proofs.Positions.{Placed, placed}
-use Rattle.engine.specs.Engine.{flipBit}
-use Rattle.engine.proofs.Cases.{round-none, round-done}
+use Rattle.rules.specs.Rules.{flipBit}
+use Rattle.inplace.proofs.Rounds.{round-none, round-done}
 use Rattle.lists.proofs.PartLaws.{part-taken}
 use borrow.Author.Needs.{needs}
 use Rattle.engine.proofs.steps.round.Statement.{statement}

@@ -1,9 +1,9 @@
 -- `state_step` sets the mark of worker j's bucket where it is to be set.
 -- Rests on the cases of `stateStepAt` and the laws of single bits.
 use mathlib.Core.Path.{_∙_}
-use Rattle.bucket.specs.State.{bit}
+use Rattle.rules.specs.Rules.{bit}
 use Rattle.fields.specs.Regions.{workerAt}
-use Rattle.engine.proofs.Bits.{mark-set}
+use Rattle.rules.proofs.Bits.{mark-set}
 use Rattle.engine.proofs.Cases.{step-none, step-marked, step-kept}
 use borrow.Author.Needs.{needs}
 use Rattle.engine.proofs.steps.state_step.Statement.{statement}

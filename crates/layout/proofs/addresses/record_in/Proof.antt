@@ -7,7 +7,7 @@ use lib.ListN.{length}
 use borrow.Author.Needs.{needs}
 use borrow.Author.Tests.{le-leb, lt-leb}
 use Rattle.fields.specs.Fields.{widestRecord}
-use Rattle.machine.proofs.Base.{if-true, if-false}
+use Rattle.machine.proofs.laws.Base.{if-true, if-false}
 use Rattle.layout.specs.Addresses.{recordIn}
 use Rattle.layout.proofs.addresses.record_in.Statement.{statement}
 use Rattle.layout.proofs.addresses.record_in.Tie as tie

@@ -1,7 +1,7 @@
 -- `size` is the definition `least` of the record's first word.
 -- Rests on nothing but the definition.
 use borrow.Author.Needs.{needs}
-use Rattle.memory.specs.Loads.{least}
+use Rattle.memory.specs.Words.{least}
 use Rattle.layout.proofs.addresses.size.Statement.{statement}
 use Rattle.layout.proofs.addresses.size.Tie as tie
 

@@ -1,0 +1,4 @@
+pub mod ArrayChanges
+pub mod OneHelped
+pub mod Rounds
+pub mod OwnUpdate

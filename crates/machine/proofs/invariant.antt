@@ -1,0 +1,10 @@
+-- The invariant, in this order: the program counter, the invariant itself, steps as transitions, what keeps it, and that every
+-- reachable machine has it (Tasks).
+pub mod Counter
+pub mod CounterFacts
+pub mod Inv
+pub mod Preservation
+pub mod Transitions
+pub mod StepTransitions
+pub mod Change
+pub mod Tasks

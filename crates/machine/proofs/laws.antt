@@ -1,0 +1,9 @@
+-- Laws of the definitions of specs/: of bits and tests, tables, cells, working copies and rounds.
+pub mod Base
+pub mod Bits
+pub mod Cells
+pub mod Tables
+pub mod Copies
+pub mod Splitting
+pub mod Resolve
+pub mod Serving

@@ -1,0 +1,120 @@
+-- Laws of a bucket's state that is loaded or stored in two loops: two arrays at a time, one item of each at a time.
+-- Rests on the laws of runs.
+use Prim.Native.Nat.{ℕ, _+_, _≤_, _<_}
+use mathlib.Core.Path.{_≡_, refl, _∙_, ap}
+use mathlib.Core.Logic.{_⊎_, inl, inr}
+use mathlib.Core.List.{List}
+use native.Mathlib.Nat.{add-assoc}
+use native.Mathlib.Omega.{arith}
+use lib.ListN.{length, take, getD, set}
+use Rattle.interface.specs.Limits.{greatestCapacity}
+use Rattle.fields.specs.Fields.{recordCount, recordApplied, recordToggle, recordAccounts, accountsFrom, totalsFrom, settledFrom, answersFrom, recordSize}
+use Rattle.bucket.specs.declared.BucketState.{BucketState}
+use Rattle.memory.specs.Words.{least, stored}
+use Rattle.record.specs.Loads.{copied, loadedState, storedState}
+use Rattle.memory.proofs.Runs.{set-before, stored-more, stored-run}
+use Rattle.record.proofs.Runs.{copied-more, copied-same, length-copied}
+use Rattle.memory.proofs.Lesser.{least-bound}
+
+-- the arrays of a state have so many items each
+pub record Sized (s : BucketState) : Type 0 where
+  pub accounts : length (s .accounts) ≡ greatestCapacity
+  pub totals : length (s .totals) ≡ greatestCapacity
+  pub settled : length (s .settled) ≡ greatestCapacity
+  pub answers : length (s .answers) ≡ greatestCapacity
+
+-- ---- loads
+
+-- the state after i accounts and j workers, c and d the count and the applied bits; p, t, u and v are the places of the four runs
+abbrev pub loading : List ℕ → ℕ → ℕ → ℕ → ℕ → ℕ → ℕ → ℕ → ℕ → BucketState
+loading l p t u v i j c d =
+    record { accounts = copied l p i; totals = copied l t i; settled = copied l u j; answers = copied l v j; count = c; applied = d }
+
+module _ (s : BucketState) (l : List ℕ) (p t u v i j c d : ℕ) (e : s ≡ loading l p t u v i j c d) where
+  pub account-loaded :
+      record {
+        accounts = set (s .accounts) i (getD l (p + i) 0);
+        totals = set (s .totals) i (getD l (t + i) 0);
+        settled = s .settled;
+        answers = s .answers;
+        count = s .count;
+        applied = s .applied;
+      } ≡ loading l p t u v (i + 1) j c d
+  account-loaded = rw (e, copied-more _ l p i refl, copied-more _ l t i refl)
+
+  pub worker-loaded :
+      record {
+        accounts = s .accounts;
+        totals = s .totals;
+        settled = set (s .settled) j (getD l (u + j) 0);
+        answers = set (s .answers) j (getD l (v + j) 0);
+        count = s .count;
+        applied = s .applied;
+      } ≡ loading l p t u v i (j + 1) c d
+  worker-loaded = rw (e, copied-more _ l u j refl, copied-more _ l v j refl)
+
+pub state-loaded : (s : BucketState) (l : List ℕ) (q b n c : ℕ) → c ≡ least (getD l (q + recordCount) 0) b
+    → s ≡ loading l (accountsFrom q) (totalsFrom q b) (settledFrom q b) (answersFrom q b n) c n c (getD l (q + recordApplied) 0)
+    → s ≡ loadedState l q b n
+unfolding loadedState
+state-loaded s l q b n c e f = f ∙ simp e
+
+pub loaded-sized : (l : List ℕ) (q b n : ℕ) → Sized (loadedState l q b n)
+unfolding loadedState
+loaded-sized l q b n =
+    record { accounts = length-copied l _ _; totals = length-copied l _ _; settled = length-copied l _ _; answers = length-copied l _ _ }
+
+pub loaded-count : (l : List ℕ) (q b n : ℕ) → loadedState l q b n .count ≤ b
+unfolding loadedState
+loaded-count l q b n = least-bound (getD l (q + recordCount) 0) b
+
+-- the state depends on the record's words alone, and not on its toggle, depth, prefix and number
+pub loaded-kept :
+    (l m : List ℕ) (q p b n : ℕ) → ((i : ℕ) → i < recordSize b n → (i < recordToggle) ⊎ (recordAccounts ≤ i)
+    → getD l (q + i) 0 ≡ getD m (p + i) 0)
+    → loadedState l q b n ≡ loadedState m p b n
+unfolding loadedState
+loaded-kept l m q p b n h =
+    let e : getD l (q + recordCount) 0 ≡ getD m (p + recordCount) 0 = h recordCount (omega arith) (inl (omega arith)) in
+    let c : ℕ = least (getD m (p + recordCount) 0) b in
+    let d : c ≤ b = least-bound (getD m (p + recordCount) 0) b in
+    let run : (o u v k : ℕ) → u ≡ q + o → v ≡ p + o → recordAccounts ≤ o → o + k ≤ recordSize b n → copied l u k ≡ copied m v k =
+    λ o u v k f g r w.
+    copied-same l m u v k
+    (λ i x. rw (f, g, add-assoc q o i, add-assoc p o i) (h (o + i) (omega arith) (inr (omega arith)))) in
+    rw (
+      e,
+      run recordAccounts (accountsFrom q) (accountsFrom p) c refl refl (omega arith) (omega arith),
+      run (totalsFrom 0 b) (totalsFrom q b) (totalsFrom p b) c (omega arith) (omega arith) (omega arith) (omega arith),
+      run (settledFrom 0 b) (settledFrom q b) (settledFrom p b) n (omega arith) (omega arith) (omega arith) (omega arith),
+      run (answersFrom 0 b n) (answersFrom q b n) (answersFrom p b n) n (omega arith) (omega arith) (omega arith) (omega arith),
+      h recordApplied (omega arith) (inl (omega arith)),
+    )
+
+pub loaded-same :
+    (l m : List ℕ) (q p b n : ℕ) → ((i : ℕ) → i < recordSize b n → getD l (q + i) 0 ≡ getD m (p + i) 0)
+    → loadedState l q b n ≡ loadedState m p b n
+loaded-same l m q p b n h = loaded-kept l m q p b n (λ i g o. h i g)
+
+-- ---- stores
+
+pub pair-stored :
+    (w l : List ℕ) (p t : ℕ) (x y : List ℕ) (i : ℕ) → w ≡ stored (stored l p x i) t y i → p + i < t → t + i < length l → i < length x
+    → i < length y → set (set w (p + i) (getD x i 0)) (t + i) (getD y i 0) ≡ stored (stored l p x (i + 1)) t y (i + 1)
+unfolding stored
+pair-stored w l p t x y i e h k m n =
+    let a = stored-run l p x i (omega arith) (omega arith) .long in
+    let b = stored-run l p x (i + 1) (omega arith) (omega arith) .long in
+    let first : set w (p + i) (getD x i 0) ≡ stored (stored l p x (i + 1)) t y i =
+    ap (λ (z : List ℕ). set z (p + i) (getD x i 0)) e
+    ∙ set-before (stored l p x i) t (take i y) (getD x i 0) (p + i) h (omega arith)
+    ∙ ap (λ (z : List ℕ). stored z t y i) (stored-more _ l p x i refl (omega arith) m) in
+    stored-more _ (stored l p x (i + 1)) t y i first (omega arith) n
+
+pub state-stored :
+    (l w z : List ℕ) (q b n c : ℕ) (s : BucketState) → c ≡ least (s .count) b
+    → w ≡ stored (stored (set (set l (q + recordCount) c) (q + recordApplied) (s .applied)) (accountsFrom q) (s .accounts) c)
+    (totalsFrom q b) (s .totals) c
+    → z ≡ stored (stored w (settledFrom q b) (s .settled) n) (answersFrom q b n) (s .answers) n → z ≡ storedState l q b n s
+unfolding storedState
+state-stored l w z q b n c s e f g = g ∙ simp (f, e)

@@ -1,0 +1,19 @@
+-- `splittable` tests what `splittableBy` tests: where the bucket is full, its depth decides.
+-- Rests on nothing but the contract of `full`.
+use mathlib.Core.Path.{sym, _∙_}
+use borrow.Author.Needs.{needs}
+use Rattle.machine.specs.Choice.{_and_}
+use Rattle.rules.specs.Rules.{splittableBy}
+use Rattle.rules.proofs.splittable.Statement.{statement}
+use Rattle.rules.proofs.splittable.Tie as tie
+
+returns : tie.Need-returns
+unfolding splittableBy _and_
+returns c = rw (sym (c .before .before .full .ensures) ∙ c .before .if1 .taken)
+
+returns-2 : tie.Need-returns-2
+unfolding splittableBy _and_
+returns-2 c = rw (sym (c .before .full .ensures) ∙ c .if1 .left)
+
+pub splittable-spec : {M : Type 1} → statement M
+splittable-spec = tie.close (tie.spec (λ c κs. search needs) returns returns-2)

@@ -1,0 +1,86 @@
+-- The rules that a bucket's words are read by, for any values: when a bucket is full and what follows from it, the update
+-- in a slot, single bits, when an update is pending, and the numbers of answers. Rests on the settings, on the names of
+-- numbers and words, and on a search's result.
+use Prim.Native.Nat.{ℕ, _+_, _-_, _/_, _%_, _^_}
+use mathlib.Core.Bool.{Bool, not}
+use mathlib.Core.List.{List}
+use lib.Dec.{ltb, leb, eqb}
+use lib.ListN.{getD}
+use Rattle.interface.specs.Numbers.{answerNumber}
+use Rattle.interface.specs.declared.Settings.{Settings}
+use Rattle.interface.specs.declared.Answer.the-variants.{Added, Replaced, Removed, Absent, None, Crowded}
+use Rattle.fields.specs.Fields.{slotKind, slotAccount, slotTotal, slotTicket}
+use Rattle.machine.specs.Choice.{_and_, if_then_else_}
+use Rattle.rules.specs.declared.Descriptor.{Descriptor}
+use Rattle.arrays.specs.declared.Position.{Position}
+use Rattle.arrays.specs.declared.Position.the-variants.{At, Before}
+use Rattle.interface.specs.declared.Answer.{Answer}
+
+-- ---- full buckets: the settings, the bucket's depth and how many accounts it has
+
+-- "Full means b accounts."
+unfoldable pub fullBy : Settings → ℕ → Bool
+fullBy s count = leb (s .capacity) count
+
+-- "A full bucket takes no update, deletes included."
+unfoldable pub holdsBackBy : Settings → ℕ → ℕ → Bool
+holdsBackBy s depth count = fullBy s count
+
+-- full below depth M: to be split
+unfoldable pub splittableBy : Settings → ℕ → ℕ → Bool
+splittableBy s depth count = fullBy s count and ltb depth (s .depth)
+
+-- full at depth M: an update that is not settled there is crowded
+unfoldable pub crowdedBy : Settings → ℕ → ℕ → Bool
+crowdedBy s depth count = fullBy s count and leb (s .depth) depth
+
+-- ---- one update
+
+-- the update in the slot whose words stand from i on
+unfoldable pub descriptorIn : List ℕ → ℕ → Descriptor
+descriptorIn l i =
+    record {
+      kind = getD l (i + slotKind) 0;
+      account = getD l (i + slotAccount) 0;
+      total = getD l (i + slotTotal) 0;
+      ticket = getD l (i + slotTicket) 0;
+    }
+
+-- one number where the account stands there, the other where it is missing
+unfoldable pub answerBy : Position → ℕ → ℕ → ℕ
+answerBy (At i) there missing = there
+answerBy (Before i) there missing = missing
+
+-- the number of an insert's answer, and of a delete's
+unfoldable pub insertAnswer : Position → ℕ
+insertAnswer p = answerBy p (answerNumber Replaced) (answerNumber Added)
+
+unfoldable pub deleteAnswer : Position → ℕ
+deleteAnswer p = answerBy p (answerNumber Removed) (answerNumber Absent)
+
+-- bit j of a word
+unfoldable pub bit : ℕ → ℕ → ℕ
+bit w j = w / 2 ^ j % 2
+
+-- worker j's "toggle bit differs from its applied bit" and its "slot's ticket is above its settled one"
+unfoldable pub pendingBy : ℕ → ℕ → ℕ → ℕ → ℕ → Bool
+pendingBy toggle applied j settled ticket = not (eqb (bit toggle j) (bit applied j)) and ltb settled ticket
+
+-- ---- a state
+
+-- the answer to an update that a number stands for; none has been given for any other number
+unfoldable pub answerOf : ℕ → Answer
+answerOf k =
+    if eqb k (answerNumber Added) then Added else if eqb k (answerNumber Replaced) then Replaced
+    else if eqb k (answerNumber Removed) then Removed else if eqb k (answerNumber Absent) then Absent
+    else if eqb k (answerNumber Crowded) then Crowded else None
+
+-- ---- steps that copy words
+
+-- bit w of a word changed
+unfoldable pub flipBit : ℕ → ℕ → ℕ
+flipBit x w = if eqb (bit x w) 0 then x + 2 ^ w else x - 2 ^ w
+
+-- bit j of a word set
+unfoldable pub withBit : ℕ → ℕ → ℕ
+withBit x j = if eqb (bit x j) 0 then x + 2 ^ j else x

@@ -1,0 +1,114 @@
+// The rules that a bucket's words are read by: the bits of an account, when a bucket is full and what follows from it,
+// the update in a slot, and when it is pending. Each contract is an equality with a definition.
+ghost use mathlib.Core.Path.{_≡_};
+ghost use Prim.Native.Nat.{_+_, _≤_};
+ghost use lib.ListN.{length};
+ghost use Rattle.fields.specs.Fields.{slotSize};
+ghost use Rattle.machine.specs.Sequential.{place, firstBits};
+ghost use Rattle.rules.specs.Rules.{fullBy, holdsBackBy, splittableBy, crowdedBy, descriptorIn, answerBy, pendingBy};
+use arrays::Position;
+use fields::SLOT_ACCOUNT;
+use fields::SLOT_KIND;
+use fields::SLOT_TICKET;
+use fields::SLOT_TOTAL;
+use interface::Settings;
+
+// A worker's update as announced in its slot: the field's operation descriptor.
+pub struct Descriptor {
+    pub kind: u64,
+    pub account: u64,
+    pub total: u64,
+    pub ticket: u64,
+}
+
+// ---- the bits of an account
+
+// The number whose bits place an account in the directory.
+pub fn place(account: u64) -> u64
+    ensures { λ r. ⌜ r ≡ place account ⌝ }
+{
+    account
+}
+
+// The first d bits of an account, of 32.
+pub fn first_bits(d: u64, account: u64) -> u64
+    ensures { λ r. ⌜ r ≡ firstBits d account ⌝ }
+{
+    let rest: u64 = if d < 32 { 32 - d } else { 0 };
+    (place(account) % 4294967296) >> rest
+}
+
+// ---- full buckets: by the settings, the bucket's depth and how many accounts it has
+
+// Whether there is no room left.
+pub fn full(s: Settings, count: u64) -> bool
+    ensures { λ r. ⌜ r ≡ fullBy s count ⌝ }
+{
+    s.capacity <= count
+}
+
+// Whether the bucket takes no update.
+pub fn holds_back(s: Settings, depth: u64, count: u64) -> bool
+    ensures { λ r. ⌜ r ≡ holdsBackBy s depth count ⌝ }
+{
+    full(s, count)
+}
+
+// Whether the bucket is to be split.
+pub fn splittable(s: Settings, depth: u64, count: u64) -> bool
+    ensures { λ r. ⌜ r ≡ splittableBy s depth count ⌝ }
+{
+    if full(s, count) {
+        return depth < s.depth;
+    }
+    false
+}
+
+// Whether an update that is not settled there is crowded.
+pub fn crowded(s: Settings, depth: u64, count: u64) -> bool
+    ensures { λ r. ⌜ r ≡ crowdedBy s depth count ⌝ }
+{
+    if full(s, count) {
+        return s.depth <= depth;
+    }
+    false
+}
+
+// ---- one update
+
+// The update in the slot whose words stand from `at` on.
+pub fn descriptor_at(words: &[u64], at: usize) -> Descriptor
+    requires { ⌜ at + slotSize ≤ length (now words) ⌝ }
+    ensures { λ r. ⌜ r ≡ descriptorIn (now (words .entry)) at ⌝ }
+{
+    Descriptor {
+        kind: words[at + SLOT_KIND],
+        account: words[at + SLOT_ACCOUNT],
+        total: words[at + SLOT_TOTAL],
+        ticket: words[at + SLOT_TICKET],
+    }
+}
+
+// One number where the account stands there, the other where it is missing.
+pub fn answer_number(p: Position, there: u64, missing: u64) -> u64
+    ensures { λ r. ⌜ r ≡ answerBy p there missing ⌝ }
+{
+    match p {
+        Position::At(_) => there,
+        Position::Before(_) => missing,
+    }
+}
+
+// Whether worker j's update is to be carried out: its toggle bit differs from its applied bit, and its ticket is above
+// the last settled one.
+pub fn pending(toggle: u64, applied: u64, j: usize, settled: u64, ticket: u64) -> bool
+    ensures { λ r. ⌜ r ≡ pendingBy toggle applied j settled ticket ⌝ }
+{
+    if 64 <= j {
+        return false;
+    }
+    if (toggle >> j) % 2 == (applied >> j) % 2 {
+        return false;
+    }
+    settled < ticket
+}

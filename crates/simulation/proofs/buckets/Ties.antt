@@ -1,0 +1,285 @@
+-- A state means the machine's bucket: an update carried out, a round and the half of a split on the state mean the machine's.
+-- Rests on what the definitions do to a state's table.
+use Prim.Native.Nat.{ℕ, zero, suc, _*_, _/_, _%_, _^_, _≤_, _<_}
+use native.Mathlib.Omega.{arith}
+use native.Mathlib.Nat.{mod-lt, zero-div}
+use mathlib.Core.Path.{_≡_, refl, ap, ap₂, sym, _∙_, subst}
+use mathlib.Core.Logic.{_≢_}
+use mathlib.Core.Bool.{Bool, true, false, not, xor}
+use mathlib.Core.List.{List}
+use mathlib.Core.Option.{none}
+use lib.Dec.{ltb, leb, eqb}
+use lib.IntN.{ℤ}
+use lib.ListN.{length, getD, set, length-set}
+use borrow.Author.Tests.{leb-true, leb-false, le-ltb, lt-ltb, eq-eqb, ne-eqb, not-true}
+use lib.Seq.{getD-set-same, getD-set-other}
+use Rattle.interface.specs.Numbers.{kindNone, kindInsert, answerTotal, answerNumber}
+use Rattle.interface.specs.declared.Answer.{Answer}
+use Rattle.interface.specs.declared.Answer.the-variants.{Added, Replaced, Removed, Absent, Found, None, Crowded}
+use Rattle.interface.specs.declared.Settings.{Settings}
+use Rattle.fields.specs.Fields.{slotSize}
+use Rattle.machine.specs.Choice.{if_then_else_, _and_}
+use Rattle.machine.specs.Sequential.{Table, Update, insert, delete, present, result, changed, find, having}
+use Rattle.machine.specs.Records.{Name, Settled, Body, State, Slot, empty, announced, noBits}
+use Rattle.machine.specs.BucketPass.{full, holdsBack, splittable, crowded, settledAt, carryOut, pending, help, helped, nextState}
+use Rattle.machine.specs.DirectoryPass.{half}
+use Rattle.machine.proofs.laws.Base.{eq-elim, and-parts, assign-elim}
+use Rattle.machine.proofs.laws.Resolve.{SettledChange, settled-same, settled-new, calls, helped-ok}
+use Rattle.bucket.specs.declared.BucketState.{BucketState}
+use Rattle.rules.specs.declared.Descriptor.{Descriptor}
+use Rattle.arrays.specs.declared.Position.{Position}
+use Rattle.arrays.specs.declared.Position.the-variants.{At, Before}
+use Rattle.bucket.specs.State.{arraySize, sizeOf, searchOf, putOf, removeOf, settleOf, carryOf, helpOf, helpedOf, withApplied, roundOf, halfOf}
+use Rattle.rules.specs.Rules.{fullBy, holdsBackBy, splittableBy, crowdedBy, descriptorIn, answerBy, insertAnswer, deleteAnswer, bit, pendingBy, answerOf}
+use Rattle.simulation.specs.Buckets.{signed, itemsOf, totalAt, settledOf, bitsOf, updateFrom, slotFrom, slotOf, SoundSlots, Means}
+use Rattle.rules.proofs.Laws.{room-left, pending-settled}
+use Rattle.bucket.proofs.Laws.{help-left}
+use Rattle.simulation.proofs.buckets.Items.{Becomes, find-search, put-becomes, remove-becomes, sound-applied, half-becomes, length-items}
+
+-- ---- answers
+
+-- every answer without a total is read back from its number
+pub answer-back : (a : Answer) → answerTotal a ≡ none → answerOf (answerNumber a) ≡ a
+unfolding answerOf answerTotal if_then_else_
+answer-back Added e = refl
+answer-back Replaced e = refl
+answer-back Removed e = refl
+answer-back Absent e = refl
+answer-back (Found v) e = cc
+answer-back None e = refl
+answer-back Crowded e = refl
+
+-- ---- an update carried out
+
+-- the number of an answer, by the position that was found, stands for the machine's answer
+insert-answer :
+    (x : BucketState) (p : Position) (a : ℕ) (z : ℤ) (t : Table) → find t a ≡ totalAt x p
+    → answerOf (insertAnswer p) ≡ result (insert a z) t
+unfolding answerOf insertAnswer answerBy result totalAt present if_then_else_
+insert-answer x (At i) a z t h = rw h
+insert-answer x (Before i) a z t h = rw h
+
+delete-answer :
+    (x : BucketState) (p : Position) (a : ℕ) (t : Table) → find t a ≡ totalAt x p → answerOf (deleteAnswer p) ≡ result (delete a) t
+unfolding answerOf deleteAnswer answerBy result totalAt present if_then_else_
+delete-answer x (At i) a t h = rw h
+delete-answer x (Before i) a t h = rw h
+
+-- the machine's state with another body
+abbrev pub withBody : State → Body → State
+withBody y b = record { body = b; applied = y .applied }
+
+module _ (x : BucketState) (y : State) (n : ℕ) (few : n ≤ arraySize) (m : Means x y n) where
+  -- z is x with the table that update u makes of it; then its ticket is settled with the answer of number k
+  settle-means :
+      (z : BucketState) (u : Update) (j t k : ℕ) → Becomes x (changed u (itemsOf x)) z → answerOf k ≡ result u (itemsOf x)
+      → Means (settleOf z j t k) (withBody y (carryOut j u t (y .body))) n
+  unfolding settleOf carryOut itemsOf sizeOf settledOf
+  settle-means z u j t k h r =
+      record {
+        sound = record {
+          count = h .sound .count;
+          accounts = h .sound .accounts;
+          totals = h .sound .totals;
+          settled = length-set (z .settled) j t ∙ h .sound .settled;
+          answers = length-set (z .answers) j k ∙ h .sound .answers;
+          ascending = h .sound .ascending;
+          narrow = h .sound .narrow;
+          fits = h .sound .fits;
+        };
+        items = h .items ∙ ap (changed u) (m .items);
+        settled = λ i l. assign-elim (λ (e : Settled). settledOf (settleOf z j t k) i ≡ e) (y .body .settled) j _ i (own i l) (other i l);
+        applied = λ i l. ap (λ (w : ℕ). bitsOf w i) (h .applied) ∙ m .applied i l;
+      }
+    where
+      own : (i : ℕ) → i < n → i ≡ j → settledOf (settleOf z j t k) i ≡ record { ticket = t; answer = result u (y .body .items) }
+      own i l e =
+          let p : getD (set (z .settled) j t) i 0 ≡ t = rw e (getD-set-same (z .settled) j t 0 (omega (arith, h .sound .settled))) in
+          let q : getD (set (z .answers) j k) i 0 ≡ k = rw e (getD-set-same (z .answers) j k 0 (omega (arith, h .sound .answers))) in
+          let g : answerOf (getD (set (z .answers) j k) i 0) ≡ result u (y .body .items) = ap answerOf q ∙ r ∙ ap (result u) (m .items) in
+          λ o. record { ticket = p o; answer = g o }
+
+      at : ℕ → List ℕ → ℕ
+      at i l = getD l i 0
+
+      other : (i : ℕ) → i < n → i ≢ j → settledOf (settleOf z j t k) i ≡ y .body .settled i
+      other i l e =
+          let p : getD (set (z .settled) j t) i 0 ≡ getD (x .settled) i 0 =
+          getD-set-other (z .settled) j i t 0 e ∙ ap (at i) (h .settled) in
+          let q : getD (set (z .answers) j k) i 0 ≡ getD (x .answers) i 0 =
+          getD-set-other (z .answers) j i k 0 e ∙ ap (at i) (h .answers) in
+          let g : settledOf (settleOf z j t k) i ≡ settledOf x i = λ o. record { ticket = p o; answer = answerOf (q o) } in
+          g ∙ m .settled i l
+
+  -- worker j's update carried out, where there is room
+  pub carry-means :
+      (j : ℕ) (u : Descriptor) → u .account < 2 ^ 32 → u .total < 2 ^ 64 → x .count < arraySize
+      → Means (carryOf x j u) (withBody y (carryOut j (updateFrom u) (u .ticket) (y .body))) n
+  unfolding carryOf updateFrom if_then_else_ changed
+  carry-means j u narrow fits room = go (eqb (u .kind) kindInsert)
+    where
+      a : ℕ
+      a = u .account
+
+      v : ℕ
+      v = u .total
+
+      t : ℕ
+      t = u .ticket
+
+      p : Position
+      p = searchOf x a
+
+      finds : find (itemsOf x) a ≡ totalAt x p
+      finds = find-search x (m .sound) a
+
+      go :
+          (b : Bool)
+          → Means (if b then settleOf (putOf x p a v) j t (insertAnswer p) else settleOf (removeOf x p) j t (deleteAnswer p))
+          (withBody y (carryOut j (if b then insert a (signed v) else delete a) t (y .body))) n
+      go true =
+          settle-means (putOf x p a v) (insert a (signed v)) j t _ (put-becomes x (m .sound) a v narrow fits (λ e. room))
+          (insert-answer x p a (signed v) (itemsOf x) finds)
+      go false = settle-means (removeOf x p) (delete a) j t _ (remove-becomes x (m .sound) a) (delete-answer x p a (itemsOf x) finds)
+
+-- ---- the tests of a round
+
+module _ (s : Settings) (x : BucketState) (y : State) (n : ℕ) (m : Means x y n) where
+  pub full-means : fullBy s (x .count) ≡ full s (y .body)
+  unfolding fullBy full
+  full-means = ap (leb (s .capacity)) (sym (length-items x (m .sound)) ∙ ap length (m .items))
+
+  pub holds-back-means : (d : ℕ) → holdsBackBy s d (x .count) ≡ holdsBack s d (y .body)
+  unfolding holdsBackBy holdsBack
+  holds-back-means d = full-means
+
+  pub splittable-means : (d : ℕ) → splittableBy s d (x .count) ≡ splittable s d (y .body)
+  unfolding splittableBy splittable
+  splittable-means d = ap (λ (b : Bool). b and ltb d (s .depth)) full-means
+
+  -- no bucket is deeper than M
+  pub crowded-means : (d : ℕ) → d ≤ s .depth → crowdedBy s d (x .count) ≡ crowded s d (y .body)
+  unfolding crowdedBy crowded
+  crowded-means d h = λ i. full-means i and deepest (leb (s .depth) d) refl i
+    where
+      deepest : (b : Bool) → leb (s .depth) d ≡ b → leb (s .depth) d ≡ eqb d (s .depth)
+      deepest true e = e ∙ sym (eq-eqb d (s .depth) (omega (arith, leb-true (s .depth) d e)))
+      deepest false e = e ∙ sym (ne-eqb d (s .depth) (λ q. omega (arith, leb-false (s .depth) d e)))
+
+bits-differ : (p q : ℕ) → p < 2 → q < 2 → not (eqb p q) ≡ xor (eqb p 1) (eqb q 1)
+unfolding xor
+bits-differ zero zero h k = refl
+bits-differ zero (suc zero) h k = refl
+bits-differ zero (suc (suc q)) h k = absurd (omega arith)
+bits-differ (suc zero) zero h k = refl
+bits-differ (suc zero) (suc zero) h k = refl
+bits-differ (suc zero) (suc (suc q)) h k = absurd (omega arith)
+bits-differ (suc (suc p)) q h k = absurd (omega arith)
+
+bit-below : (w j : ℕ) → bit w j < 2
+unfolding bit
+bit-below w j = mod-lt (w / 2 ^ j) (omega arith)
+
+pub ltb-not : (p q : ℕ) → ltb p q ≡ not (leb q p)
+ltb-not p q = go (leb q p) refl
+  where
+    go : (b : Bool) → leb q p ≡ b → ltb p q ≡ not b
+    go true e = le-ltb p q (leb-true q p e)
+    go false e = lt-ltb p q (leb-false q p e)
+
+-- ---- a round
+
+-- whether worker j's update with ticket t is pending in the state
+abbrev due : BucketState → ℕ → ℕ → ℕ → Bool
+due x toggle j t = pendingBy toggle (x .applied) j (getD (x .settled) j 0) t
+
+module _ (s : Settings) (d : ℕ) (narrow : s .capacity ≤ arraySize) (n : ℕ) (few : n ≤ arraySize) (y : State) (toggle : ℕ) (bits : ℕ → Bool)
+    (agree : (j : ℕ) → j < n → bitsOf toggle j ≡ bits j) where
+  due-is :
+      (x : BucketState) (c : Body) (j t : ℕ) → j < n → c .settled j ≡ y .body .settled j → Means x (withBody y c) n
+      → due x toggle j t ≡ pending y bits j t
+  unfolding pendingBy pending settledAt bitsOf settledOf
+  due-is x c j t l same m = λ i. toggled i and above i
+    where
+      toggled : not (eqb (bit toggle j) (bit (x .applied) j)) ≡ xor (bits j) (y .applied j)
+      toggled = bits-differ _ _ (bit-below toggle j) (bit-below (x .applied) j) ∙ ap₂ xor (agree j l) (m .applied j l)
+
+      above : ltb (getD (x .settled) j 0) t ≡ not (leb t (y .body .settled j .ticket))
+      above = ltb-not (getD (x .settled) j 0) t ∙ ap (λ (e : Settled). not (leb t (e .ticket))) (m .settled j l ∙ same)
+
+  -- worker j helped in the copy x, which means c: there its settled ticket is still the one of the state that was read, y
+  pub help-means :
+      (x : BucketState) (c : Body) (j : ℕ) (u : Descriptor) → j < n → u .account < 2 ^ 32 → u .total < 2 ^ 64
+      → (u .kind ≡ kindNone → u .ticket ≡ 0) → c .settled j ≡ y .body .settled j → Means x (withBody y c) n
+      → Means (helpOf x s d toggle j u) (withBody y (help s d y bits j (slotFrom u) c)) n
+  unfolding helpOf help slotFrom if_then_else_
+  help-means x c j u l small fits quiet same m =
+      eq-elim (λ (o : Slot). Means (helpOf x s d toggle j u) (withBody y (help s d y bits j o c)) n) (u .kind) kindNone
+      empty (announced (updateFrom u) (u .ticket)) idle (λ k. rw tests (go (pending y bits j (u .ticket) and not (holdsBack s d c)) tests))
+    where
+      tests : due x toggle j (u .ticket) and not (holdsBackBy s d (x .count)) ≡ pending y bits j (u .ticket) and not (holdsBack s d c)
+      tests = λ i. due-is x c j (u .ticket) l same m i and not (holds-back-means s x (withBody y c) n m d i)
+
+      idle : u .kind ≡ kindNone → Means (helpOf x s d toggle j u) (withBody y c) n
+      idle k =
+          let off = pending-settled toggle (x .applied) j (getD (x .settled) j 0) (u .ticket) (omega (arith, quiet k)) in
+          subst (λ (r : BucketState). Means r (withBody y c) n) (sym (help-left x s d toggle j u off)) m
+
+      go :
+          (b : Bool) → due x toggle j (u .ticket) and not (holdsBackBy s d (x .count)) ≡ b
+          → Means (if b then carryOf x j u else x) (withBody y (if b then carryOut j (updateFrom u) (u .ticket) c else c)) n
+      go true e =
+          let room = room-left s d (x .count) (not-true _ (and-parts _ _ e .1)) in
+          carry-means x (withBody y c) n few m j u small fits (omega arith)
+      go false e = m
+
+  -- while the workers below k are helped, worker k's ticket stays
+  later : (slots : ℕ → Slot) (k : ℕ) → helped s d y bits slots k .settled k ≡ y .body .settled k
+  later slots k = go (helped-ok s d y bits slots k .settled-change k)
+    where
+      go :
+          SettledChange (y .body) (helped s d y bits slots k) (slots k) ((k < k) × (calls y bits k (slots k) ≡ true)) k
+          → helped s d y bits slots k .settled k ≡ y .body .settled k
+      go (settled-same e) = e
+      go (settled-new h l e) = absurd (omega (arith, h .0))
+
+  -- the workers below k helped, w being the words of the slots that were read
+  pub helped-means :
+      (x : BucketState) (w : List ℕ) (slots : ℕ → Slot) → SoundSlots w n → ((j : ℕ) → j < n → slotOf w j ≡ slots j) → Means x y n
+      → (k : ℕ) → k ≤ n → Means (helpedOf x w s d toggle k) (withBody y (helped s d y bits slots k)) n
+  unfolding helpedOf helped slotOf descriptorIn
+  helped-means x w slots sound read m zero h = m
+  helped-means x w slots sound read m (suc k) h =
+      let z : BucketState = helpedOf x w s d toggle k in
+      let c : Body = helped s d y bits slots k in
+      subst (λ (o : Slot). Means (helpedOf x w s d toggle (suc k)) (withBody y (help s d y bits k o c)) n) (read k h) (
+      help-means z c k (descriptorIn w (slotSize * k)) h (sound .narrow k h) (sound .fits k h) (sound .quiet k h)
+      (later slots k) (helped-means x w slots sound read m k (omega arith))
+      )
+
+-- a whole round, in a bucket of depth d
+pub round-means :
+    (s : Settings) (d : ℕ) → s .capacity ≤ arraySize → s .workers ≤ arraySize → (x : BucketState) (toggle : ℕ) (w : List ℕ)
+    → (y : State) (bits : ℕ → Bool) (slots : ℕ → Slot) → Means x y (s .workers)
+    → ((j : ℕ) → j < s .workers → bitsOf toggle j ≡ bits j) → SoundSlots w (s .workers) → ((j : ℕ) → j < s .workers → slotOf w j ≡ slots j)
+    → Means (roundOf x w s d toggle) (nextState s d y bits slots) (s .workers)
+unfolding roundOf withApplied nextState itemsOf sizeOf settledOf
+round-means s d narrow few x toggle w y bits slots m agree sound read =
+    let h = helped-means s d narrow (s .workers) few y toggle bits agree x w slots sound read m (s .workers) (omega arith) in
+    record { sound = sound-applied toggle (h .sound); items = h .items; settled = h .settled; applied = agree }
+
+-- ---- the half of a split
+
+-- it is what a bucket that has just become current means
+pub half-means :
+    (x : BucketState) (y : State) (n : ℕ) (z : Name) → Means x y n
+    → Means (halfOf x (z .depth) (z .prefix)) (record { body = half z (y .body); applied = noBits }) n
+unfolding half halfOf settledOf bitsOf bit
+half-means x y n z m =
+    let h = half-becomes x (m .sound) (z .depth) (z .prefix) in
+    record {
+      sound = h .sound;
+      items = h .items ∙ ap (having (z .depth) (z .prefix)) (m .items);
+      settled = m .settled;
+      applied = λ j l. ap (λ (k : ℕ). eqb (k % 2) 1) (zero-div (2 ^ j));
+    }

@@ -1,0 +1,2 @@
+-- The steps that change one slot or one bucket.
+pub mod CellSteps

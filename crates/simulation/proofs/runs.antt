@@ -1,0 +1,3 @@
+-- A run is its steps.
+pub mod RunIterates
+pub mod RunSteps

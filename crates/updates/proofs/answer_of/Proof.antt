@@ -1,0 +1,36 @@
+-- `answer_of` gives the answer that `answerOf` gives, by its keys.
+-- Rests on the definition.
+use borrow.Author.Tests.{ne-eqb}
+use Rattle.machine.specs.Choice.{if_then_else_}
+use Rattle.rules.specs.Rules.{answerOf}
+use Rattle.updates.proofs.answer_of.Statement.{statement}
+use Rattle.updates.proofs.answer_of.Tie as tie
+
+returns : tie.Need-returns
+unfolding answerOf if_then_else_
+returns c = rw (c .match .keys1)
+
+returns-2 : tie.Need-returns-2
+unfolding answerOf if_then_else_
+returns-2 c = rw (c .match .keys2)
+
+returns-3 : tie.Need-returns-3
+unfolding answerOf if_then_else_
+returns-3 c = rw (c .match .keys3)
+
+returns-4 : tie.Need-returns-4
+unfolding answerOf if_then_else_
+returns-4 c = rw (c .match .keys4)
+
+returns-5 : tie.Need-returns-5
+unfolding answerOf if_then_else_
+returns-5 c = rw (c .match .keys5)
+
+returns-6 : tie.Need-returns-6
+unfolding answerOf if_then_else_
+returns-6 c =
+    let no = c .match .rest in
+    rw (ne-eqb _ _ (no .0 .0 .0 .0 .1), ne-eqb _ _ (no .0 .0 .0 .1), ne-eqb _ _ (no .0 .0 .1), ne-eqb _ _ (no .0 .1), ne-eqb _ _ (no .1))
+
+pub answer-of-spec : {M : Type 1} → statement M
+answer-of-spec = tie.close (tie.spec returns returns-2 returns-3 returns-4 returns-5 returns-6)

@@ -1,0 +1,55 @@
+-- A step of an update on the words, by its phase, for any words. Rests on the steps' definitions, on the directory swap,
+-- and on the machine's plan.
+use Prim.Native.Nat.{ℕ, zero, suc, _+_, _-_}
+use mathlib.Core.List.{List}
+use mathlib.Core.Option.{Option, none, some}
+use lib.ListN.{set}
+use Rattle.interface.specs.Numbers.{kindNone}
+use Rattle.interface.specs.declared.Settings.{Settings}
+use Rattle.interface.specs.declared.Answer.{Answer}
+use Rattle.interface.specs.declared.Stepped.{Stepped}
+use Rattle.machine.specs.Plan.{Phase, announce, readDirectory, flipToggle, readState, readToggle, swapState, checkState, copyDirectory, swapDirectory, readSlot, resizeFor, phase}
+use Rattle.fields.specs.Fields.{workerKind, workerSteps}
+use Rattle.fields.specs.Regions.{workerAt}
+use Rattle.rules.specs.Rules.{answerOf}
+use Rattle.layout.specs.Addresses.{heldBy}
+use Rattle.engine.specs.Engine.{announcedAt, slotReadAt, bucketReadAt, flippedAt, stateReadAt, toggleReadAt, directoryReadAt, swappedAt, stateStepAt, checkedAt}
+use Rattle.splits.specs.Splits.{redirectedAt}
+
+-- ---- one step
+
+-- the operation of the worker at p ended, after k own steps before this one
+unfoldable pub endedAt : List ℕ → ℕ → ℕ → Answer → List ℕ × Stepped
+endedAt l p k a =
+    (set (set l (p + workerKind) kindNone) (p + workerSteps) 0, Stepped.Answered (record { answer = a; steps = k + 1 }))
+
+unfoldable pub checkAt : List ℕ → ℕ → ℕ → Option ℕ → List ℕ × Stepped
+checkAt l p k none = (l, Stepped.Moved)
+checkAt l p k (some x) = endedAt l p k (answerOf x)
+
+-- what a step gives, after k own steps before it, whose update ended with an answer's number; 0 where the operation
+-- goes on
+unfoldable pub numbered : ℕ → ℕ → Stepped
+numbered k zero = Stepped.Moved
+numbered k (suc x) = Stepped.Answered (record { answer = answerOf (suc x); steps = k + 1 })
+
+-- worker w's step at a phase of its update, its record at p, after k own steps
+unfoldable pub updateAt : List ℕ → Settings → ℕ → ℕ → ℕ → Phase → List ℕ × Stepped
+updateAt l s p w k announce = (announcedAt l p w, Stepped.Moved)
+updateAt l s p w k readDirectory = (bucketReadAt l s p, Stepped.Moved)
+updateAt l s p w k flipToggle = (flippedAt l (heldBy l p) w, Stepped.Moved)
+updateAt l s p w k readState = (stateReadAt l p (heldBy l p), Stepped.Moved)
+updateAt l s p w k readToggle = (toggleReadAt l p (heldBy l p), Stepped.Moved)
+updateAt l s p w k (readSlot j) = (slotReadAt l p j, Stepped.Moved)
+updateAt l s p w k swapState = (swappedAt l s p (heldBy l p), Stepped.Moved)
+updateAt l s p w k checkState = checkAt l p k (checkedAt l s p (heldBy l p) w)
+updateAt l s p w k copyDirectory = (directoryReadAt l p, Stepped.Moved)
+updateAt l s p w k (resizeFor j) = (stateStepAt l s p j, Stepped.Moved)
+updateAt l s p w k swapDirectory = (redirectedAt l s p, Stepped.Moved)
+
+-- that step by the plan, and the check's second step
+abbrev pub updateStep : List ℕ → Settings → ℕ → ℕ → List ℕ × Stepped
+updateStep l s w k = updateAt l s (workerAt (s .workers) w) w k (phase (s .workers) k)
+
+abbrev pub checkStep : List ℕ → Settings → ℕ → ℕ → List ℕ × Stepped
+checkStep l s w k = updateAt l s (workerAt (s .workers) w) w k checkState

@@ -1,0 +1,117 @@
+// A step of an update: the step that its plan names, the check, and the end of an operation.
+ghost use mathlib.Core.Path.{_≡_};
+ghost use Prim.Native.Nat.{ℕ, _+_, _≤_, _<_};
+ghost use lib.ListN.{length, set};
+ghost use Rattle.interface.specs.Numbers.{kindNone};
+ghost use Rattle.fields.specs.Fields.{workerKind, workerSteps, stepsRange, workerSlots};
+ghost use Rattle.rules.specs.Rules.{answerOf};
+ghost use Rattle.layout.specs.Shape.{settingsOf, Fits};
+ghost use Rattle.updates.specs.Updates.{numbered, checkStep, updateStep};
+use engine::phase::Phase;
+use engine::phase::phase_of;
+use engine::steps;
+use fields::RECORD_COUNT;
+use fields::RECORD_DEPTH;
+use fields::WORKER_KIND;
+use fields::WORKER_STEPS;
+use fields::WORKER_TICKET;
+use interface::ANSWER_ABSENT;
+use interface::ANSWER_ADDED;
+use interface::ANSWER_CROWDED;
+use interface::ANSWER_NONE;
+use interface::ANSWER_REMOVED;
+use interface::ANSWER_REPLACED;
+use interface::Answer;
+use interface::Completion;
+use interface::KIND_NONE;
+use interface::Settings;
+use layout::addresses::held_by;
+use layout::addresses::worker_at;
+use layout::shape::settings_of;
+use record::settled_answer;
+use record::settled_ticket;
+use rules::crowded;
+use splits::swap_directory;
+
+pub mod early;
+
+// What an update's step gives where the operation goes on; any other number is its answer's.
+pub const GOES_ON: u64 = 0;
+
+// The answer that a stored number is.
+pub fn answer_of(x: u64) -> Answer
+    ensures { λ r. ⌜ r ≡ answerOf x ⌝ }
+{
+    match x {
+        ANSWER_ADDED => Answer::Added,
+        ANSWER_REPLACED => Answer::Replaced,
+        ANSWER_REMOVED => Answer::Removed,
+        ANSWER_ABSENT => Answer::Absent,
+        ANSWER_CROWDED => Answer::Crowded,
+        _ => Answer::None,
+    }
+}
+
+// An answer, with the own steps of its operation: k before this one.
+pub fn completed(answer: Answer, k: u64) -> Completion
+    requires { ⌜ k < stepsRange ⌝ }
+    ensures { λ r. ⌜ r ≡ record { answer = answer; steps = k + 1 } ⌝ }
+{
+    Completion {
+        answer,
+        steps: k + 1,
+    }
+}
+
+// The operation of the worker whose words are at p is over.
+pub fn finish(words: &mut [u64], p: usize)
+    requires { ⌜ p + workerSlots ≤ length (now words) ⌝ }
+    ensures { λ _. ⌜ now (words .exit)
+        ≡ set (set (now (words .entry)) (p + workerKind) kindNone) (p + workerSteps) 0 ⌝ }
+{
+    memory::put(words, p + WORKER_KIND, KIND_NONE);
+    memory::put(words, p + WORKER_STEPS, 0);
+}
+
+// The second step of a check: the answer's number where the operation is over. A stored 0 is no answer's number; it
+// is read as none's.
+fn check(words: &mut [u64], g: Settings, w: usize) -> u64
+    requires { ⌜ Fits (now words) g × (w < g .workers) ⌝ }
+    ensures { λ r. ⌜ ((k : ℕ) → (now (words .exit), numbered k r) ≡ checkStep (now (words .entry)) g w k) ⌝ }
+{
+    let q = held_by(words, g, w);
+    let p = worker_at(g, w);
+    if memory::get(words, p + WORKER_TICKET) <= settled_ticket(words, g, q, w) {
+        let a = settled_answer(words, g, q, w);
+        finish(words, p);
+        return if a == GOES_ON { ANSWER_NONE } else { a };
+    }
+    let depth = memory::get(words, q + RECORD_DEPTH);
+    if !crowded(g, depth, memory::get(words, q + RECORD_COUNT)) {
+        return GOES_ON;
+    }
+    finish(words, p);
+    ANSWER_CROWDED
+}
+
+// An update's step, after k own steps, by the plan: its answer's number where the operation is over.
+pub fn update_step(words: &mut [u64], x: u64, w: usize, k: u64) -> u64
+    requires { ⌜ Fits (now words) (settingsOf x) × ((w < settingsOf x .workers) × (k < stepsRange)) ⌝ }
+    ensures { λ r. ⌜ (now (words .exit), numbered k r) ≡ updateStep (now (words .entry)) (settingsOf x) w k ⌝ }
+{
+    let g = settings_of(x);
+    match phase_of(k as usize, g.workers as usize) {
+        Phase::Announce => steps::announce(words, g, w),
+        Phase::ReadDirectory => steps::read_directory(words, g, w),
+        Phase::Flip => steps::flip(words, g, w),
+        Phase::ReadState => steps::read_state(words, g, w),
+        Phase::ReadToggle => steps::read_toggle(words, g, w),
+        Phase::ReadSlot(j) => steps::read_slot(words, g, w, j),
+        Phase::Swap => steps::swap(words, g, w),
+        Phase::Check => return check(words, g, w),
+        Phase::CopyDirectory => steps::copy_directory(words, g, w),
+        Phase::StateStep(j) => steps::state_step(words, g, w, j),
+        Phase::SwapDirectory => swap_directory(words, g, w),
+    }
+    GOES_ON
+}
