@@ -1,27 +1,12 @@
-// A bucket's state by value, and what the two passes do with it: search, put and remove, one worker's update carried
-// out, a whole round, and a half of a split. Every field is a word, so that a state is loaded and stored by copying. Each
-// contract is an equality with a definition of specs/, for any values.
+// A bucket's state by value: search, put and remove, and a ticket settled. Every field is a word, so that a state is loaded
+// and stored by copying. Each contract is an equality with a definition of specs/, for any values.
 ghost use mathlib.Core.Path.{_≡_};
-ghost use lib.ListN.{length, getD};
-ghost use Rattle.bucket.specs.State.{arraySize, sizeOf, searchOf, putOf, removeOf, settleOf, carryOf, roundOf, halfOf};
+ghost use Rattle.bucket.specs.State.{sizeOf, searchOf, putOf, removeOf, settleOf};
 use arrays::Position;
 use arrays::lower;
 use arrays::raise;
 use arrays::scan;
-use fields::SLOT_SIZE;
-use fields::SLOT_TICKET;
-use interface::ANSWER_ABSENT;
-use interface::ANSWER_ADDED;
-use interface::ANSWER_REMOVED;
-use interface::ANSWER_REPLACED;
-use interface::KIND_INSERT;
 use interface::Settings;
-use rules::Descriptor;
-use rules::answer_number;
-use rules::descriptor_at;
-use rules::first_bits;
-use rules::holds_back;
-use rules::pending;
 
 // The items of each array of a state.
 pub const ARRAY_SIZE: usize = Settings::GREATEST_CAPACITY as usize;
@@ -36,16 +21,6 @@ pub struct BucketState {
     pub count: u64,
     pub applied: u64,
 }
-
-// What stands at position j of an array, and 0 past the end.
-fn at(a: &[u64; ARRAY_SIZE], j: usize) -> u64
-    requires { ⌜ length (now a) ≡ arraySize ⌝ }
-    ensures { λ r. ⌜ r ≡ getD (now (a .entry)) j 0 ⌝ }
-{
-    if j < ARRAY_SIZE { a[j] } else { 0 }
-}
-
-// ---- one update
 
 impl BucketState {
     // How many accounts: at most as many as an array has items.
@@ -147,82 +122,6 @@ impl BucketState {
             answers,
             count: self.count,
             applied: self.applied,
-        }
-    }
-
-    // Worker j's update carried out; any kind but an insert's is a delete.
-    pub fn carry(self, j: usize, u: Descriptor) -> BucketState
-        ensures { λ r. ⌜ r ≡ carryOf self j u ⌝ }
-    {
-        let p = self.search(u.account);
-        if u.kind == KIND_INSERT {
-            self.put(p, u.account, u.total).settle(
-                j,
-                u.ticket,
-                answer_number(p, ANSWER_REPLACED, ANSWER_ADDED),
-            )
-        } else {
-            self.remove(p).settle(j, u.ticket, answer_number(p, ANSWER_REMOVED, ANSWER_ABSENT))
-        }
-    }
-
-    // A whole round in a bucket of this depth, with the slots that were read; then the applied bits become the toggle.
-    // A slot that is not there has ticket 0, so that its worker needs no help.
-    pub fn round(self, slots: &[u64], s: Settings, depth: u64, toggle: u64) -> BucketState
-        ensures { λ r. ⌜ r ≡ roundOf self (now (slots .entry)) s depth toggle ⌝ }
-    {
-        let n = s.workers as usize;
-        let mut m = slots.len() / SLOT_SIZE;
-        if n < m {
-            m = n;
-        }
-        let settled = self.settled;
-        let mut x = self;
-        let mut j: usize = 0;
-        while j < m {
-            let first = SLOT_SIZE * j;
-            let ticket = slots[first + SLOT_TICKET];
-            let last = at(&settled, j);
-            if pending(toggle, x.applied, j, last, ticket) {
-                if !holds_back(s, depth, x.count) {
-                    x = x.carry(j, descriptor_at(slots, first));
-                }
-            }
-            j += 1;
-        }
-        x.applied = toggle;
-        x
-    }
-
-    // The half of a split whose accounts have the first d bits q.
-    pub fn half(self, d: u64, q: u64) -> BucketState
-        ensures { λ r. ⌜ r ≡ halfOf self d q ⌝ }
-    {
-        let old_accounts = self.accounts;
-        let old_totals = self.totals;
-        let settled = self.settled;
-        let answers = self.answers;
-        let n = self.size();
-        let mut accounts = [0u64; ARRAY_SIZE];
-        let mut totals = [0u64; ARRAY_SIZE];
-        let mut kept: usize = 0;
-        let mut i = 0;
-        while i < n {
-            let a = old_accounts[i];
-            if first_bits(d, a) == q {
-                accounts[kept] = a;
-                totals[kept] = old_totals[i];
-                kept += 1;
-            }
-            i += 1;
-        }
-        BucketState {
-            accounts,
-            totals,
-            settled,
-            answers,
-            count: kept as u64,
-            applied: 0,
         }
     }
 }

@@ -17,6 +17,8 @@ use Rattle.fields.specs.Fields.{workerKind, workerAccount, workerTotal, workerT
 use Rattle.fields.specs.Regions.{workerAt}
 use Rattle.rules.specs.declared.Descriptor.{Descriptor}
 use Rattle.layout.specs.Shape.{word, strange, shapeOf}
+use Rattle.interface.specs.declared.Answer.{Answer}
+use Rattle.interface.specs.declared.Stepped.{Stepped}
 
 -- ---- a call
 
@@ -50,3 +52,10 @@ callWords l w kind a v =
     if strange l then (l, Called.Refused Refusal.Strange)
     else if leb (shapeOf l .workers) w then (l, Called.Refused Refusal.Stranger)
     else callIn l (workerAt (shapeOf l .workers) w) kind a v
+
+-- ---- one step
+
+-- the operation of the worker at p ended, after k own steps before this one
+unfoldable pub endedAt : List ℕ → ℕ → ℕ → Answer → List ℕ × Stepped
+endedAt l p k a =
+    (set (set l (p + workerKind) kindNone) (p + workerSteps) 0, Stepped.Answered (record { answer = a; steps = k + 1 }))

@@ -1,6 +1,9 @@
-// An operation handed to a worker.
+// An operation handed to a worker, and its end.
 ghost use mathlib.Core.Path.{_≡_};
-ghost use Prim.Native.Nat.{_<_};
+ghost use Prim.Native.Nat.{_+_, _≤_, _<_};
+ghost use lib.ListN.{length, set};
+ghost use Rattle.interface.specs.Numbers.{kindNone};
+ghost use Rattle.fields.specs.Fields.{workerKind, workerSteps, stepsRange, workerSlots};
 ghost use Rattle.fields.specs.Regions.{workerAt};
 ghost use Rattle.layout.specs.Shape.{Fits};
 ghost use Rattle.calls.specs.Calls.{begunAt, callIn, callWords};
@@ -10,7 +13,9 @@ use fields::WORKER_KIND;
 use fields::WORKER_STEPS;
 use fields::WORKER_TICKET;
 use fields::WORKER_TOTAL;
+use interface::Answer;
 use interface::Called;
+use interface::Completion;
 use interface::GREATEST_KIND;
 use interface::GREATEST_TICKET;
 use interface::KIND_INSERT;
@@ -102,4 +107,27 @@ pub fn call(words: &mut [u64], worker: u64, kind: u64, account: u32, total: i64)
         return Called::Refused(Refusal::Stranger);
     }
     call_in(words, g, worker as usize, kind, account, total)
+}
+
+// ---- the end of an operation
+
+// An answer, with the own steps of its operation: k before this one.
+pub fn completed(answer: Answer, k: u64) -> Completion
+    requires { ⌜ k < stepsRange ⌝ }
+    ensures { λ r. ⌜ r ≡ record { answer = answer; steps = k + 1 } ⌝ }
+{
+    Completion {
+        answer,
+        steps: k + 1,
+    }
+}
+
+// The operation of the worker whose words are at p is over.
+pub fn finish(words: &mut [u64], p: usize)
+    requires { ⌜ p + workerSlots ≤ length (now words) ⌝ }
+    ensures { λ _. ⌜ now (words .exit)
+        ≡ set (set (now (words .entry)) (p + workerKind) kindNone) (p + workerSteps) 0 ⌝ }
+{
+    memory::put(words, p + WORKER_KIND, KIND_NONE);
+    memory::put(words, p + WORKER_STEPS, 0);
 }

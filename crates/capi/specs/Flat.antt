@@ -1,26 +1,19 @@
 -- What each flat function returns and writes, from what the call of `table` that it stands for answers: a number, and
 -- a report. Rests on document 01's numbers.
-use Prim.Native.Nat.{ℕ, _+_}
+use Prim.Native.Nat.{ℕ}
 use mathlib.Core.List.{List, [], _∷_}
-use lib.Dec.{leb}
-use lib.ListN.{length}
 use lib.IntN.{ℤ}
-use mir.Syntax.{w64}
-use mir.Val.{ofZ}
-use Rattle.interface.specs.Numbers.{numberOf, answerNumber}
-use Rattle.interface.specs.declared.Answer.{Answer}
-use Rattle.interface.specs.declared.Completion.{Completion}
+use Rattle.interface.specs.Numbers.{numberOf}
 use Rattle.interface.specs.declared.Needed.{Needed}
 use Rattle.interface.specs.declared.Opened.{Opened}
 use Rattle.interface.specs.declared.Called.{Called}
 use Rattle.interface.specs.declared.Stepped.{Stepped}
 use Rattle.interface.specs.declared.Ran.{Ran}
 use Rattle.interface.specs.declared.Listed.{Listed}
-use Rattle.machine.specs.Choice.{if_then_else_}
-use Rattle.lists.specs.Parts.{overlay}
 use Rattle.rows.specs.Rows.{Shown, listingWords}
 use Rattle.turns.specs.Turns.{stepWords}
 use Rattle.runs.specs.Runs.{runWords}
+use Rattle.report.specs.Report.{endedNumber, told, endedReport}
 
 -- ---- numbers
 
@@ -37,13 +30,6 @@ unfoldable pub calledNumber : Called → ℕ
 calledNumber Called.Accepted = 0
 calledNumber (Called.Refused r) = numberOf r
 
--- past every refusal's number
-abbrev pub answerBase : ℕ
-answerBase = 16
-
-unfoldable pub endedNumber : Completion → ℕ
-endedNumber c = answerBase + answerNumber (c .answer)
-
 unfoldable pub steppedNumber : Stepped → ℕ
 steppedNumber Stepped.Moved = 0
 steppedNumber (Stepped.Answered c) = endedNumber c
@@ -59,24 +45,6 @@ listedNumber (Listed.Count k) = 0
 listedNumber (Listed.Refused r) = numberOf r
 
 -- ---- reports
-
--- a report with xs at its start, if they fit; else the report as it is
-unfoldable pub told : List ℕ → List ℕ → List ℕ
-told report xs = if leb (length xs) (length report) then overlay report 0 xs else report
-
--- the total found, as a word of two's complement; 0 where the answer has none
-unfoldable pub totalWord : Answer → ℕ
-totalWord Answer.Added = 0
-totalWord Answer.Replaced = 0
-totalWord Answer.Removed = 0
-totalWord Answer.Absent = 0
-totalWord (Answer.Found total) = ofZ w64 total
-totalWord Answer.None = 0
-totalWord Answer.Crowded = 0
-
--- an operation's end: its steps, and the total found
-unfoldable pub endedReport : List ℕ → Completion → List ℕ
-endedReport report c = told report (c .steps ∷ totalWord (c .answer) ∷ [])
 
 unfoldable pub steppedReport : List ℕ → Stepped → List ℕ
 steppedReport report Stepped.Moved = report

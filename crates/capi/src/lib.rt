@@ -2,67 +2,19 @@
 // not fit into the number goes into a report. Each takes any words and any arguments; its contract equals a
 // definition of specs/Flat. include/totals.h declares them.
 ghost use mathlib.Core.Path.{_≡_};
-ghost use mathlib.Core.List.{[], _∷_};
 ghost use Rattle.interface.specs.Limits.{built};
 ghost use Rattle.opening.specs.Opening.{neededFor, openWords};
 ghost use Rattle.calls.specs.Calls.{callWords};
-ghost use Rattle.capi.specs.Flat.{neededNumber, openedNumber, calledNumber, endedNumber, told, totalWord, endedReport, flat, stepLeft, runLeft, listWritten};
-use interface::Answer;
+ghost use Rattle.capi.specs.Flat.{neededNumber, openedNumber, calledNumber, flat, stepLeft, runLeft, listWritten};
 use interface::Called;
-use interface::Completion;
 use interface::Listed;
 use interface::Needed;
 use interface::Opened;
 use interface::Ran;
 use interface::Stepped;
-
-// Answers are this and their number, past every refusal's.
-const ANSWER_BASE: u64 = 16;
-
-// A word at the start of a report that has room for it.
-fn tell_one(report: &mut [u64], first: u64)
-    ensures { λ _. ⌜ now (report .exit) ≡ told (now (report .entry)) (first ∷ []) ⌝ }
-{
-    if report.len() < 1 {
-        return;
-    }
-    report[0] = first;
-}
-
-// Two words at the start of a report that has room for both.
-fn tell(report: &mut [u64], first: u64, second: u64)
-    ensures { λ _. ⌜ now (report .exit) ≡ told (now (report .entry)) (first ∷ second ∷ []) ⌝ }
-{
-    if report.len() < 2 {
-        return;
-    }
-    report[0] = first;
-    report[1] = second;
-}
-
-// The total found, as a word; 0 where the answer has none.
-fn total_word(answer: Answer) -> u64
-    ensures { λ r. ⌜ r ≡ totalWord answer ⌝ }
-{
-    match answer {
-        Answer::Added => 0,
-        Answer::Replaced => 0,
-        Answer::Removed => 0,
-        Answer::Absent => 0,
-        Answer::Found(total) => memory::word_of(total),
-        Answer::None => 0,
-        Answer::Crowded => 0,
-    }
-}
-
-// An operation's end: its number, and its steps and total in the report.
-fn ended(report: &mut [u64], c: Completion) -> u64
-    ensures { λ r. ⌜ (now (report .exit) ≡ endedReport (now (report .entry)) c) × (r ≡ endedNumber c) ⌝ }
-{
-    let answer = c.answer;
-    tell(report, c.steps, total_word(answer));
-    ANSWER_BASE + answer.number()
-}
+use report::ended;
+use report::tell;
+use report::tell_one;
 
 // How many words a table of these settings needs, or 1 for wrong settings.
 #[no_mangle]

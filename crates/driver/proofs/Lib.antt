@@ -3,8 +3,3 @@
 pub mod Outputs
 pub mod Bytes
 pub mod Bounds
-pub mod Lengths
-pub mod Small
-pub mod Texts
-pub mod Feeds
-pub mod Parts

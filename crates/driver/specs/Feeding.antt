@@ -7,7 +7,7 @@ use lib.ListN.{length}
 use Rattle.replies.specs.Ascii.{lineFeed}
 use Rattle.machine.specs.Choice.{if_then_else_}
 use Rattle.lines.specs.declared.reader.Reader.{Reader}
-use Rattle.lines.specs.Reading.{fresh, pushed, commandIn, isEmpty}
+use Rattle.lines.specs.Reading.{fresh, pushed, commandIn}
 use Rattle.driver.specs.Answers.{DriverState, answered}
 
 -- no line is met with a longer text: 4,096 rows of at most 10 + 1 + 20 + 1 bytes, and `end` with a count of at most 20
@@ -43,7 +43,3 @@ unfoldable pub fed : Feeding → List ℕ → Feeding
 fed f [] = f
 fed f (b ∷ bs) =
     if roomFor longest (length (f .state .output .bytes)) (f .state .output .used) then fed (took f b) bs else f
-
--- the line feed that the program puts behind input whose last line has none
-unfoldable pub lastFeed : Reader → List ℕ
-lastFeed r = if isEmpty r then [] else 10 ∷ []

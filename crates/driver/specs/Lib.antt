@@ -2,4 +2,3 @@
 -- They rest on the types that src/ declares, on the table's calls and on the lines.
 pub mod Answers
 pub mod Feeding
-pub mod Texts

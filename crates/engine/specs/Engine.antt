@@ -9,12 +9,11 @@ use lib.ListN.{set}
 use Rattle.interface.specs.Numbers.{kindNone, answerNumber}
 use Rattle.interface.specs.declared.Settings.{Settings}
 use Rattle.interface.specs.declared.Answer.the-variants.{Crowded}
-use Rattle.fields.specs.Fields.{headerNumber, slotKind, slotTicket, slotSize, workerAccount, workerTicket, workerHeld, workerState, workerToggle, workerDirectory, workerMarks, recordToggle, recordNumber}
+use Rattle.fields.specs.Fields.{headerNumber, slotKind, slotTicket, slotSize, workerTicket, workerState, workerToggle, workerDirectory, workerMarks, recordToggle, recordNumber}
 use Rattle.fields.specs.Regions.{slotAt, readAt}
 use Rattle.machine.specs.Choice.{if_then_else_, _and_}
 use Rattle.lists.specs.Parts.{part, overlay}
 use Rattle.layout.specs.Shape.{word}
-use Rattle.layout.specs.Addresses.{recordOf}
 use Rattle.reuse.specs.Numbers.{any, freshNumber}
 use Rattle.record.specs.Bucket.{splittableAt, crowdedAt, settledTicket, settledAnswer}
 use Rattle.rules.specs.Rules.{flipBit, withBit}
@@ -29,10 +28,6 @@ announcedAt l p w = overlay l (slotAt w) (part l p slotSize)
 
 unfoldable pub slotReadAt : List ℕ → ℕ → ℕ → List ℕ
 slotReadAt l p j = overlay l (readAt p j) (part l (slotAt j) slotSize)
-
--- the directory read for the account's bucket
-unfoldable pub bucketReadAt : List ℕ → Settings → ℕ → List ℕ
-bucketReadAt l s p = set l (p + workerHeld) (recordOf l s (word l (p + workerAccount)))
 
 unfoldable pub flippedAt : List ℕ → ℕ → ℕ → List ℕ
 flippedAt l q w = set l (q + recordToggle) (flipBit (word l (q + recordToggle)) w)

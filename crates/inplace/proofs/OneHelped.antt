@@ -11,14 +11,15 @@ use Rattle.interface.specs.Numbers.{kindInsert}
 use Rattle.interface.specs.declared.Settings.{Settings}
 use Rattle.fields.specs.Fields.{slotSize}
 use Rattle.machine.proofs.laws.Base.{if-elim}
-use Rattle.bucket.specs.State.{arraySize, sizeOf, searchOf, putOf, removeOf, settleOf, carryOf, helpOf, helpedOf, withApplied, roundOf}
+use Rattle.bucket.specs.State.{arraySize, sizeOf, searchOf, putOf, removeOf, settleOf}
+use Rattle.rounds.specs.Rounds.{carryOf, helpOf, helpedOf, withApplied, roundOf}
 use Rattle.rules.specs.Rules.{descriptorIn, bit}
 use Rattle.bucket.specs.declared.BucketState.{BucketState}
 use Rattle.rules.specs.declared.Descriptor.{Descriptor}
 use Rattle.arrays.specs.declared.Position.{Position}
 use Rattle.arrays.specs.declared.Position.the-variants.{At, Before}
 use Rattle.rules.proofs.Laws.{pending-same}
-use Rattle.bucket.proofs.Laws.{help-left}
+use Rattle.rounds.proofs.Laws.{help-left}
 
 -- ---- an update leaves the applied bits
 

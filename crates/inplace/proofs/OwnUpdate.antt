@@ -19,13 +19,15 @@ use Rattle.fields.specs.Regions.{readAt}
 use Rattle.machine.proofs.laws.Base.{if-false}
 use Rattle.arrays.proofs.Laws.{Among, scan-among}
 use Rattle.arrays.specs.Arrays.{insertedIn, removedFrom, scan}
-use Rattle.bucket.specs.State.{sizeOf, searchOf, putOf, removeOf, settleOf, carryOf, withApplied}
+use Rattle.bucket.specs.State.{sizeOf, searchOf, putOf, removeOf, settleOf}
+use Rattle.rounds.specs.Rounds.{carryOf, withApplied}
 use Rattle.rules.specs.Rules.{fullBy, holdsBackBy, descriptorIn, answerBy, insertAnswer, deleteAnswer, bit, flipBit}
 use Rattle.bucket.specs.declared.BucketState.{BucketState}
 use Rattle.rules.specs.declared.Descriptor.{Descriptor}
 use Rattle.arrays.specs.declared.Position.{Position}
 use Rattle.arrays.specs.declared.Position.the-variants.{At, Before}
-use Rattle.bucket.proofs.Laws.{size-is, put-new, removed-at, carry-insert, carry-delete, help-left, help-back, help-carried}
+use Rattle.bucket.proofs.Laws.{size-is, put-new, removed-at}
+use Rattle.rounds.proofs.Laws.{carry-insert, carry-delete, help-left, help-back, help-carried}
 use Rattle.rules.proofs.Laws.{room-left, pending-settled, pending-differs}
 use Rattle.lists.specs.Parts.{part, overlay}
 use Rattle.lists.proofs.PartLaws.{length-part, getD-part, part-ext}

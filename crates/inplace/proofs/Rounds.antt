@@ -6,7 +6,7 @@ use mathlib.Core.List.{List}
 use Rattle.interface.specs.declared.Settings.{Settings}
 use Rattle.fields.specs.Fields.{slotSize, workerToggle, workerSlots, recordApplied, recordDepth}
 use Rattle.machine.proofs.laws.Base.{if-eq, if-ne}
-use Rattle.bucket.specs.State.{roundOf}
+use Rattle.rounds.specs.Rounds.{roundOf}
 use Rattle.bucket.specs.declared.BucketState.{BucketState}
 use Rattle.lists.specs.Parts.{part}
 use Rattle.layout.specs.Shape.{word}

@@ -9,13 +9,12 @@ use Rattle.interface.specs.declared.Settings.{Settings}
 use Rattle.fields.specs.Fields.{slotSize, workerToggle, workerSlots, recordApplied, recordDepth, widestRecord}
 use Rattle.fields.specs.Regions.{workerAt}
 use Rattle.machine.specs.Choice.{if_then_else_}
-use Rattle.rules.specs.Rules.{bit}
-use Rattle.bucket.specs.State.{carryOf, withApplied, roundOf}
+use Rattle.rules.specs.Rules.{bit, flipBit}
+use Rattle.rounds.specs.Rounds.{carryOf, withApplied, roundOf}
 use Rattle.rules.specs.declared.Descriptor.{Descriptor}
 use Rattle.lists.specs.Parts.{part}
 use Rattle.layout.specs.Shape.{word, Fits}
 use Rattle.record.specs.Bucket.{bucketAt, withBucketAt}
-use Rattle.rules.specs.Rules.{flipBit}
 
 -- ---- the bucket swap
 

@@ -3,9 +3,9 @@
 use Prim.Native.Nat.{ℕ, _+_, _-_}
 use mathlib.Core.List.{List}
 use lib.Dec.{leb, eqb}
-use lib.ListN.{length}
+use lib.ListN.{length, set}
 use Rattle.interface.specs.declared.Settings.{Settings}
-use Rattle.fields.specs.Fields.{workerHeld, widestRecord, slotAccount, workerMarks}
+use Rattle.fields.specs.Fields.{workerHeld, widestRecord, slotAccount, workerMarks, workerAccount}
 use Rattle.fields.specs.Regions.{directoryStart, readAt}
 use Rattle.machine.specs.Choice.{if_then_else_}
 use Rattle.machine.specs.Sequential.{firstBits}
@@ -33,3 +33,9 @@ markedAt l p j = eqb (bit (word l (p + workerMarks)) j) 1
 -- the record of the bucket that slot j, as the worker at p has read it, belongs to
 abbrev pub recordFor : List ℕ → Settings → ℕ → ℕ → ℕ
 recordFor l s p j = recordOf l s (word l (readAt p j + slotAccount))
+
+-- ---- steps that copy words
+
+-- the directory read for the account's bucket
+unfoldable pub bucketReadAt : List ℕ → Settings → ℕ → List ℕ
+bucketReadAt l s p = set l (p + workerHeld) (recordOf l s (word l (p + workerAccount)))

@@ -16,10 +16,10 @@ use Rattle.machine.proofs.laws.Base.{and-parts, if-elim}
 use Rattle.replies.specs.Ascii.{space, minusSign, zeroDigit, nineDigit}
 use Rattle.lines.specs.declared.command.Command.{Command}
 use Rattle.lines.specs.declared.command.Command.the-variants.{Open, Insert, Delete, Lookup, Steps, Unread}
-use Rattle.lines.specs.Numerals.{isDigit, digitsAfter, zeroThen, numeral, plus, minus, signedNumeral, upTo, from, in64, greatestTotal, leastTotalSize}
+use Rattle.numerals.specs.Numerals.{isDigit, digitsAfter, zeroThen, numeral, plus, minus, signedNumeral, upTo, from, in64, greatestTotal, leastTotalSize}
 use Rattle.lines.specs.Grammar.{greatestSmall, greatestAccount, leastSteps, greatestSteps, openLetter, insertLetter, deleteLetter, lookupLetter, stepsLetter, before, partsAt, fieldsOf, letterOf, smallOf, accountOf, totalOf, stepsOf, with2, with3, oneField, threeFields, fourFields, ofFields, commandOf}
 use Rattle.lines.specs.Reading.{longestLine}
-use Rattle.lines.proofs.Numerals.{some-none, passed}
+use Rattle.numerals.proofs.NumeralLaws.{some-none, passed}
 
 -- ---- the length of a number
 

@@ -9,8 +9,8 @@ use Rattle.interface.specs.Numbers.{kindDelete, kindLookup}
 use Rattle.machine.proofs.laws.Base.{if-elim}
 use Rattle.lines.specs.declared.command.Command.{Command}
 use Rattle.lines.specs.declared.command.Command.the-variants.{Insert, Delete, Lookup, Unread}
-use Rattle.lines.specs.declared.number.Pair.the-variants as Pair
-use Rattle.lines.specs.Numerals.{asPair}
+use Rattle.numerals.specs.declared.Pair.the-variants as Pair
+use Rattle.numerals.specs.Numerals.{asPair}
 use Rattle.lines.specs.Grammar.{smallOf, accountOf, totalOf, with2, with3, operationCommand}
 
 pub pair-some : (o p : Option ℕ) (a b : ℕ) → Pair.Values a b ≡ asPair o p → (o ≡ some a) × (p ≡ some b)

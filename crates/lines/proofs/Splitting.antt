@@ -6,8 +6,8 @@ use mathlib.Core.List.{List, [], _∷_}
 use native.Mathlib.Omega.{arith}
 use native.Mathlib.Numerals.{add-one}
 use lib.Dec.{eqb}
-use lib.ListN.{length, take, drop, getD, length-drop, drop-of-length-le}
-use lib.Seq.{drop-cons, take-all}
+use lib.ListN.{length, take, drop, getD, drop-of-length-le}
+use lib.Seq.{drop-cons}
 use borrow.Author.Tests.{eq-eqb, ne-eqb}
 use Rattle.machine.specs.Choice.{if_then_else_}
 use Rattle.replies.specs.Ascii.{space}
@@ -81,10 +81,6 @@ some-field (b ∷ bs) = begins b (eqb b space) (fieldsOf bs)
 pub too-many : (f x y z l : List ℕ) → Unread ≡ ofFields (f ∷ x ∷ y ∷ z ∷ fieldsOf l)
 unfolding ofFields
 too-many f x y z l = rw (some-field l .2)
-
--- what `&l[n..]` is
-pub part-from : (l : List ℕ) (n : ℕ) → take (length l - n) (drop n l) ≡ drop n l
-part-from l n = take-all (length l - n) (drop n l) (rw length-drop (omega arith))
 
 -- ---- the letter
 

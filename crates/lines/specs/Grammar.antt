@@ -12,7 +12,7 @@ use Rattle.machine.specs.Script.{Line, O, I, D, L, S, T}
 use Rattle.replies.specs.Ascii.{lineFeed, space}
 use Rattle.lines.specs.declared.command.Command.{Command}
 use Rattle.lines.specs.declared.command.Command.the-variants.{Open, Insert, Delete, Lookup, Steps, List as Listing, Unread}
-use Rattle.lines.specs.Numerals.{numeral, signedNumeral, upTo, from, in64}
+use Rattle.numerals.specs.Numerals.{numeral, signedNumeral, upTo, from, in64}
 
 -- ---- lines and fields
 

@@ -1,17 +1,17 @@
 // A line read as a command: its fields one after the other, then what each of them has to be.
-// Rests on the numbers of number.rt.
+// Rests on the numbers of crate numerals.
 ghost use mathlib.Core.Path.{_≡_};
 ghost use mathlib.Core.List.{[], _∷_};
-ghost use Rattle.lines.specs.Numerals.{numeral, upTo, asPair};
+ghost use Rattle.numerals.specs.Numerals.{numeral, upTo, asPair};
 ghost use Rattle.lines.specs.Grammar.{commandOf, ofFields, fieldsOf, firstField, letterOf, threeFields, fourFields, openCommand, operationCommand, stepsCommand, smallOf};
-use crate::number::Number;
-use crate::number::Pair;
-use crate::number::Signed;
-use crate::number::read_number;
-use crate::number::read_signed;
 use interface::KIND_DELETE;
 use interface::KIND_INSERT;
 use interface::KIND_LOOKUP;
+use numerals::Number;
+use numerals::Pair;
+use numerals::Signed;
+use numerals::read_number;
+use numerals::read_signed;
 
 // What a line asks for. Unread is a line that is none of the others.
 pub enum Command {

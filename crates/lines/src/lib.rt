@@ -1,7 +1,6 @@
 // Lines of `totals`, read: what a line means is a definition of specs/, and the functions here equal it.
 // Depends on the machine's script, and on what is printed, for its specs alone.
 mod command;
-mod number;
 mod reader;
 
 pub use command::Command;

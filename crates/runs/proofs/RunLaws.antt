@@ -21,7 +21,7 @@ use Rattle.machine.specs.Plan.{pass}
 use Rattle.machine.proofs.laws.Base.{if-true, if-false}
 use Rattle.memory.specs.Words.{least}
 use Rattle.layout.specs.Shape.{word, strange, shapeOf}
-use Rattle.turns.specs.Turns.{operationAt}
+use Rattle.updates.specs.Updates.{operationAt}
 use Rattle.runs.specs.Runs.{lastOf, orElse, longestRun, runIn, runWords}
 use Rattle.layout.proofs.Checks.{both-passed}
 

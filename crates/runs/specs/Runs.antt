@@ -15,7 +15,7 @@ use Rattle.fields.specs.Fields.{workerKind, workerSteps, stepsRange}
 use Rattle.fields.specs.Regions.{workerAt}
 use Rattle.memory.specs.Words.{least}
 use Rattle.layout.specs.Shape.{word, strange, shapeOf}
-use Rattle.turns.specs.Turns.{operationAt}
+use Rattle.updates.specs.Updates.{operationAt}
 
 -- ---- up to so many steps of one worker, ending early at an answer
 

@@ -21,18 +21,19 @@ use Rattle.lists.specs.Parts.{part, overlay}
 use Rattle.lists.proofs.PartLaws.{length-part, length-overlay}
 use Rattle.memory.specs.Words.{least}
 use Rattle.layout.specs.Shape.{word, strange, shapeOf, Fits, Whole}
-use Rattle.layout.specs.Addresses.{heldBy, markedAt}
+use Rattle.layout.specs.Addresses.{heldBy, markedAt, bucketReadAt}
 use Rattle.layout.proofs.Checks.{fits-of}
 use Rattle.layout.proofs.Positions.{fits-kept, placed, held-inside}
 use Rattle.reuse.proofs.Pool.{whole-kept}
-use Rattle.engine.specs.declared.phase.Phase as Code
-use Rattle.engine.specs.Phases.{planned}
-use Rattle.engine.specs.Engine.{slotReadAt, bucketReadAt, flippedAt, stateReadAt, toggleReadAt, directoryReadAt, swappedAt, marks, stateStepAt}
+use Rattle.phases.specs.declared.Phase as Code
+use Rattle.phases.specs.Phases.{planned}
+use Rattle.engine.specs.Engine.{slotReadAt, flippedAt, stateReadAt, toggleReadAt, directoryReadAt, swappedAt, marks, stateStepAt}
 use Rattle.splits.specs.Splits.{takenAll, resolvedAt, nothingToSplit, redirectedAt}
 use Rattle.splits.proofs.Splitting.{whole-else}
 use Rattle.session.proofs.StepLengths.{length-announced, length-round, length-taken}
-use Rattle.updates.specs.Updates.{endedAt, checkAt, updateAt}
-use Rattle.turns.specs.Turns.{lookupAt, operationAt}
+use Rattle.calls.specs.Calls.{endedAt}
+use Rattle.updates.specs.Updates.{checkAt, updateAt, operationAt}
+use Rattle.lookups.specs.Lookups.{lookupAt}
 use Rattle.calls.specs.Calls.{begunAt, callIn, callWords}
 use Rattle.opening.specs.Opening.{freshWords}
 use Rattle.runs.specs.Runs.{orElse, runIn, longestRun, runWords}

@@ -10,7 +10,7 @@ use mir.Val.{SFits}
 use borrow.Author.Tests.{leb-true}
 use Rattle.machine.proofs.laws.Base.{if-elim}
 use Rattle.lines.specs.declared.command.Command.{Command}
-use Rattle.lines.specs.Numerals.{numeral, signedNumeral, upTo, from, in64}
+use Rattle.numerals.specs.Numerals.{numeral, signedNumeral, upTo, from, in64}
 use Rattle.lines.specs.Grammar.{fieldsOf, letterOf, accountOf, totalOf, stepsOf, with2, with3, oneField, threeFields, fourFields, ofFields, commandOf}
 
 -- as the table's calls take them

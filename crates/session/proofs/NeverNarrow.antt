@@ -38,8 +38,8 @@ use Rattle.calls.specs.Calls.{callIn, callWords}
 use Rattle.runs.specs.Runs.{lastOf, orElse, runIn, runWords}
 use Rattle.responses.specs.Responses.{ofOpened, ofCalled, ofRan, replying, responded}
 use Rattle.driver.specs.Answers.{isList}
-use Rattle.driver.specs.Texts.{rowsText, listingText, textOn, wordsOn}
-use Rattle.driver.proofs.Parts.{commands-answered}
+use Rattle.texts.specs.Texts.{rowsText, listingText, textOn, wordsOn}
+use Rattle.texts.proofs.Parts.{commands-answered}
 use Rattle.simulation.proofs.OpeningMeans.{shape-is}
 use Rattle.session.proofs.Same.{Same}
 use Rattle.session.specs.Program.{NeverNarrowOn, NeverNarrow}

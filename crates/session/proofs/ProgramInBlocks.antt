@@ -16,12 +16,12 @@ use Rattle.lines.specs.Reading.{fresh, pushed, commandIn, isEmpty}
 use Rattle.lines.specs.Session.{session}
 use Rattle.lines.proofs.Session.{session-of-01}
 use Rattle.driver.specs.Answers.{DriverState}
-use Rattle.driver.specs.Feeding.{Feeding, longest, took, fed, lastFeed}
-use Rattle.driver.specs.Texts.{textsOn, wordsOn, wordsAfter, ended, readerAfter}
+use Rattle.driver.specs.Feeding.{Feeding, longest, took, fed}
+use Rattle.texts.specs.Texts.{lastFeed, textsOn, wordsOn, wordsAfter, ended, readerAfter}
 use Rattle.driver.proofs.Bounds.{fed-first}
-use Rattle.driver.proofs.Texts.{behind, answered-kept}
-use Rattle.driver.proofs.Feeds.{Ready, whole, fed-text}
-use Rattle.driver.proofs.Parts.{in-parts}
+use Rattle.texts.proofs.Texts.{behind, answered-kept}
+use Rattle.texts.proofs.Feeds.{Ready, whole, fed-text}
+use Rattle.texts.proofs.Parts.{in-parts}
 use Rattle.session.specs.Program.{Kept, called, keptBy, writtenBy, Run, andThen, blockFed, blocksFed, programRun, joined, Starts, printedFor, ProgramIsSessionInBlocks}
 use Rattle.session.proofs.ProgramIsSession.{program-is-session, input01, output01}
 

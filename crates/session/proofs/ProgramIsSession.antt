@@ -9,8 +9,8 @@ use Rattle.machine.specs.Script.{Memory, zeros}
 use Rattle.lines.specs.Grammar.{linesOf, commandOf, lineOf}
 use Rattle.lines.specs.Session.{told, sessionFrom, session}
 use Rattle.lines.proofs.Session.{session-of-01}
-use Rattle.driver.specs.Texts.{wordsOn, textsOn}
-use Rattle.driver.proofs.Parts.{commands-answered}
+use Rattle.texts.specs.Texts.{wordsOn, textsOn}
+use Rattle.texts.proofs.Parts.{commands-answered}
 use Rattle.simulation.proofs.OpeningMeans.{zeros-strange}
 use Rattle.session.proofs.Same.{Same}
 use Rattle.session.specs.Program.{printedFor, ProgramIsSession}

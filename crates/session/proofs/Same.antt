@@ -13,7 +13,7 @@ use Rattle.layout.specs.Shape.{strange}
 use Rattle.lines.specs.declared.command.Command.{Command}
 use Rattle.lines.specs.Grammar.{lineOf}
 use Rattle.lines.specs.Session.{told}
-use Rattle.driver.specs.Texts.{textOn, wordsOn}
+use Rattle.texts.specs.Texts.{textOn, wordsOn}
 use Rattle.simulation.proofs.Demand3ForCalls.{Represents}
 
 -- an opened table: settings in their ranges, and words that mean its machine

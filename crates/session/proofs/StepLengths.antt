@@ -14,14 +14,16 @@ use Rattle.fields.specs.Fields.{headerDepth, headerSpare, slotAccount, slotSize
 use Rattle.fields.specs.Regions.{slotAt, workerAt, readAt, directoryStart, recordStart}
 use Rattle.machine.specs.Choice.{_and_}
 use Rattle.machine.proofs.laws.Base.{if-elim, and-parts}
-use Rattle.bucket.specs.State.{arraySize, sizeOf, searchOf, putOf, removeOf, settleOf, carryOf, helpOf, helpedOf, withApplied, roundOf, halfOf}
+use Rattle.bucket.specs.State.{arraySize, sizeOf, searchOf, putOf, removeOf, settleOf}
+use Rattle.rounds.specs.Rounds.{carryOf, helpOf, helpedOf, withApplied, roundOf, halfOf}
 use Rattle.rules.specs.Rules.{fullBy, splittableBy}
 use Rattle.bucket.specs.declared.BucketState.{BucketState}
 use Rattle.rules.specs.declared.Descriptor.{Descriptor}
 use Rattle.arrays.specs.declared.Position.{Position}
 use Rattle.arrays.specs.declared.Position.the-variants.{At, Before}
 use Rattle.arrays.proofs.Laws.{length-inserted, length-removed}
-use Rattle.bucket.proofs.Laws.{size-limit, length-keeps, length-gathered}
+use Rattle.bucket.proofs.Laws.{size-limit}
+use Rattle.rounds.proofs.Laws.{length-keeps, length-gathered}
 use Rattle.lists.specs.Parts.{part, overlay}
 use Rattle.lists.proofs.PartLaws.{length-part, length-overlay}
 use Rattle.record.proofs.States.{Sized, loaded-sized}

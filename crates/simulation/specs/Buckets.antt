@@ -20,8 +20,7 @@ use Rattle.rules.specs.declared.Descriptor.{Descriptor}
 use Rattle.arrays.specs.declared.Position.{Position}
 use Rattle.arrays.specs.declared.Position.the-variants.{At, Before}
 use Rattle.bucket.specs.State.{arraySize, sizeOf}
-use Rattle.rules.specs.Rules.{bit, descriptorIn}
-use Rattle.rules.specs.Rules.{answerOf}
+use Rattle.rules.specs.Rules.{bit, descriptorIn, answerOf}
 
 -- ---- a state
 

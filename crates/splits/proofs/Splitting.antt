@@ -19,7 +19,7 @@ use Rattle.fields.specs.Regions.{readAt, directoryStart, recordStart, wordsNeed
 use Rattle.machine.proofs.laws.Base.{if-true, if-false, and-parts}
 use Rattle.machine.specs.Sequential.{firstBits}
 use Rattle.rules.specs.Rules.{bit, fullBy, splittableBy, descriptorIn}
-use Rattle.bucket.specs.State.{carryOf, halfOf}
+use Rattle.rounds.specs.Rounds.{carryOf, halfOf}
 use Rattle.rules.specs.declared.Descriptor.{Descriptor}
 use Rattle.bucket.specs.declared.BucketState.{BucketState}
 use Rattle.lists.specs.Parts.{overlay}

@@ -12,7 +12,7 @@ use Rattle.fields.specs.Fields.{headerDepth, headerNumber, headerSpare, slotKin
 use Rattle.fields.specs.Regions.{readAt, directoryStart, recordStart, wordsNeeded}
 use Rattle.machine.specs.Sequential.{firstBits}
 use Rattle.rules.specs.Rules.{bit, descriptorIn}
-use Rattle.bucket.specs.State.{carryOf, halfOf}
+use Rattle.rounds.specs.Rounds.{carryOf, halfOf}
 use Rattle.bucket.specs.declared.BucketState.{BucketState}
 use Rattle.lists.specs.Parts.{overlay}
 use Rattle.layout.specs.Shape.{word}

@@ -1,4 +1,5 @@
-// The directory swap: splits in place, and the updates that are taken.
+// The directory swap: splits in place, and the updates that are taken. It looks at the marked buckets again: their
+// contents are read here and not at the state step (docs/DECISIONS.md, 51).
 ghost use mathlib.Core.Path.{_≡_};
 ghost use Prim.Native.Nat.{_+_, _≤_, _<_};
 ghost use lib.ListN.{length};
@@ -66,7 +67,7 @@ fn half(words: &mut [u64], g: Settings, d: u64, q: u64, s: BucketState)
 {
     let r = spare(words, g);
     let at = record_start(g, r);
-    make(words, g, at, d, q, s.half(d, q));
+    make(words, g, at, d, q, rounds::half(s, d, q));
     memory::put(words, HEADER_SPARE, r as u64 + 1);
     direct(words, g, d, q, at);
 }
@@ -121,7 +122,7 @@ fn carry(words: &mut [u64], g: Settings, w: usize, i: usize, q: usize)
     let b = g.capacity as usize;
     let s = record::load_state(words, q, b, n);
     let u = slot_read(words, g, w, i);
-    record::store_state(words, q, b, n, s.carry(i, u));
+    record::store_state(words, q, b, n, rounds::carry(s, i, u));
 }
 
 // Worker i's update taken: splits first, then carried out if there is room.

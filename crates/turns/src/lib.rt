@@ -4,9 +4,9 @@ ghost use Prim.Native.Nat.{_+_, _<_, _%_};
 ghost use Rattle.fields.specs.Fields.{workerKind, workerSteps, stepsRange};
 ghost use Rattle.fields.specs.Regions.{workerAt};
 ghost use Rattle.layout.specs.Shape.{word, settingsOf, Fits};
-ghost use Rattle.updates.specs.Updates.{numbered};
-ghost use Rattle.turns.specs.Turns.{operationAt, stepWords};
-use crate::lookup::lookup_step;
+ghost use Rattle.updates.specs.Updates.{operationAt};
+ghost use Rattle.turns.specs.Turns.{stepWords};
+use crate::results::stepped;
 use fields::HEADER_SETTINGS;
 use fields::STEPS_RANGE;
 use fields::WORKER_KIND;
@@ -18,24 +18,11 @@ use interface::Stepped;
 use layout::addresses::worker_at;
 use layout::shape::settings_of;
 use layout::shape::strange_words;
-use updates::GOES_ON;
-use updates::answer_of;
-use updates::completed;
+use lookups::lookup_step;
 use updates::early::early_step;
 use updates::update_step;
 
-pub mod lookup;
-
-// What a step gives, after k own steps, whose update gave this number.
-fn stepped(k: u64, number: u64) -> Stepped
-    requires { ⌜ k < stepsRange ⌝ }
-    ensures { λ r. ⌜ r ≡ numbered k number ⌝ }
-{
-    if number == GOES_ON {
-        return Stepped::Moved;
-    }
-    Stepped::Answered(completed(answer_of(number), k))
-}
+mod results;
 
 // One step of worker w's operation, whose words are at p: its count goes up first; what is no lookup is an update.
 fn operation_step(words: &mut [u64], x: u64, w: usize, p: usize, kind: u64) -> Stepped

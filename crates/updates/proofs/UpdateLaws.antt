@@ -1,6 +1,6 @@
 -- Laws of a step of an update: the phases of its plan, and each case of a check. Rests on the definition of such a step, and on the
 -- machine's plan.
-use Prim.Native.Nat.{ℕ, zero, suc, _+_, _-_, _*_, _≤_, _<_}
+use Prim.Native.Nat.{ℕ, zero, suc, _+_, _-_, _*_, _≤_, _<_, _%_}
 use native.Mathlib.Omega.{arith}
 use mathlib.Core.Path.{_≡_, refl, sym, _∙_, ap, subst}
 use mathlib.Core.Logic.{_≢_}
@@ -9,26 +9,28 @@ use mathlib.Core.List.{List, [], _∷_, _++_}
 use mathlib.Core.Option.{none, some}
 use lib.Dec.{leb}
 use lib.ListN.{length, getD, set}
-use borrow.Author.Tests.{le-leb, lt-leb}
-use Rattle.interface.specs.Numbers.{kindNone, answerNumber}
+use borrow.Author.Tests.{le-leb, lt-leb, eq-eqb, ne-eqb}
+use Rattle.interface.specs.Numbers.{kindNone, answerNumber, kindLookup}
 use Rattle.interface.specs.declared.Settings.{Settings}
 use Rattle.interface.specs.declared.Answer.{Answer}
 use Rattle.interface.specs.declared.Answer.the-variants.{None, Crowded}
 use Rattle.interface.specs.declared.Stepped.{Stepped}
-use Rattle.fields.specs.Fields.{workerKind, workerTicket, workerSteps, widestRecord}
+use Rattle.fields.specs.Fields.{workerKind, workerTicket, workerSteps, widestRecord, stepsRange}
 use Rattle.machine.specs.Choice.{if_then_else_}
 use Rattle.machine.specs.Plan.{Phase, announce, readDirectory, flipToggle, readState, readToggle, swapState, checkState, copyDirectory, swapDirectory, readSlot, resizeFor, each, bucketRound, bucketPass, check, directoryRound, directoryPass, pass, plan, phase}
 use Rattle.machine.proofs.laws.Base.{if-true, if-false}
-use Rattle.engine.specs.declared.phase.Phase as Code
+use Rattle.phases.specs.declared.Phase as Code
 use Rattle.layout.specs.Shape.{word, Fits}
 use Rattle.layout.specs.Addresses.{heldBy}
 use Rattle.record.specs.Bucket.{crowdedAt, settledTicket, settledAnswer}
 use Rattle.engine.specs.Engine.{checkedAt}
 use Rattle.rules.specs.Rules.{answerOf}
-use Rattle.engine.specs.Phases.{planned}
-use Rattle.engine.proofs.Phases.{bucket-round, pass-bucket, plan-pass}
-use Rattle.updates.specs.Updates.{endedAt, checkAt, numbered, updateAt}
+use Rattle.phases.specs.Phases.{planned}
+use Rattle.phases.proofs.Plans.{bucket-round, pass-bucket, plan-pass}
+use Rattle.calls.specs.Calls.{endedAt}
+use Rattle.updates.specs.Updates.{checkAt, numbered, updateAt, operationAt}
 use Rattle.layout.proofs.Positions.{held-inside}
+use Rattle.lookups.specs.Lookups.{lookupAt}
 
 -- ---- the workers that a phase names are below n
 
@@ -154,3 +156,17 @@ module _ (l : List ℕ) (s : Settings) (p q w k t u : ℕ) (ticket : t ≡ word 
 
 pub held-room : {l : List ℕ} {s : Settings} (q p : ℕ) → Fits l s → q ≡ heldBy l p → q + widestRecord ≤ length l
 held-room q p f e = rw e (held-inside f p)
+
+-- ---- an operation's step
+
+module _ (l m : List ℕ) (s : Settings) (p w k x : ℕ) (r : List ℕ × Stepped) (kind : x ≡ word l (p + workerKind))
+    (steps : k ≡ word l (p + workerSteps) % stepsRange) (put : m ≡ set l (p + workerSteps) (k + 1)) where
+  pub operation-lookup : x ≡ kindLookup → r ≡ lookupAt m s p k → r ≡ operationAt l s p w (word l (p + workerSteps) % stepsRange)
+  unfolding operationAt
+  operation-lookup e h = h ∙ rw (← steps, ← put) (sym (if-true _ _ (eq-eqb _ _ (sym kind ∙ e))))
+
+  pub operation-update :
+      x ≢ kindLookup → r ≡ updateAt m s p w k (phase (s .workers) k)
+      → r ≡ operationAt l s p w (word l (p + workerSteps) % stepsRange)
+  unfolding operationAt
+  operation-update e h = h ∙ rw (← steps, ← put) (sym (if-false _ _ (ne-eqb _ _ (λ z. e (kind ∙ z)))))

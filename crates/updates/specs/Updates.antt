@@ -3,25 +3,24 @@
 use Prim.Native.Nat.{ℕ, zero, suc, _+_, _-_}
 use mathlib.Core.List.{List}
 use mathlib.Core.Option.{Option, none, some}
-use lib.ListN.{set}
-use Rattle.interface.specs.Numbers.{kindNone}
 use Rattle.interface.specs.declared.Settings.{Settings}
-use Rattle.interface.specs.declared.Answer.{Answer}
 use Rattle.interface.specs.declared.Stepped.{Stepped}
 use Rattle.machine.specs.Plan.{Phase, announce, readDirectory, flipToggle, readState, readToggle, swapState, checkState, copyDirectory, swapDirectory, readSlot, resizeFor, phase}
-use Rattle.fields.specs.Fields.{workerKind, workerSteps}
 use Rattle.fields.specs.Regions.{workerAt}
 use Rattle.rules.specs.Rules.{answerOf}
-use Rattle.layout.specs.Addresses.{heldBy}
-use Rattle.engine.specs.Engine.{announcedAt, slotReadAt, bucketReadAt, flippedAt, stateReadAt, toggleReadAt, directoryReadAt, swappedAt, stateStepAt, checkedAt}
+use Rattle.layout.specs.Addresses.{heldBy, bucketReadAt}
+use Rattle.engine.specs.Engine.{announcedAt, slotReadAt, flippedAt, stateReadAt, toggleReadAt, directoryReadAt, swappedAt, stateStepAt, checkedAt}
 use Rattle.splits.specs.Splits.{redirectedAt}
+use Rattle.calls.specs.Calls.{endedAt}
+use lib.Dec.{eqb}
+use lib.ListN.{set}
+use Rattle.interface.specs.Numbers.{kindLookup}
+use Rattle.machine.specs.Choice.{if_then_else_}
+use Rattle.fields.specs.Fields.{workerKind, workerSteps}
+use Rattle.layout.specs.Shape.{word}
+use Rattle.lookups.specs.Lookups.{lookupAt}
 
 -- ---- one step
-
--- the operation of the worker at p ended, after k own steps before this one
-unfoldable pub endedAt : List ℕ → ℕ → ℕ → Answer → List ℕ × Stepped
-endedAt l p k a =
-    (set (set l (p + workerKind) kindNone) (p + workerSteps) 0, Stepped.Answered (record { answer = a; steps = k + 1 }))
 
 unfoldable pub checkAt : List ℕ → ℕ → ℕ → Option ℕ → List ℕ × Stepped
 checkAt l p k none = (l, Stepped.Moved)
@@ -53,3 +52,11 @@ updateStep l s w k = updateAt l s (workerAt (s .workers) w) w k (phase (s .worke
 
 abbrev pub checkStep : List ℕ → Settings → ℕ → ℕ → List ℕ × Stepped
 checkStep l s w k = updateAt l s (workerAt (s .workers) w) w k checkState
+
+-- ---- one step
+
+-- an operation's step after k own steps; its count goes up first; what is no lookup is an update
+unfoldable pub operationAt : List ℕ → Settings → ℕ → ℕ → ℕ → List ℕ × Stepped
+operationAt l s p w k =
+    let l′ : List ℕ = set l (p + workerSteps) (k + 1) in
+    if eqb (word l (p + workerKind)) kindLookup then lookupAt l′ s p k else updateAt l′ s p w k (phase (s .workers) k)

@@ -6,9 +6,8 @@ ghost use Prim.Native.Nat.{_+_, _*_, _≤_, _<_};
 ghost use Rattle.interface.specs.declared.Stepped.{Stepped};
 ghost use Rattle.layout.specs.Shape.{settingsOf, Fits};
 ghost use Rattle.updates.specs.Updates.{updateStep};
-use engine::phase::reduce;
-use engine::steps;
 use layout::shape::settings_of;
+use phases::reduce;
 
 // A step of the two rounds of worker w's first bucket pass, after k own steps. x is the first word, which keeps the
 // settings: one word is passed in a register.
@@ -20,18 +19,18 @@ fn round_step(words: &mut [u64], x: u64, w: usize, k: usize)
     let n = settings_of(x).workers as usize;
     let j = reduce(k - 3, n + 3);
     if j < 1 {
-        steps::read_state(words, settings_of(x), w);
+        engine::read_state(words, settings_of(x), w);
         return;
     }
     if j < 2 {
-        steps::read_toggle(words, settings_of(x), w);
+        engine::read_toggle(words, settings_of(x), w);
         return;
     }
     if j < n + 2 {
-        steps::read_slot(words, settings_of(x), w, j - 2);
+        engine::read_slot(words, settings_of(x), w, j - 2);
         return;
     }
-    steps::swap(words, settings_of(x), w);
+    engine::swap(words, settings_of(x), w);
 }
 
 // A step before the first check, after k own steps.
@@ -41,9 +40,9 @@ pub fn early_step(words: &mut [u64], x: u64, w: usize, k: usize)
     ensures { λ _. ⌜ (now (words .exit), Stepped.Moved) ≡ updateStep (now (words .entry)) (settingsOf x) w k ⌝ }
 {
     match k {
-        0 => steps::announce(words, settings_of(x), w),
-        1 => steps::read_directory(words, settings_of(x), w),
-        2 => steps::flip(words, settings_of(x), w),
+        0 => engine::announce(words, settings_of(x), w),
+        1 => engine::read_directory(words, settings_of(x), w),
+        2 => engine::flip(words, settings_of(x), w),
         _ => round_step(words, x, w, k),
     }
 }

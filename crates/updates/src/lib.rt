@@ -1,19 +1,13 @@
-// A step of an update: the step that its plan names, the check, and the end of an operation.
+// A step of an update: the step that its plan names, and the check.
 ghost use mathlib.Core.Path.{_≡_};
-ghost use Prim.Native.Nat.{ℕ, _+_, _≤_, _<_};
-ghost use lib.ListN.{length, set};
-ghost use Rattle.interface.specs.Numbers.{kindNone};
-ghost use Rattle.fields.specs.Fields.{workerKind, workerSteps, stepsRange, workerSlots};
+ghost use Prim.Native.Nat.{ℕ, _+_, _<_};
+ghost use Rattle.fields.specs.Fields.{stepsRange};
 ghost use Rattle.rules.specs.Rules.{answerOf};
 ghost use Rattle.layout.specs.Shape.{settingsOf, Fits};
 ghost use Rattle.updates.specs.Updates.{numbered, checkStep, updateStep};
-use engine::phase::Phase;
-use engine::phase::phase_of;
-use engine::steps;
+use calls::finish;
 use fields::RECORD_COUNT;
 use fields::RECORD_DEPTH;
-use fields::WORKER_KIND;
-use fields::WORKER_STEPS;
 use fields::WORKER_TICKET;
 use interface::ANSWER_ABSENT;
 use interface::ANSWER_ADDED;
@@ -22,12 +16,12 @@ use interface::ANSWER_NONE;
 use interface::ANSWER_REMOVED;
 use interface::ANSWER_REPLACED;
 use interface::Answer;
-use interface::Completion;
-use interface::KIND_NONE;
 use interface::Settings;
 use layout::addresses::held_by;
 use layout::addresses::worker_at;
 use layout::shape::settings_of;
+use phases::Phase;
+use phases::phase_of;
 use record::settled_answer;
 use record::settled_ticket;
 use rules::crowded;
@@ -50,27 +44,6 @@ pub fn answer_of(x: u64) -> Answer
         ANSWER_CROWDED => Answer::Crowded,
         _ => Answer::None,
     }
-}
-
-// An answer, with the own steps of its operation: k before this one.
-pub fn completed(answer: Answer, k: u64) -> Completion
-    requires { ⌜ k < stepsRange ⌝ }
-    ensures { λ r. ⌜ r ≡ record { answer = answer; steps = k + 1 } ⌝ }
-{
-    Completion {
-        answer,
-        steps: k + 1,
-    }
-}
-
-// The operation of the worker whose words are at p is over.
-pub fn finish(words: &mut [u64], p: usize)
-    requires { ⌜ p + workerSlots ≤ length (now words) ⌝ }
-    ensures { λ _. ⌜ now (words .exit)
-        ≡ set (set (now (words .entry)) (p + workerKind) kindNone) (p + workerSteps) 0 ⌝ }
-{
-    memory::put(words, p + WORKER_KIND, KIND_NONE);
-    memory::put(words, p + WORKER_STEPS, 0);
 }
 
 // The second step of a check: the answer's number where the operation is over. A stored 0 is no answer's number; it
@@ -101,16 +74,16 @@ pub fn update_step(words: &mut [u64], x: u64, w: usize, k: u64) -> u64
 {
     let g = settings_of(x);
     match phase_of(k as usize, g.workers as usize) {
-        Phase::Announce => steps::announce(words, g, w),
-        Phase::ReadDirectory => steps::read_directory(words, g, w),
-        Phase::Flip => steps::flip(words, g, w),
-        Phase::ReadState => steps::read_state(words, g, w),
-        Phase::ReadToggle => steps::read_toggle(words, g, w),
-        Phase::ReadSlot(j) => steps::read_slot(words, g, w, j),
-        Phase::Swap => steps::swap(words, g, w),
+        Phase::Announce => engine::announce(words, g, w),
+        Phase::ReadDirectory => engine::read_directory(words, g, w),
+        Phase::Flip => engine::flip(words, g, w),
+        Phase::ReadState => engine::read_state(words, g, w),
+        Phase::ReadToggle => engine::read_toggle(words, g, w),
+        Phase::ReadSlot(j) => engine::read_slot(words, g, w, j),
+        Phase::Swap => engine::swap(words, g, w),
         Phase::Check => return check(words, g, w),
-        Phase::CopyDirectory => steps::copy_directory(words, g, w),
-        Phase::StateStep(j) => steps::state_step(words, g, w, j),
+        Phase::CopyDirectory => engine::copy_directory(words, g, w),
+        Phase::StateStep(j) => engine::state_step(words, g, w, j),
         Phase::SwapDirectory => swap_directory(words, g, w),
     }
     GOES_ON

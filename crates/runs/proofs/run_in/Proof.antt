@@ -11,7 +11,7 @@ use Rattle.fields.specs.Fields.{stepsRange}
 use Rattle.fields.specs.Regions.{workerAt}
 use Rattle.layout.specs.Shape.{settingsOf, Fits}
 use Rattle.layout.proofs.Positions.{Placed, placed, fits-kept}
-use Rattle.turns.proofs.TurnLaws.{operation-lookup, operation-update}
+use Rattle.updates.proofs.UpdateLaws.{operation-lookup, operation-update}
 use Rattle.updates.proofs.UpdateLaws.{numbered-stored}
 use Rattle.runs.proofs.RunLaws.{run-start, run-end, run-idle, run-moved, run-answered, run-refused}
 use Rattle.updates.specs.Updates.{numbered}

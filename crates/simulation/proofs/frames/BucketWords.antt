@@ -23,10 +23,12 @@ use Rattle.bucket.specs.declared.BucketState.{BucketState}
 use Rattle.rules.specs.declared.Descriptor.{Descriptor}
 use Rattle.arrays.specs.declared.Position.{Position}
 use Rattle.arrays.specs.declared.Position.the-variants.{At, Before}
-use Rattle.bucket.specs.State.{arraySize, sizeOf, searchOf, putOf, removeOf, settleOf, carryOf, helpOf, helpedOf, withApplied, roundOf}
+use Rattle.bucket.specs.State.{arraySize, sizeOf, searchOf, putOf, removeOf, settleOf}
+use Rattle.rounds.specs.Rounds.{carryOf, helpOf, helpedOf, withApplied, roundOf}
 use Rattle.rules.specs.Rules.{bit}
 use Rattle.simulation.specs.Buckets.{itemsOf, settledOf, bitsOf, slotOf, SoundSlots, Means}
-use Rattle.bucket.proofs.Laws.{size-is, help-left}
+use Rattle.bucket.proofs.Laws.{size-is}
+use Rattle.rounds.proofs.Laws.{help-left}
 use Rattle.rules.proofs.Laws.{room-left, pending-same}
 use Rattle.simulation.proofs.buckets.Ties.{round-means}
 use Rattle.lists.specs.Parts.{part}

@@ -39,7 +39,9 @@ use Rattle.simulation.specs.Buckets.{updateFrom, slotFrom}
 use Rattle.fields.proofs.Regions.{record-inside, record-starts-apart}
 use Rattle.layout.specs.Shape.{word}
 use Rattle.layout.specs.Addresses.{recordIn, recordOf, heldBy}
-use Rattle.turns.specs.Turns.{stepIn, operationAt, lookupAt}
+use Rattle.turns.specs.Turns.{stepIn}
+use Rattle.updates.specs.Updates.{operationAt}
+use Rattle.lookups.specs.Lookups.{lookupAt}
 use Rattle.updates.specs.Updates.{updateAt}
 use Rattle.simulation.specs.Meaning.{at, operationIn, Directs, Refers, Meaning}
 use Rattle.simulation.proofs.frames.Frames.{at-here, at-beside, worker-wide, OwnWords, set-inside}

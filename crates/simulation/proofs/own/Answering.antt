@@ -47,7 +47,7 @@ use Rattle.record.proofs.States.{loaded-count}
 use Rattle.layout.specs.Shape.{word}
 use Rattle.record.specs.Bucket.{bucketAt, holdsBackAt, splittableAt, crowdedAt, settledTicket, settledAnswer}
 use Rattle.engine.specs.Engine.{checkedAt}
-use Rattle.turns.specs.Turns.{foundAt, lookedAt}
+use Rattle.lookups.specs.Lookups.{foundAt, lookedAt}
 use Rattle.simulation.specs.Meaning.{at, Keeps}
 
 -- ---- a lookup

@@ -31,8 +31,10 @@ use Rattle.fields.specs.Regions.{startOf, worker}
 use Rattle.layout.specs.Shape.{word}
 use Rattle.layout.specs.Addresses.{heldBy}
 use Rattle.engine.specs.Engine.{checkedAt}
-use Rattle.turns.specs.Turns.{stepIn, lookupAt, lookedAt}
-use Rattle.updates.specs.Updates.{updateAt, endedAt, checkAt}
+use Rattle.turns.specs.Turns.{stepIn}
+use Rattle.lookups.specs.Lookups.{lookupAt, lookedAt}
+use Rattle.updates.specs.Updates.{updateAt, checkAt}
+use Rattle.calls.specs.Calls.{endedAt}
 use Rattle.simulation.specs.Meaning.{at, operationIn}
 use Rattle.simulation.proofs.frames.Entering.{raised, counter-is, is-about, lookup-enters}
 use Rattle.simulation.proofs.own.Answering.{answered, looked-is, checked-is}

@@ -32,10 +32,11 @@ use Rattle.fields.specs.Regions.{slotAt, slotRead, readAt, record′, startOf, 
 use Rattle.lists.proofs.PartLaws.{length-part, getD-part}
 use Rattle.fields.proofs.Regions.{region-inside}
 use Rattle.layout.specs.Shape.{word}
-use Rattle.layout.specs.Addresses.{recordOf, heldBy}
-use Rattle.engine.specs.Engine.{bucketReadAt, stateReadAt, toggleReadAt, slotReadAt, directoryReadAt, swappedAt}
+use Rattle.layout.specs.Addresses.{recordOf, heldBy, bucketReadAt}
+use Rattle.engine.specs.Engine.{stateReadAt, toggleReadAt, slotReadAt, directoryReadAt, swappedAt}
 use Rattle.splits.specs.Splits.{redirectedAt}
-use Rattle.turns.specs.Turns.{stepIn, lookupAt}
+use Rattle.turns.specs.Turns.{stepIn}
+use Rattle.lookups.specs.Lookups.{lookupAt}
 use Rattle.updates.specs.Updates.{updateAt}
 use Rattle.simulation.specs.Meaning.{at, slotIn, nameIn, Directs, Refers, Live, current, HasState, HasDirectory}
 use Rattle.simulation.proofs.frames.Entering.{raised, counter-is, directed-record, refers-once, is-about, lookup-enters}

@@ -31,7 +31,8 @@ use Rattle.fields.specs.Regions.{workerAt, startOf}
 use Rattle.rules.specs.Rules.{descriptorIn}
 use Rattle.memory.specs.Words.{least}
 use Rattle.layout.specs.Shape.{word}
-use Rattle.turns.specs.Turns.{operationAt, stepIn, stepWords}
+use Rattle.updates.specs.Updates.{operationAt}
+use Rattle.turns.specs.Turns.{stepIn, stepWords}
 use Rattle.runs.specs.Runs.{lastOf, orElse, runIn, longestRun, runWords}
 use Rattle.simulation.specs.Runs.{goesOn, iterated, checkedOnly, bySteps}
 use Rattle.simulation.proofs.frames.Entering.{is-idle, is-busy, idle-enters}

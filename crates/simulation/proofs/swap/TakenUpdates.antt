@@ -26,7 +26,7 @@ use Rattle.machine.specs.Tasks.{leaf, IsMade}
 use Rattle.bucket.specs.declared.BucketState.{BucketState}
 use Rattle.rules.specs.declared.Descriptor.{Descriptor}
 use Rattle.rules.specs.Rules.{bit, descriptorIn}
-use Rattle.bucket.specs.State.{carryOf}
+use Rattle.rounds.specs.Rounds.{carryOf}
 use Rattle.simulation.specs.Buckets.{bitsOf, slotFrom, Means}
 use Rattle.rules.proofs.Laws.{room-left}
 use Rattle.simulation.proofs.buckets.Ties.{carry-means}

@@ -6,7 +6,7 @@ use mathlib.Core.Path.{ap}
 use Rattle.interface.specs.declared.Settings.{Settings}
 use Rattle.fields.specs.Fields.{stepsRange}
 use Rattle.layout.proofs.Positions.{placed}
-use Rattle.turns.proofs.TurnLaws.{operation-lookup, operation-update}
+use Rattle.updates.proofs.UpdateLaws.{operation-lookup, operation-update}
 use borrow.Author.Needs.{needs}
 use Rattle.turns.proofs.operation_step.Statement.{statement}
 use Rattle.turns.proofs.operation_step.Tie as tie

@@ -4,8 +4,8 @@ use mathlib.Core.Path.{ap}
 use mathlib.Core.List.{List}
 use Prim.Native.Nat.{ℕ}
 use Rattle.interface.specs.declared.Stepped.{Stepped}
-use Rattle.engine.specs.declared.phase.Phase as Code
-use Rattle.engine.specs.Phases.{planned}
+use Rattle.phases.specs.declared.Phase as Code
+use Rattle.phases.specs.Phases.{planned}
 use Rattle.updates.specs.Updates.{updateAt, numbered}
 use Rattle.updates.proofs.UpdateLaws.{slot-below, state-below, updated}
 use borrow.Author.Needs.{needs}

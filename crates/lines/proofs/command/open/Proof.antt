@@ -5,7 +5,7 @@ use mathlib.Core.Option.{some}
 use borrow.Author.Needs.{needs}
 use Rattle.lines.specs.declared.command.Command.the-variants.{Open}
 use Rattle.lines.specs.Grammar.{smallOf, with3}
-use Rattle.lines.proofs.Numerals.{number-none, number-some}
+use Rattle.numerals.proofs.NumeralLaws.{number-none, number-some}
 use Rattle.lines.proofs.Pairs.{pair-some, unread3}
 use Rattle.lines.proofs.command.open.Statement.{statement}
 use Rattle.lines.proofs.command.open.Tie as tie

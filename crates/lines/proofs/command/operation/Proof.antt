@@ -10,7 +10,7 @@ use borrow.Author.Needs.{needs}
 use Rattle.interface.specs.Numbers.{kindDelete, kindLookup}
 use Rattle.machine.specs.Choice.{if_then_else_}
 use Rattle.lines.specs.Grammar.{greatestAccount, smallOf, accountOf, totalOf, with2, with3, operationCommand}
-use Rattle.lines.proofs.Numerals.{signed-none, signed-some, limited}
+use Rattle.numerals.proofs.NumeralLaws.{signed-none, signed-some, limited}
 use Rattle.lines.proofs.Pairs.{pair-some, no-operation}
 use Rattle.lines.proofs.command.operation.Statement.{statement}
 use Rattle.lines.proofs.command.operation.Tie as tie

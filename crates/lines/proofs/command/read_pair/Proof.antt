@@ -3,9 +3,9 @@
 use mathlib.Core.Path.{_≡_, sym, _∙_}
 use mathlib.Core.Option.{some}
 use borrow.Author.Needs.{needs}
-use Rattle.lines.specs.Numerals.{asPair}
+use Rattle.numerals.specs.Numerals.{asPair}
 use Rattle.lines.specs.Grammar.{smallOf}
-use Rattle.lines.proofs.Numerals.{number-none, number-some}
+use Rattle.numerals.proofs.NumeralLaws.{number-none, number-some}
 use Rattle.lines.proofs.command.read_pair.Statement.{statement}
 use Rattle.lines.proofs.command.read_pair.Tie as tie
 

@@ -6,7 +6,7 @@ use borrow.Author.Tests.{le-leb, lt-leb}
 use borrow.Author.Needs.{needs}
 use Rattle.machine.specs.Choice.{if_then_else_}
 use Rattle.lines.specs.declared.command.Command.the-variants.{Steps}
-use Rattle.lines.specs.Numerals.{numeral, upTo, from}
+use Rattle.numerals.specs.Numerals.{numeral, upTo, from}
 use Rattle.lines.specs.Grammar.{leastSteps, greatestSteps, smallOf, stepsOf, with2}
 use Rattle.lines.proofs.Pairs.{pair-some, unread2}
 use Rattle.lines.proofs.command.steps.Statement.{statement}

@@ -6,7 +6,7 @@ use mathlib.Core.List.{List}
 use Prim.Native.Nat.{ℕ}
 use Rattle.interface.specs.declared.Stepped.{Stepped}
 use Rattle.machine.specs.Plan.{announce, readDirectory, flipToggle, phase}
-use Rattle.engine.proofs.Phases.{plan-announce}
+use Rattle.phases.proofs.Plans.{plan-announce}
 use Rattle.updates.specs.Updates.{updateAt}
 use Rattle.updates.proofs.UpdateLaws.{early-directory, early-flip, at-phase}
 use borrow.Author.Needs.{needs}

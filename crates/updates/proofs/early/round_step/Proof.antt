@@ -7,7 +7,7 @@ use Prim.Native.Nat.{ℕ}
 use Rattle.interface.specs.declared.Settings.{Settings}
 use Rattle.interface.specs.declared.Stepped.{Stepped}
 use Rattle.machine.specs.Plan.{readState, readToggle, readSlot, swapState}
-use Rattle.engine.proofs.Phases.{reduced-below, bucket-state, bucket-toggle, bucket-slot, bucket-swap}
+use Rattle.phases.proofs.Plans.{reduced-below, bucket-state, bucket-toggle, bucket-slot, bucket-swap}
 use Rattle.updates.specs.Updates.{updateAt}
 use Rattle.updates.proofs.UpdateLaws.{early-round, at-phase}
 use borrow.Author.Needs.{needs}

@@ -1,0 +1,42 @@
+-- What does not fit into a returned number, in a report: words at its start, an operation's end, and its number. Rests on
+-- document 01's numbers.
+use Prim.Native.Nat.{ℕ, _+_}
+use mathlib.Core.List.{List, [], _∷_}
+use lib.Dec.{leb}
+use lib.ListN.{length}
+use mir.Syntax.{w64}
+use mir.Val.{ofZ}
+use Rattle.interface.specs.Numbers.{answerNumber}
+use Rattle.interface.specs.declared.Answer.{Answer}
+use Rattle.interface.specs.declared.Completion.{Completion}
+use Rattle.machine.specs.Choice.{if_then_else_}
+use Rattle.lists.specs.Parts.{overlay}
+
+-- ---- numbers
+
+-- past every refusal's number
+abbrev pub answerBase : ℕ
+answerBase = 16
+
+unfoldable pub endedNumber : Completion → ℕ
+endedNumber c = answerBase + answerNumber (c .answer)
+
+-- ---- reports
+
+-- a report with xs at its start, if they fit; else the report as it is
+unfoldable pub told : List ℕ → List ℕ → List ℕ
+told report xs = if leb (length xs) (length report) then overlay report 0 xs else report
+
+-- the total found, as a word of two's complement; 0 where the answer has none
+unfoldable pub totalWord : Answer → ℕ
+totalWord Answer.Added = 0
+totalWord Answer.Replaced = 0
+totalWord Answer.Removed = 0
+totalWord Answer.Absent = 0
+totalWord (Answer.Found total) = ofZ w64 total
+totalWord Answer.None = 0
+totalWord Answer.Crowded = 0
+
+-- an operation's end: its steps, and the total found
+unfoldable pub endedReport : List ℕ → Completion → List ℕ
+endedReport report c = told report (c .steps ∷ totalWord (c .answer) ∷ [])

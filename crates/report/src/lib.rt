@@ -1,0 +1,54 @@
+// What does not fit into a returned number: words told at the start of a report, and an operation's end.
+ghost use mathlib.Core.Path.{_≡_};
+ghost use mathlib.Core.List.{[], _∷_};
+ghost use Rattle.report.specs.Report.{endedNumber, told, totalWord, endedReport};
+use interface::Answer;
+use interface::Completion;
+
+// Answers are this and their number, past every refusal's.
+const ANSWER_BASE: u64 = 16;
+
+// A word at the start of a report that has room for it.
+pub fn tell_one(report: &mut [u64], first: u64)
+    ensures { λ _. ⌜ now (report .exit) ≡ told (now (report .entry)) (first ∷ []) ⌝ }
+{
+    if report.len() < 1 {
+        return;
+    }
+    report[0] = first;
+}
+
+// Two words at the start of a report that has room for both.
+pub fn tell(report: &mut [u64], first: u64, second: u64)
+    ensures { λ _. ⌜ now (report .exit) ≡ told (now (report .entry)) (first ∷ second ∷ []) ⌝ }
+{
+    if report.len() < 2 {
+        return;
+    }
+    report[0] = first;
+    report[1] = second;
+}
+
+// The total found, as a word; 0 where the answer has none.
+fn total_word(answer: Answer) -> u64
+    ensures { λ r. ⌜ r ≡ totalWord answer ⌝ }
+{
+    match answer {
+        Answer::Added => 0,
+        Answer::Replaced => 0,
+        Answer::Removed => 0,
+        Answer::Absent => 0,
+        Answer::Found(total) => memory::word_of(total),
+        Answer::None => 0,
+        Answer::Crowded => 0,
+    }
+}
+
+// An operation's end: its number, and its steps and total in the report.
+pub fn ended(report: &mut [u64], c: Completion) -> u64
+    ensures { λ r. ⌜ (now (report .exit) ≡ endedReport (now (report .entry)) c) × (r ≡ endedNumber c) ⌝ }
+{
+    let answer = c.answer;
+    tell(report, c.steps, total_word(answer));
+    ANSWER_BASE + answer.number()
+}

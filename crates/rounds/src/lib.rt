@@ -1,0 +1,106 @@
+// What the two passes do with a bucket's state: one worker's update carried out, a whole round, and a half of a split. Each
+// contract is an equality with a definition of specs/, for any values.
+ghost use mathlib.Core.Path.{_≡_};
+ghost use lib.ListN.{length, getD};
+ghost use Rattle.bucket.specs.State.{arraySize};
+ghost use Rattle.rounds.specs.Rounds.{carryOf, roundOf, halfOf};
+use bucket::ARRAY_SIZE;
+use bucket::BucketState;
+use fields::SLOT_SIZE;
+use fields::SLOT_TICKET;
+use interface::ANSWER_ABSENT;
+use interface::ANSWER_ADDED;
+use interface::ANSWER_REMOVED;
+use interface::ANSWER_REPLACED;
+use interface::KIND_INSERT;
+use interface::Settings;
+use rules::Descriptor;
+use rules::answer_number;
+use rules::descriptor_at;
+use rules::first_bits;
+use rules::holds_back;
+use rules::pending;
+
+// What stands at position j of an array, and 0 past the end.
+fn at(a: &[u64; ARRAY_SIZE], j: usize) -> u64
+    requires { ⌜ length (now a) ≡ arraySize ⌝ }
+    ensures { λ r. ⌜ r ≡ getD (now (a .entry)) j 0 ⌝ }
+{
+    if j < ARRAY_SIZE { a[j] } else { 0 }
+}
+
+// Worker j's update carried out; any kind but an insert's is a delete.
+pub fn carry(state: BucketState, j: usize, u: Descriptor) -> BucketState
+    ensures { λ r. ⌜ r ≡ carryOf state j u ⌝ }
+{
+    let p = state.search(u.account);
+    if u.kind == KIND_INSERT {
+        state.put(p, u.account, u.total).settle(
+            j,
+            u.ticket,
+            answer_number(p, ANSWER_REPLACED, ANSWER_ADDED),
+        )
+    } else {
+        state.remove(p).settle(j, u.ticket, answer_number(p, ANSWER_REMOVED, ANSWER_ABSENT))
+    }
+}
+
+// A whole round in a bucket of this depth, with the slots that were read; then the applied bits become the toggle.
+// A slot that is not there has ticket 0, so that its worker needs no help.
+pub fn round(state: BucketState, slots: &[u64], s: Settings, depth: u64, toggle: u64) -> BucketState
+    ensures { λ r. ⌜ r ≡ roundOf state (now (slots .entry)) s depth toggle ⌝ }
+{
+    let n = s.workers as usize;
+    let mut m = slots.len() / SLOT_SIZE;
+    if n < m {
+        m = n;
+    }
+    let settled = state.settled;
+    let mut x = state;
+    let mut j: usize = 0;
+    while j < m {
+        let first = SLOT_SIZE * j;
+        let ticket = slots[first + SLOT_TICKET];
+        let last = at(&settled, j);
+        if pending(toggle, x.applied, j, last, ticket) {
+            if !holds_back(s, depth, x.count) {
+                x = carry(x, j, descriptor_at(slots, first));
+            }
+        }
+        j += 1;
+    }
+    x.applied = toggle;
+    x
+}
+
+// The half of a split whose accounts have the first d bits q.
+pub fn half(state: BucketState, d: u64, q: u64) -> BucketState
+    ensures { λ r. ⌜ r ≡ halfOf state d q ⌝ }
+{
+    let old_accounts = state.accounts;
+    let old_totals = state.totals;
+    let settled = state.settled;
+    let answers = state.answers;
+    let n = state.size();
+    let mut accounts = [0u64; ARRAY_SIZE];
+    let mut totals = [0u64; ARRAY_SIZE];
+    let mut kept: usize = 0;
+    let mut i = 0;
+    while i < n {
+        let a = old_accounts[i];
+        if first_bits(d, a) == q {
+            accounts[kept] = a;
+            totals[kept] = old_totals[i];
+            kept += 1;
+        }
+        i += 1;
+    }
+    BucketState {
+        accounts,
+        totals,
+        settled,
+        answers,
+        count: kept as u64,
+        applied: 0,
+    }
+}
