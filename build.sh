@@ -1,15 +1,19 @@
 #!/usr/bin/env bash
 # Builds the static library, the C example linked with it, and the Rust crate with its example, and says what it built.
-# It needs the Rattle toolchain (rt), a C compiler and cargo, and no network.
+# It needs the Rattle toolchain (rt), a C compiler and cargo, and no network. The library is proved first, which takes
+# minutes where `rt check` has not been run.
 set -eu
 cd "$(dirname "$0")"
+for tool in rt cc cargo; do
+  command -v "$tool" >/dev/null || { echo "build.sh needs $tool, which is not there" >&2 && exit 1; }
+done
 log=$(mktemp)
 trap 'rm -f "$log"' EXIT
 
 # quiet COMMAND...: shows what a command said only where it failed
 quiet() { "$@" >"$log" 2>&1 || { cat "$log" >&2 && exit 1; }; }
 
-quiet rt staticlib capi
+quiet tests/built.sh capi
 mkdir -p target/examples
 quiet cc -std=c99 -O2 -Wall -Wextra -pedantic -Iinclude examples/c/dispatcher.c target/staticlib/libcapi.a \
   -o target/examples/dispatcher

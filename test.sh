@@ -1,51 +1,83 @@
 #!/usr/bin/env bash
-# All tests: the layout of the Rattle files, the proofs with their must-fail edits (rt ci), the second model's tests,
-# the program and the interfaces for C and Rust against the model, foreign memory, and the compiled library against its
-# source as Rust. The last line is 'N passed, M failed'; the exit status is 0 only if M is 0.
+# All tests: the layout of the Rattle files; the proofs with their must-fail edits (rt ci), and beside them what needs
+# no proof, the second model's tests and those of the table's source made Rust; then, two at a time, the program and the
+# interfaces for C and Rust against the model, foreign memory, and the compiled libraries against their source as Rust.
+# What runs beside something else is shown when it has ended. Where RT_JOBS is set, rt proves that many at a time.
+# The last line is 'N passed, M failed'; the exit status is 0 only if M is 0.
 set -u
 cd "$(dirname "$0")" || exit 2
-log=$(mktemp) || exit 2
-trap 'rm -f "$log"' EXIT
+logs=$(mktemp -d) || exit 2
+trap 'kill $(jobs -p) 2>/dev/null; rm -rf "$logs"' EXIT
 passed=0
 failed=0
 
-# adds the counts of every line of the log that matches the sed expression; a failed run without a count is one failure
+# run NAME COMMAND...: keeps what the command says, and its status
+run() {
+  local name=$1
+  shift
+  "$@" >"$logs/$name" 2>&1
+  echo $? >"$logs/$name.status"
+}
+
+# count NAME: adds the counts that the command printed, its own or those of cargo; a run that failed, or printed no
+# count, is one failure at least
 count() {
-  local status=$1 expression=$2 p=0 f=0 lines
-  lines=$(sed -nE "$expression" "$log")
+  local lines a b p=0 f=0 log=$logs/$1
+  lines=$(sed -nE 's/^([0-9]+) passed, ([0-9]+) failed$/\1 \2/p' "$log")
+  [ -n "$lines" ] ||
+    lines=$(sed -nE 's/^test result: .* ([0-9]+) passed; ([0-9]+) failed;.*$/\1 \2/p' "$log")
   while read -r a b; do
-    [ -n "$a" ] && p=$((p + a)) && f=$((f + b))
+    p=$((p + ${a:-0}))
+    f=$((f + ${b:-0}))
   done <<<"$lines"
-  [ "$status" -eq 0 ] || [ "$f" -gt 0 ] || f=1
-  [ -n "$lines" ] || [ "$f" -gt 0 ] || f=1
+  [ "$f" -gt 0 ] || { [ "$(cat "$log.status")" -eq 0 ] && [ -n "$lines" ]; } || f=1
   passed=$((passed + p))
   failed=$((failed + f))
+}
+
+# show NAME...: what each command said, and its counts
+show() {
+  local name
+  for name; do
+    echo "== $name"
+    cat "$logs/$name"
+    count "$name"
+  done
+}
+
+crate() { cargo test --release --offline --no-fail-fast --manifest-path "$1/Cargo.toml"; }
+
+benchmark() { tests/built.sh capi leaves && crate bench; }
+
+# what needs no proof
+beside_proofs() {
+  run second-model crate model
+  run source-as-rust crate tests/same
+}
+
+of_program() { for script in compare spent edges; do run "$script" "tests/$script.sh"; done; }
+
+of_libraries() {
+  run interfaces tests/interfaces.sh
+  run benchmark benchmark
 }
 
 echo "== layout: rt fmt --check"
 if rt fmt --check; then passed=$((passed + 1)); else failed=$((failed + 1)); fi
 
+beside_proofs &
 echo "== proofs: rt ci"
-rt ci 2>&1 | tee "$log"
-count "${PIPESTATUS[0]}" 's/^([0-9]+) passed, ([0-9]+) failed$/\1 \2/p'
+rt ci 2>&1 | tee "$logs/proofs"
+echo "${PIPESTATUS[0]}" >"$logs/proofs.status"
+count proofs
+wait
+show second-model source-as-rust
 
-echo "== second model: cargo test"
-cargo test --release --offline --manifest-path model/Cargo.toml 2>&1 | tee "$log"
-count "${PIPESTATUS[0]}" 's/^test result: .* ([0-9]+) passed; ([0-9]+) failed;.*$/\1 \2/p'
-
-# the scripts print their own 'N passed, M failed'
-for script in compare spent edges interfaces; do
-  echo "== tests/$script.sh"
-  "tests/$script.sh" 2>&1 | tee "$log"
-  count "${PIPESTATUS[0]}" 's/^([0-9]+) passed, ([0-9]+) failed$/\1 \2/p'
-done
-
-echo "== benchmark's answers: rt staticlib, cargo test"
-for library in capi leaves; do
-  rt staticlib "$library" >"$log" 2>&1 || { cat "$log"; failed=$((failed + 1)); }
-done
-cargo test --release --offline --manifest-path bench/Cargo.toml 2>&1 | tee "$log"
-count "${PIPESTATUS[0]}" 's/^test result: .* ([0-9]+) passed; ([0-9]+) failed;.*$/\1 \2/p'
+of_libraries &
+of_program
+show compare spent edges
+wait
+show interfaces benchmark
 
 echo "$passed passed, $failed failed"
 [ "$failed" -eq 0 ]

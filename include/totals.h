@@ -1,6 +1,7 @@
 /*
  * The totals table for C: a wait-free extendible hash table of accounts and totals over one lent slice of 64-bit words.
- * The functions are those of the static library capi, whose contracts (crates/capi) are what is said here.
+ * The functions are those of the static library capi, whose contracts (crates/capi) are what is said here. What to do
+ * about each number that they return: docs/USING.md.
  *
  * What every function promises
  *   - It takes any words and any numbers. Whatever the words hold, it reads and writes nothing outside the slices it
@@ -18,7 +19,9 @@
  *     aligned for the item's type, and as many items as the length says can be read there and, where the pointer is not
  *     const, written.
  *   - The slices of one call do not overlap.
- *   - One call at a time over the same words: the workers' steps are interleaved by the caller, not by threads.
+ *   - One call at a time over the same words, totals_list included. Workers are numbers and no threads: one caller
+ *     interleaves their steps. Nothing here locks or waits; threads would need a lock around every call.
+ *   - The number that is returned is looked at: an update that is answered TOTALS_CROWDED was not carried out.
  */
 #ifndef TOTALS_H
 #define TOTALS_H
@@ -39,8 +42,8 @@ extern "C" {
 #define TOTALS_GREATEST_DEPTH 8
 
 /*
- * The words needed for the least and for the greatest settings, and the most accounts a table can hold: b for each of
- * 2^M prefixes.
+ * The words needed for the least and for the greatest settings, and the most accounts a table can hold: b of those that
+ * agree in their first M bits, most significant first, so b times 2^M where accounts are spread over all 32 bits.
  */
 #define TOTALS_LEAST_WORDS 150
 #define TOTALS_GREATEST_WORDS 15169
@@ -77,8 +80,8 @@ extern "C" {
 #define TOTALS_ABSENT 20   /* delete: the account was not there */
 #define TOTALS_FOUND 21    /* lookup: the total is in the report */
 #define TOTALS_NONE 22     /* lookup: the account is not there */
-#define TOTALS_CROWDED 25  /* insert or delete: the table holds b accounts that agree with this one in the first M bits;
-                              nothing changed */
+#define TOTALS_CROWDED 25  /* insert or delete: the table holds b accounts that agree with this one in the first M bits,
+                              itself counted where it is there; nothing changed, the update was not carried out */
 
 /*
  * How many words a table of these settings needs: 150 to 15,169. Or TOTALS_SETTINGS, 1, where one of them is outside

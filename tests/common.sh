@@ -2,6 +2,6 @@
 # Sourced at the top of the repository.
 totals=target/bin/totals
 model=model/target/release/model
-[ -x "$totals" ] || rt check totals >/dev/null || exit 2
+tests/built.sh totals || exit 2
 cargo build --quiet --release --offline --manifest-path model/Cargo.toml || exit 2
 . tests/counts.sh

@@ -7,7 +7,7 @@ pub mod turns;
 pub mod twin;
 pub mod work;
 
-#[allow(dead_code, clippy::all)]
+#[allow(dead_code, unused_variables, clippy::all)]
 mod same {
     include!(concat!(env!("OUT_DIR"), "/same.rs"));
 }

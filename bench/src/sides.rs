@@ -244,6 +244,11 @@ impl Table for Twin {
 pub struct Map(Mutex<HashMap<u32, i64>>);
 
 impl Map {
+    // A map that has room for so many accounts from the start.
+    pub fn with_room(accounts: usize) -> Map {
+        Map(Mutex::new(HashMap::with_capacity(accounts)))
+    }
+
     // The answer's code and the total found.
     #[inline(never)]
     pub fn operate(&self, o: Operation) -> (u64, i64) {

@@ -1,22 +1,9 @@
 // Operations for all sides, from fixed seeds.
 use crate::fields::{KIND_DELETE, KIND_INSERT, KIND_LOOKUP};
 
-// xorshift: the same numbers in every run
-pub struct Random(pub u64);
-
-impl Random {
-    #[allow(clippy::should_implement_trait)]
-    pub fn next(&mut self) -> u64 {
-        self.0 ^= self.0 << 13;
-        self.0 ^= self.0 >> 7;
-        self.0 ^= self.0 << 17;
-        self.0
-    }
-
-    pub fn below(&mut self, n: u64) -> u64 {
-        (self.next() >> 16) % n
-    }
-}
+#[path = "../../model/src/prng.rs"]
+mod prng;
+pub use prng::Prng;
 
 #[derive(Clone, Copy)]
 pub struct Operation {
@@ -35,20 +22,20 @@ pub struct Work {
     pub measured: Vec<Operation>,
 }
 
-fn insert(account: u32, random: &mut Random) -> Operation {
+pub fn insert(account: u32, random: &mut Prng) -> Operation {
     Operation {
         kind: KIND_INSERT,
         account,
-        total: random.next() as i64 >> 8,
+        total: random.draw() as i64 >> 8,
     }
 }
 
 // Accounts at random, no eight of them with the same first 8 bits: with b 8 and M 8 none is crowded.
-fn spread_accounts(count: usize, random: &mut Random) -> Vec<u32> {
+pub fn spread_accounts(count: usize, random: &mut Prng) -> Vec<u32> {
     let mut taken = [0; 256];
     let mut accounts = Vec::new();
     while accounts.len() < count {
-        let account = (random.next() >> 16) as u32;
+        let account = (random.draw() >> 16) as u32;
         let place = (account >> 24) as usize;
         if taken[place] < 7 && !accounts.contains(&account) {
             taken[place] += 1;
@@ -59,7 +46,7 @@ fn spread_accounts(count: usize, random: &mut Random) -> Vec<u32> {
 }
 
 // Of ten operations nine are lookups; of four others three are inserts and one a delete.
-fn mixed_kind(random: &mut Random) -> u64 {
+fn mixed_kind(random: &mut Prng) -> u64 {
     if random.below(10) < 9 {
         KIND_LOOKUP
     } else if random.below(4) < 3 {
@@ -71,7 +58,7 @@ fn mixed_kind(random: &mut Random) -> u64 {
 
 // So many operations on 1,000 accounts, b 8, M 8. Growing is their first insert; the other works start after it.
 pub fn work(name: &'static str, workers: u64, count: usize) -> Work {
-    let mut random = Random(88172645463325252);
+    let mut random = Prng::new(88172645463325252);
     let accounts = spread_accounts(1000, &mut random);
     let first: Vec<Operation> = accounts.iter().map(|a| insert(*a, &mut random)).collect();
     let mut operation = |_| {
@@ -102,7 +89,7 @@ pub fn work(name: &'static str, workers: u64, count: usize) -> Work {
 
 // Lookups in buckets that all hold 4 accounts, at a greatest depth: each bucket gets 7 and loses 3.
 pub fn even(depth: u64, count: usize) -> Work {
-    let mut random = Random(20261115);
+    let mut random = Prng::new(20261115);
     let account = |place: u64, i: u64| ((place << 32 >> depth) + (i << 20)) as u32;
     let mut filling = Vec::new();
     for i in 0..7 {

@@ -4,7 +4,7 @@ use bench::fields::*;
 use bench::sides::{Map, Proved, Reply, Same, Table};
 use bench::turns::{by_run, by_steps};
 use bench::twin::Twin;
-use bench::work::{Operation, Random};
+use bench::work::{Operation, Prng};
 
 struct Case {
     workers: u64,
@@ -14,11 +14,11 @@ struct Case {
 }
 
 // Settings at random, and operations on few accounts, many of them with the same first bits.
-fn case(random: &mut Random) -> Case {
+fn case(random: &mut Prng) -> Case {
     let (workers, capacity, depth) = (1 + random.below(8), 2 + random.below(15), random.below(9));
     let accounts: Vec<u32> = (0..1 + random.below(80))
         .map(|_| {
-            (random.next() >> 16) as u32
+            (random.draw() >> 16) as u32
                 & [u32::MAX, 0x0fff_ffff, 0x8000_00ff][random.below(3) as usize]
         })
         .collect();
@@ -26,7 +26,7 @@ fn case(random: &mut Random) -> Case {
         .map(|_| Operation {
             kind: [KIND_INSERT, KIND_INSERT, KIND_DELETE, KIND_LOOKUP][random.below(4) as usize],
             account: accounts[random.below(accounts.len() as u64) as usize],
-            total: random.next() as i64,
+            total: random.draw() as i64,
         })
         .collect();
     Case {
@@ -76,7 +76,7 @@ fn replies<T: Table>(c: &Case, turns: Turns<T>) -> (Vec<Reply>, T) {
 
 #[test]
 fn single_steps_in_turn_answer_alike() {
-    let mut random = Random(1);
+    let mut random = Prng::new(1);
     let mut late = 0;
     for _ in 0..1500 {
         let c = case(&mut random);
@@ -95,7 +95,7 @@ fn single_steps_in_turn_answer_alike() {
 // The map is fed what was not crowded.
 #[test]
 fn operations_run_to_their_answer_answer_as_a_map() {
-    let mut random = Random(2);
+    let mut random = Prng::new(2);
     let mut crowded = 0;
     for _ in 0..1500 {
         let c = case(&mut random);
@@ -137,11 +137,21 @@ impl Turn {
     }
 }
 
+// A turn of any worker; the last is not there.
+fn turn(random: &mut Prng, workers: u64, most: u64, operation: Operation) -> Turn {
+    Turn {
+        worker: random.below(workers + 1),
+        which: random.below(3),
+        most: random.below(most),
+        operation,
+    }
+}
+
 // Calls, steps and runs of any worker in any order, the refused ones too: the same replies, and the same words after
 // each. The twin knows no kinds but three.
 #[test]
 fn any_order_of_calls_steps_and_runs_answers_alike() {
-    let mut random = Random(3);
+    let mut random = Prng::new(3);
     let mut replied = [0; TOTALS_CROWDED as usize + 1];
     for _ in 0..400 {
         let c = case(&mut random);
@@ -149,12 +159,7 @@ fn any_order_of_calls_steps_and_runs_answers_alike() {
         let mut same = Same::open(c.workers, c.capacity, c.depth);
         let mut twin = Twin::open(c.workers, c.capacity, c.depth);
         for o in c.operations.iter().cycle().take(3 * c.operations.len()) {
-            let turn = Turn {
-                worker: random.below(c.workers + 1),
-                which: random.below(3),
-                most: random.below(40),
-                operation: *o,
-            };
+            let turn = turn(&mut random, c.workers, 40, *o);
             let ours = turn.given(&mut proved);
             assert_eq!(ours, turn.given(&mut same));
             assert_eq!(ours, turn.given(&mut twin));
@@ -162,52 +167,54 @@ fn any_order_of_calls_steps_and_runs_answers_alike() {
             replied[ours.code as usize] += 1;
         }
     }
-    let codes = [
+    for code in [
         TOTALS_STRANGER,
         TOTALS_BUSY,
         TOTALS_IDLE,
         TOTALS_ADDED,
         TOTALS_CROWDED,
-    ];
-    assert!(
-        codes.iter().all(|c| replied[*c as usize] > 100),
-        "{replied:?}"
-    );
+    ] {
+        assert!(replied[code as usize] > 100, "{code}: {replied:?}");
+    }
+}
+
+// A table's words with up to 39 of them changed, and some cut short.
+fn damaged(random: &mut Prng, workers: u64) -> Vec<u64> {
+    let mut words = Proved::open(workers, 2 + random.below(15), random.below(3)).0;
+    let len = words.len() as u64;
+    for _ in 0..random.below(40) {
+        // seldom a word of the header's first two, by which most words would be strange
+        let place = random.below(len).max(random.below(10)) as usize;
+        words[place] =
+            [random.below(4), random.below(len), random.draw()][random.below(3) as usize];
+    }
+    if random.below(8) == 0 {
+        words.truncate(random.below(len) as usize);
+    }
+    words
+}
+
+fn any_operation(random: &mut Prng) -> Operation {
+    Operation {
+        kind: random.below(5),
+        account: random.draw() as u32,
+        total: random.draw() as i64,
+    }
 }
 
 // Words that no opening left, and any arguments: the proved library and the same source in Rust reply alike and leave
 // the same words.
 #[test]
 fn on_any_words_the_proved_library_does_what_its_source_says() {
-    let mut random = Random(4);
+    let mut random = Prng::new(4);
     let (mut changed, mut strange) = (0, 0);
     for _ in 0..20_000 {
-        let (n, b, m) = (1 + random.below(8), 2 + random.below(15), random.below(3));
-        let mut proved = Proved::open(n, b, m);
-        let len = proved.0.len() as u64;
-        for _ in 0..random.below(40) {
-            // seldom a word of the header's first two, by which most words would be strange
-            let place = random.below(len).max(random.below(10)) as usize;
-            proved.0[place] =
-                [random.below(4), random.below(len), random.next()][random.below(3) as usize];
-        }
-        if random.below(8) == 0 {
-            proved.0.truncate(random.below(len) as usize);
-        }
-        let mut same = Same(proved.0.clone());
-        let before = proved.0.clone();
+        let n = 1 + random.below(8);
+        let before = damaged(&mut random, n);
+        let (mut proved, mut same) = (Proved(before.clone()), Same(before.clone()));
         for _ in 0..6 {
-            let operation = Operation {
-                kind: random.below(5),
-                account: random.next() as u32,
-                total: random.next() as i64,
-            };
-            let turn = Turn {
-                worker: random.below(n + 1),
-                which: random.below(3),
-                most: random.below(300),
-                operation,
-            };
+            let operation = any_operation(&mut random);
+            let turn = turn(&mut random, n, 300, operation);
             let ours = turn.given(&mut proved);
             assert_eq!(ours, turn.given(&mut same));
             assert_eq!(proved.0, same.0);

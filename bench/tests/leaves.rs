@@ -1,21 +1,21 @@
 // The proved functions on a bucket record beside the same source compiled as Rust, over any words and numbers.
 use bench::leaf::{proved, rust, Work};
-use bench::work::Random;
+use bench::work::Prng;
 
 // small numbers, numbers about 16 and 54, and any word
-fn word(random: &mut Random) -> u64 {
+fn word(random: &mut Prng) -> u64 {
     match random.below(4) {
         0 => random.below(4),
         1 => random.below(70),
         2 => random.below(1 << 33),
-        _ => random.next(),
+        _ => random.draw(),
     }
 }
 
 // Both leave the same words and give the same results; words around the lent slice stay as they were.
 #[test]
 fn the_proved_library_does_what_its_source_says() {
-    let mut random = Random(20261115);
+    let mut random = Prng::new(20261115);
     let mut done = 0;
     for _ in 0..200_000 {
         let len = random.below(200) as usize;

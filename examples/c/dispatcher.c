@@ -1,7 +1,8 @@
 /*
  * A report run: three workers post twelve invoices to a table of totals; a dispatcher gives each a few steps at a time.
  * Worker 2 is parked in the middle of an update until the others have finished: they carry it out. Nothing is
- * allocated, every return value is handled.
+ * allocated. What a call returns is always looked at: a refusal, an invoice that the table has no room for, and a month
+ * whose invoices and totals differ end the run with a line on standard error and exit status 1.
  */
 #include <inttypes.h>
 #include <limits.h>
@@ -46,41 +47,69 @@ static const char *answer_word(uint64_t answer)
     case TOTALS_ABSENT: return "absent";
     case TOTALS_FOUND: return "found";
     case TOTALS_NONE: return "none";
-    default: return "crowded"; /* an answer too: nothing was changed */
+    default: return "crowded";
     }
 }
 
-/*
- * After the lookup's answer comes the insert, after the insert's the next invoice. Returns TOTALS_OK or a refusal, as
- * all below do.
- */
-static uint64_t answered(unsigned w, uint64_t answer, uint64_t steps, int64_t found)
+/* This and all functions below return 0, or 1 where they have said on standard error what is wrong. */
+static int refused(uint64_t number, const char *call)
+{
+    if (number != TOTALS_OK)
+        fprintf(stderr, "%s: refused %" PRIu64 "\n", call, number);
+    return number != TOTALS_OK;
+}
+
+/* Crowded is an answer, and nothing was changed: an invoice that is not kept elsewhere would be lost. */
+static int crowded(uint64_t answer, unsigned w, uint32_t account)
+{
+    if (answer == TOTALS_CROWDED)
+        fprintf(stderr, "crowded: worker %u's update of account %" PRIu32 " was not carried out\n", w, account);
+    return answer == TOTALS_CROWDED;
+}
+
+/* Totals have 64 bits; a sum that has more is no total. */
+static int add(int64_t *sum, int64_t amount)
+{
+    int over = amount > 0 ? *sum > INT64_MAX - amount : *sum < INT64_MIN - amount;
+    if (over)
+        fprintf(stderr, "%" PRId64 " + %" PRId64 " has more than 64 bits\n", *sum, amount);
+    else
+        *sum += amount;
+    return over;
+}
+
+/* After the lookup's answer comes the insert, after the insert's the next invoice. */
+static int answered(unsigned w, uint64_t answer, uint64_t steps, int64_t total)
 {
     const struct invoice *invoice = &invoices[w][workers[w].invoice];
     if (workers[w].stage == LOOKING_UP) {
-        workers[w].stage = POSTING; /* found is 0 where the answer is TOTALS_NONE */
-        return totals_call(words, length, w, TOTALS_INSERT, invoice->account, found + invoice->cents);
+        workers[w].stage = POSTING; /* the total is 0 where the answer is TOTALS_NONE */
+        return add(&total, invoice->cents) ||
+               refused(totals_call(words, length, w, TOTALS_INSERT, invoice->account, total), "insert");
     }
+    if (crowded(answer, w, invoice->account))
+        return 1;
     printf("worker %u posts %" PRId64 " to %" PRIu32 ": %s, %" PRIu64 " steps\n", w, invoice->cents, invoice->account,
            answer_word(answer), steps);
     workers[w].stage = RESTING;
     workers[w].invoice++;
-    return TOTALS_OK;
+    return 0;
 }
 
 /* One turn: a resting worker starts on its next invoice; then up to so many steps. */
-static uint64_t turn(unsigned w, uint64_t steps)
+static int turn(unsigned w, uint64_t steps)
 {
     uint64_t report[2] = {0, 0};
-    uint64_t number = TOTALS_OK;
+    uint64_t number;
     if (workers[w].stage == RESTING) {
-        number = totals_call(words, length, w, TOTALS_LOOKUP, invoices[w][workers[w].invoice].account, 0);
+        if (refused(totals_call(words, length, w, TOTALS_LOOKUP, invoices[w][workers[w].invoice].account, 0), "lookup"))
+            return 1;
         workers[w].stage = LOOKING_UP;
     }
-    if (number == TOTALS_OK)
-        number = totals_run(words, length, w, steps, report, 2);
-    /* TOTALS_MOVED, 0: a page break; the worker is parked until its next turn, wherever its operation is */
-    return number < TOTALS_ADDED ? number : answered(w, number, report[0], (int64_t)report[1]);
+    number = totals_run(words, length, w, steps, report, 2);
+    if (number == TOTALS_MOVED)
+        return 0; /* a page break; the worker is parked until its next turn, wherever its operation is */
+    return number < TOTALS_ADDED ? refused(number, "run") : answered(w, number, report[0], (int64_t)report[1]);
 }
 
 /* How many invoices there still are to post, without the parked worker's. */
@@ -94,75 +123,87 @@ static unsigned left(unsigned parked)
 }
 
 /* Turns in a fixed, mixed order, so many at most, until all is posted. The parked worker gets none. */
-static uint64_t dispatch(unsigned turns, unsigned parked)
+static int dispatch(unsigned turns, unsigned parked)
 {
     static const struct {
         unsigned worker, steps;
     } order[] = {{0, 7}, {2, 5}, {1, 9}, {1, 2}, {0, 4}, {2, 3}, {0, 6}, {1, 8}};
-    uint64_t number = TOTALS_OK;
     unsigned t, w;
-    for (t = 0; t < turns && left(parked) > 0 && number == TOTALS_OK; t++) {
+    for (t = 0; t < turns && left(parked) > 0; t++) {
         w = order[t % 8].worker;
-        if (w != parked && workers[w].invoice < INVOICES)
-            number = turn(w, order[t % 8].steps);
+        if (w != parked && workers[w].invoice < INVOICES && turn(w, order[t % 8].steps))
+            return 1;
     }
-    return number;
+    return 0;
 }
 
-/* An operation from its call to its answer: no operation takes more steps than TOTALS_GREATEST_RUN. */
-static uint64_t at_once(unsigned w, uint64_t kind, uint32_t account)
+/* An operation from its call to its answer: no operation takes as many steps as TOTALS_GREATEST_RUN. */
+static int at_once(unsigned w, uint64_t kind, uint32_t account)
 {
     uint64_t report[2] = {0, 0};
-    uint64_t number = totals_call(words, length, w, kind, account, 0);
-    if (number == TOTALS_OK)
-        number = totals_run(words, length, w, TOTALS_GREATEST_RUN, report, 2);
-    if (number < TOTALS_ADDED)
-        return number;
+    uint64_t number;
+    if (refused(totals_call(words, length, w, kind, account, 0), "call"))
+        return 1;
+    number = totals_run(words, length, w, TOTALS_GREATEST_RUN, report, 2);
+    if (number == TOTALS_MOVED) {
+        fprintf(stderr, "worker %u: no answer after %" PRIu64 " steps\n", w, report[0]);
+        return 1;
+    }
+    if (number < TOTALS_ADDED ? refused(number, "run") : crowded(number, w, account))
+        return 1;
     printf("worker %u %s %" PRIu32 ": %s", w, kind == TOTALS_LOOKUP ? "looks up" : "deletes", account,
            answer_word(number));
     if (number == TOTALS_FOUND)
         printf(" %" PRId64, (int64_t)report[1]);
     printf(", %" PRIu64 " steps\n", report[0]);
-    return TOTALS_OK;
+    return 0;
 }
 
-/* All accounts with their totals, ascending; parked workers do not matter. */
-static uint64_t show(const char *title)
+/* All accounts with their totals, ascending, and the sum of the totals; parked workers do not matter. */
+static int show(const char *title, int64_t *sum)
 {
     uint32_t accounts[PLACES];
     int64_t totals[PLACES];
     uint64_t count = 0, i;
-    uint64_t number = totals_list(words, length, accounts, PLACES, totals, PLACES, &count, 1);
-    if (number != TOTALS_OK)
-        return number;
+    if (refused(totals_list(words, length, accounts, PLACES, totals, PLACES, &count, 1), "list"))
+        return 1;
     printf("%s: %" PRIu64 " accounts\n", title, count);
-    for (i = 0; i < count; i++)
+    for (i = 0, *sum = 0; i < count; i++) {
         printf("%10" PRIu32 " %6" PRId64 "\n", accounts[i], totals[i]);
-    return TOTALS_OK;
+        if (add(sum, totals[i]))
+            return 1;
+    }
+    return 0;
 }
 
-static uint64_t report_run(void)
+/* The sum of the totals against that of the invoices, which the table has no part in. */
+static int check_month(int64_t totals)
 {
-    uint64_t refusal;
-    if ((refusal = totals_open(words, length, WORKERS, CAPACITY, DEPTH)) != TOTALS_OK)
-        return refusal;
-    if ((refusal = dispatch(30, NOBODY)) != TOTALS_OK ||
-        (refusal = show("worker 2 is parked, posting 450 to 1030")) != TOTALS_OK)
-        return refusal;
-    if ((refusal = dispatch(UINT_MAX, 2)) != TOTALS_OK || (refusal = show("worker 2 is still parked")) != TOTALS_OK)
-        return refusal;
-    if ((refusal = dispatch(UINT_MAX, NOBODY)) != TOTALS_OK)
-        return refusal;
-    if ((refusal = at_once(0, TOTALS_LOOKUP, 1010)) != TOTALS_OK ||
-        (refusal = at_once(1, TOTALS_DELETE, 4000000020)) != TOTALS_OK)
-        return refusal;
-    return show("at the end");
+    int64_t sum = 0;
+    unsigned w, i;
+    for (w = 0; w < WORKERS; w++)
+        for (i = 0; i < INVOICES; i++)
+            if (add(&sum, invoices[w][i].cents))
+                return 1;
+    if (sum != totals)
+        fprintf(stderr, "the invoices are %" PRId64 " in all, the totals %" PRId64 "\n", sum, totals);
+    else
+        printf("the month: invoices and totals are %" PRId64 " each\n", sum);
+    return sum != totals;
+}
+
+static int report_run(void)
+{
+    int64_t sum;
+    return refused(totals_open(words, length, WORKERS, CAPACITY, DEPTH), "open") || dispatch(30, NOBODY) ||
+           show("worker 2 is parked, posting 450 to 1030", &sum) || dispatch(UINT_MAX, 2) ||
+           show("worker 2 is still parked", &sum) || dispatch(UINT_MAX, NOBODY) ||
+           show("all is posted", &sum) || check_month(sum) || at_once(0, TOTALS_LOOKUP, 1010) ||
+           at_once(1, TOTALS_DELETE, 4000000020) || show("at the end", &sum);
 }
 
 int main(void)
 {
-    uint64_t refusal = report_run();
-    if (refusal != TOTALS_OK)
-        fprintf(stderr, "refused %" PRIu64 "\n", refusal);
-    return refusal != TOTALS_OK || fflush(stdout) != 0 || ferror(stdout);
+    int wrong = report_run();
+    return wrong || fflush(stdout) != 0 || ferror(stdout);
 }

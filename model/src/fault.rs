@@ -1,4 +1,4 @@
-//! Switches that make the machine wrong in one way each. They test the checker itself.
+//! The wrong machines by name: each is wrong in one way (`wrong.rs`). They test the checker itself.
 
 /// `Fault::None` is the machine as it should be.
 #[derive(Clone, Copy, PartialEq, Eq, Debug, Default)]

@@ -28,3 +28,4 @@ pub mod totals;
 pub mod trace;
 pub mod violation;
 pub mod working;
+mod wrong;

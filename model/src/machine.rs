@@ -118,7 +118,7 @@ impl Machine {
             return refused(refusal::IDLE);
         };
         task.steps += 1;
-        let (kind, answer) = self.perform(w, &mut task);
+        let (kind, answer) = self.fault.machine().perform(self, w, &mut task);
         let steps = task.steps;
         let stepped = match answer {
             Some(answer) => Stepped::Answered { answer, steps },

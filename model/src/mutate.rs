@@ -5,8 +5,8 @@ use crate::prng::Prng;
 
 /// Stored orders that reach the third and fourth check, or park a worker at a late swap.
 const STORED: [&str; 7] = [
-    include_str!("../orders/covered.txt"),
-    include_str!("../orders/section-9.txt"),
+    include_str!("../orders/crowded-after-anothers-split.txt"),
+    include_str!("../orders/crowded-after-own-split.txt"),
     include_str!("../orders/one-directory-round.txt"),
     include_str!("../orders/one-pass.txt"),
     include_str!("../orders/own-update-only.txt"),

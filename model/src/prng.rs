@@ -1,4 +1,5 @@
-//! A small pseudo-random number generator (splitmix64).
+//! The pseudo-random number generator of all tests and of the benchmark (splitmix64). This file
+//! stands alone, so that `bench` can take it in without the model.
 
 /// Everything drawn is a function of the seed.
 #[derive(Clone, Debug)]
@@ -29,17 +30,28 @@ impl Prng {
         least + self.below(most - least + 1)
     }
 
+    /// A place in a list of that length, which is not 0.
+    pub fn place(&mut self, length: usize) -> usize {
+        self.below(length as u64) as usize
+    }
+
     /// True that often in a hundred.
     pub fn percent(&mut self, chance: u64) -> bool {
         self.below(100) < chance
     }
 
+    /// True once in so many times.
+    pub fn one_in(&mut self, times: u64) -> bool {
+        self.below(times) == 0
+    }
+
+    /// One of these, of which there is at least one.
+    pub fn one_of<T: Copy>(&mut self, from: &[T]) -> T {
+        from[self.place(from.len())]
+    }
+
     /// One of these; `None` if there are none.
     pub fn pick<T: Copy>(&mut self, from: &[T]) -> Option<T> {
-        if from.is_empty() {
-            None
-        } else {
-            Some(from[self.below(from.len() as u64) as usize])
-        }
+        (!from.is_empty()).then(|| self.one_of(from))
     }
 }

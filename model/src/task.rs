@@ -125,6 +125,11 @@ impl Task {
         self.bucket.as_ref().expect("a bucket pass is under way")
     }
 
+    /// The state read in the round of the bucket pass under way.
+    pub fn state_read(&self) -> &Rc<State> {
+        self.state.as_ref().expect("a state was read")
+    }
+
     /// The number of the check under way, 1 to 4.
     pub fn check(&self) -> u8 {
         self.checks + 1
@@ -150,17 +155,52 @@ impl Task {
         self.is_update() && self.next != Position::Announce
     }
 
+    /// Moves on to the step that follows in the plan of an operation.
+    pub fn advance(&mut self, workers: usize) {
+        use Position::*;
+        self.next = match self.next {
+            LookupDirectory | LookupState => LookupState,
+            Announce => ReadDirectory,
+            ReadDirectory => Flip,
+            Flip => ReadState,
+            ReadState => ReadToggle,
+            ReadToggle => ReadSlot(0),
+            ReadSlot(i) if i + 1 < workers => ReadSlot(i + 1),
+            ReadSlot(_) => SwapState,
+            SwapState => self.end_round(ReadState),
+            CheckDirectory => CheckState,
+            CheckState => self.end_check(),
+            ResizeDirectory => ResizeSlot(0),
+            ResizeSlot(i) if i + 1 < workers => ResizeSlot(i + 1),
+            ResizeSlot(_) => ResizeState(0),
+            ResizeState(j) if j + 1 < workers => ResizeState(j + 1),
+            ResizeState(_) => SwapDirectory,
+            SwapDirectory => self.end_round(ResizeDirectory),
+            Exhausted => Exhausted,
+        };
+    }
+
     /// Forgets what the round read. The second round starts at its first step; a check follows it.
-    pub fn end_round(&mut self, first: Position) {
+    fn end_round(&mut self, first: Position) -> Position {
         self.state = None;
         self.toggle.clear();
         self.slots.clear();
         self.working = None;
-        if self.round == 0 {
-            self.round = 1;
-            self.next = first;
-        } else {
-            self.next = Position::CheckDirectory;
+        if self.round == 1 {
+            return Position::CheckDirectory;
+        }
+        self.round = 1;
+        first
+    }
+
+    /// After a check without an answer: a directory pass, after that and its check the second pass.
+    fn end_check(&mut self) -> Position {
+        self.checks += 1;
+        self.round = 0;
+        match self.checks {
+            1 | 3 => Position::ResizeDirectory,
+            2 => Position::ReadDirectory,
+            _ => Position::Exhausted,
         }
     }
 }

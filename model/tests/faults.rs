@@ -10,6 +10,8 @@ use model::records::Answer;
 use model::search::{search, verdict, By};
 use model::task::StepKind;
 use model::totals::transcript;
+use model::trace::record::record;
+use model::trace::Step;
 use std::path::PathBuf;
 
 /// Wrong machines that random search with this seed and budget does not catch by the external
@@ -21,8 +23,8 @@ const BUDGET: u64 = 100_000;
 /// Stored orders that are not named after a fault, with the fault whose output they tell apart
 /// from the true machine's.
 const MORE: [(&str, Fault); 5] = [
-    ("covered", Fault::OneDirectoryRound),
-    ("section-9", Fault::OneDirectoryRound),
+    ("crowded-after-anothers-split", Fault::OneDirectoryRound),
+    ("crowded-after-own-split", Fault::OneDirectoryRound),
     ("own-update-only-listing", Fault::OwnUpdateOnly),
     ("toggle-ignored-listing", Fault::ToggleIgnored),
     ("announce-applies-listing", Fault::AnnounceApplies),
@@ -96,7 +98,7 @@ fn stored_orders_hold_on_the_true_machine_with_the_stored_output() {
 
 #[test]
 fn the_second_directory_round_is_needed() {
-    let order = lines("section-9");
+    let order = lines("crowded-after-own-split");
     let mut all = Internal::new(Fault::None);
     all.record = true;
     assert!(judge(&mut all, &order).is_ok());
@@ -109,6 +111,29 @@ fn the_second_directory_round_is_needed() {
     let fault = Fault::OneDirectoryRound;
     assert!(verdict(By::AllAssertions, fault, &order).is_err());
     assert!(verdict(By::External, fault, &order).is_err());
+}
+
+/// The worker whose directory swap was the last to split.
+fn last_to_split(name: &str) -> usize {
+    let lists = record(stored(name, "txt").as_bytes()).expect("the true machine");
+    let list = lists.last().expect("a table was opened");
+    let split = |step: &&Step| step.is_in_force() && !step.splits.is_empty();
+    let last = list.steps.iter().rfind(split).expect("a split");
+    list.operations[last.operation].worker
+}
+
+#[test]
+fn an_update_is_crowded_at_its_last_check_whoever_split() {
+    for (name, worker) in [
+        ("crowded-after-own-split", 0),
+        ("crowded-after-anothers-split", 1),
+    ] {
+        assert_eq!(last_to_split(name), worker, "{name}");
+        assert!(
+            stored(name, "out").contains("answered crowded 69"),
+            "{name}"
+        );
+    }
 }
 
 #[test]

@@ -1,9 +1,11 @@
 //! The report run of `examples/c/dispatcher.c`: three workers post twelve invoices; a dispatcher gives each a few steps
 //! at a time. Worker 2 is parked in the middle of an update until the others have finished: they carry it out. Nothing
-//! is allocated for the table.
+//! is allocated for the table. A refusal, an invoice that the table has no room for, and a month whose invoices and
+//! totals differ end the run with a line on standard error and exit status 1.
 
 use std::error::Error;
 use std::io::{self, Write};
+use std::process::ExitCode;
 
 use totals::raw::TOTALS_GREATEST_RUN;
 use totals::{Answer, Ran, Settings, Table};
@@ -27,7 +29,7 @@ const INVOICES: [[(u32, i64); 4]; WORKERS] = [
 /// The turns, in a fixed, mixed order: a worker, and how many steps it gets.
 const ORDER: [(usize, u64); 8] = [(0, 7), (2, 5), (1, 9), (1, 2), (0, 4), (2, 3), (0, 6), (1, 8)];
 
-type Done = Result<(), Box<dyn Error>>;
+type Done<T = ()> = Result<T, Box<dyn Error>>;
 
 #[derive(Clone, Copy)]
 enum Stage {
@@ -41,6 +43,19 @@ enum Stage {
 struct Worker {
     invoice: usize,
     stage: Stage,
+}
+
+/// Crowded is an answer, and nothing was changed: an invoice that is not kept elsewhere would be lost.
+fn not_crowded(answer: Answer, w: usize, account: u32) -> Done {
+    match answer {
+        Answer::Crowded => Err(format!("crowded: worker {w}'s update of account {account} was not carried out").into()),
+        _ => Ok(()),
+    }
+}
+
+/// Totals have 64 bits; a sum that has more is no total.
+fn add(sum: i64, amount: i64) -> Done<i64> {
+    sum.checked_add(amount).ok_or_else(|| format!("{sum} + {amount} has more than 64 bits").into())
 }
 
 struct Dispatcher<'a, W> {
@@ -57,9 +72,9 @@ impl<W: Write> Dispatcher<'_, W> {
         if let Stage::LookingUp = worker.stage {
             let found = if let Answer::Found(total) = answer { total } else { 0 };
             worker.stage = Stage::Posting;
-            self.table.insert(w as u64, account, found + cents)?;
+            self.table.insert(w as u64, account, add(found, cents)?)?;
         } else {
-            // crowded is an answer too: nothing was changed
+            not_crowded(answer, w, account)?;
             writeln!(self.out, "worker {w} posts {cents} to {account}: {answer}, {steps} steps")?;
             *worker = Worker { invoice: worker.invoice + 1, stage: Stage::Resting };
         }
@@ -100,27 +115,36 @@ impl<W: Write> Dispatcher<'_, W> {
     /// The rest of a worker's operation: it never takes as many steps as this.
     fn finish(&mut self, w: usize, what: &str, account: u32) -> Done {
         match self.table.run(w as u64, TOTALS_GREATEST_RUN)? {
+            Ran::Moved(steps) => Err(format!("worker {w}: no answer after {steps} steps").into()),
             Ran::Answered { answer, steps } => {
-                writeln!(self.out, "worker {w} {what} {account}: {answer}, {steps} steps")?
+                not_crowded(answer, w, account)?;
+                Ok(writeln!(self.out, "worker {w} {what} {account}: {answer}, {steps} steps")?)
             }
-            Ran::Moved(steps) => writeln!(self.out, "worker {w} {what} {account}: no answer after {steps} steps")?,
         }
-        Ok(())
     }
 
-    /// All accounts with their totals, ascending; parked workers do not matter.
-    fn show(&mut self, title: &str) -> Done {
+    /// All accounts with their totals, ascending; parked workers do not matter. Gives the sum of the totals.
+    fn show(&mut self, title: &str) -> Done<i64> {
         let (mut accounts, mut totals) = ([0; PLACES], [0; PLACES]);
         let count = self.table.listing_into(&mut accounts, &mut totals)?;
         writeln!(self.out, "{title}: {count} accounts")?;
         for (account, total) in accounts.iter().zip(totals).take(count) {
             writeln!(self.out, "{account:10} {total:6}")?;
         }
-        Ok(())
+        totals.into_iter().take(count).try_fold(0, add)
+    }
+
+    /// The sum of the totals against that of the invoices, which the table has no part in.
+    fn check_month(&mut self, totals: i64) -> Done {
+        let sum = INVOICES.into_iter().flatten().try_fold(0, |sum, (_, cents)| add(sum, cents))?;
+        if sum != totals {
+            return Err(format!("the invoices are {sum} in all, the totals {totals}").into());
+        }
+        Ok(writeln!(self.out, "the month: invoices and totals are {sum} each")?)
     }
 }
 
-fn main() -> Done {
+fn report_run() -> Done {
     let settings = Settings::new(WORKERS as u64, CAPACITY as u64, DEPTH as u64)?;
     let mut words = [0; WORDS];
     let table = Table::open(&mut words, settings)?;
@@ -131,9 +155,22 @@ fn main() -> Done {
     run.dispatch(usize::MAX, Some(2))?;
     run.show("worker 2 is still parked")?;
     run.dispatch(usize::MAX, None)?;
+    let totals = run.show("all is posted")?;
+    run.check_month(totals)?;
     run.table.lookup(0, 1010)?;
     run.finish(0, "looks up", 1010)?;
     run.table.delete(1, 4000000020)?;
     run.finish(1, "deletes", 4000000020)?;
-    run.show("at the end")
+    run.show("at the end")?;
+    Ok(run.out.flush()?)
+}
+
+fn main() -> ExitCode {
+    match report_run() {
+        Ok(()) => ExitCode::SUCCESS,
+        Err(error) => {
+            eprintln!("{error}");
+            ExitCode::FAILURE
+        }
+    }
 }

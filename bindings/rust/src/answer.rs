@@ -20,7 +20,8 @@ pub enum Answer {
     Found(i64),
     /// Lookup: the account is not there.
     None,
-    /// Insert or delete: the table holds b accounts that agree with this one in the first M bits. Nothing changed.
+    /// Insert or delete: the table holds b accounts that agree with this one in the first M bits, itself counted where
+    /// it is there. Nothing changed: the update was not carried out.
     Crowded,
 }
 
@@ -57,6 +58,7 @@ impl fmt::Display for Answer {
 
 /// What one step gives.
 #[derive(Clone, Copy, Debug, PartialEq, Eq, Hash)]
+#[must_use = "an update that is answered crowded was not carried out"]
 pub enum Stepped {
     /// The operation goes on.
     Moved,
@@ -71,6 +73,7 @@ pub enum Stepped {
 
 /// What up to so many steps give.
 #[derive(Clone, Copy, Debug, PartialEq, Eq, Hash)]
+#[must_use = "an update that is answered crowded was not carried out"]
 pub enum Ran {
     /// So many steps were given, and the operation goes on.
     Moved(u64),

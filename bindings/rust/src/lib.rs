@@ -3,7 +3,8 @@
 //!
 //! A table is opened for n workers. An operation (insert, delete, lookup) is handed to a worker, and then takes its
 //! steps, one at a time and interleaved with the others' as the caller likes. A lookup answers at its second step, an
-//! update at its step 12n+33 or earlier, whatever the other workers do.
+//! update at its step 12n+33 or earlier, whatever the other workers do. Workers are numbers and no threads: a [`Table`]
+//! has one caller at a time. An update that is answered [`Answer::Crowded`] was not carried out.
 //!
 //! ```
 //! use totals::{Answer, Owned, Ran, Refusal, Settings};

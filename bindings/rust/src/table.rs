@@ -125,11 +125,11 @@ impl<'a> Table<'a> {
     /// which it gives. Refuses with `Strange`, `Narrow`, in this order.
     ///
     /// ```
-    /// use totals::{Owned, Settings};
+    /// use totals::{Answer, Owned, Ran, Settings};
     /// let mut owned = Owned::new(Settings::new(1, 2, 1)?)?;
     /// let mut table = owned.table();
     /// table.insert(0, 5, -700)?;
-    /// table.run(0, 99)?;
+    /// assert_eq!(table.run(0, 99)?, Ran::Answered { answer: Answer::Added, steps: 13 });
     /// let (mut accounts, mut totals) = ([0; 2], [0; 2]);
     /// assert_eq!(table.listing_into(&mut accounts, &mut totals)?, 1);
     /// assert_eq!((accounts, totals), ([5, 0], [-700, 0]));

@@ -1,7 +1,6 @@
 -- An item put into an array or taken out of it, and a search among ascending accounts, for any items.
 -- Rests on the type that src declares for a search's result.
-use Prim.Native.Nat.{ℕ, suc, _+_, _-_}
-use mathlib.Core.Bool.{not}
+use Prim.Native.Nat.{ℕ, suc, _-_}
 use mathlib.Core.List.{List, [], _∷_, _++_}
 use lib.Dec.{ltb, leb, eqb}
 use lib.ListN.{length, take, drop}

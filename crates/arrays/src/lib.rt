@@ -1,5 +1,6 @@
-// Slices of words: an item put in or taken out, the later ones moved, and the search among ascending accounts. One search
-// serves a bucket's state, the update in place and the lookup. Each contract is an equality with a definition of specs/.
+// Slices of words: an item put in or taken out, the later ones moved, and the search among ascending accounts. One
+// search serves a bucket's state, the update in place and the lookup. Each contract is an equality with a definition of
+// specs/.
 ghost use mathlib.Core.Path.{_≡_};
 ghost use Rattle.arrays.specs.Arrays.{insertedIn, removedFrom, scan};
 

@@ -8,7 +8,7 @@ use lib.Dec.{ltb}
 use lib.ListN.{length}
 use lib.Seq.{set-out}
 use borrow.Author.Tests.{ltb-true, ltb-false, lt-ltb, le-ltb}
-use Rattle.machine.specs.Choice.{if_then_else_, _and_}
+use Rattle.machine.specs.Choice.{if_then_else_}
 use Rattle.machine.proofs.laws.Base.{if-elim, if-false}
 use Rattle.bucket.specs.State.{arraySize, sizeOf, putOf, removeOf}
 use Rattle.arrays.specs.Arrays.{insertedIn, removedFrom}

@@ -1,5 +1,5 @@
-// A bucket's state by value: search, put and remove, and a ticket settled. Every field is a word, so that a state is loaded
-// and stored by copying. Each contract is an equality with a definition of specs/, for any values.
+// A bucket's state by value: search, put and remove, and a ticket settled. Every field is a word, so that a state is
+// loaded and stored by copying. Each contract is an equality with a definition of specs/, for any values.
 ghost use mathlib.Core.Path.{_≡_};
 ghost use Rattle.bucket.specs.State.{sizeOf, searchOf, putOf, removeOf, settleOf};
 use arrays::Position;

@@ -1,5 +1,5 @@
 -- Laws of calls: each case of a call, and a call of words that pass the checks. Rests on the definition of a call.
-use Prim.Native.Nat.{ℕ, _+_, _-_, _≤_, _<_}
+use Prim.Native.Nat.{ℕ, _+_, _≤_, _<_}
 use mathlib.Core.Path.{_≡_, sym, _∙_, ap}
 use mathlib.Core.Logic.{_≢_, _⊎_, ⊎-elim}
 use mathlib.Core.Bool.{Bool, true, false, or-true}
@@ -17,7 +17,6 @@ use Rattle.interface.specs.declared.Called.{Called}
 use Rattle.fields.specs.Fields.{workerKind, workerTicket}
 use Rattle.fields.specs.Regions.{workerAt}
 use Rattle.machine.specs.Choice.{if_then_else_}
-use Rattle.machine.specs.Plan.{pass}
 use Rattle.layout.specs.Shape.{word, strange, shapeOf}
 use Rattle.calls.specs.Calls.{begunAt, callIn, callWords}
 use Rattle.layout.proofs.Checks.{both-passed}

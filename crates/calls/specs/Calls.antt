@@ -1,6 +1,6 @@
 -- A call on the words, with its refusals in document 01's order, for any words. Rests on the header and on a worker's
 -- words.
-use Prim.Native.Nat.{ℕ, _+_, _-_}
+use Prim.Native.Nat.{ℕ, _+_}
 use mathlib.Core.Bool.{not, _||_}
 use mathlib.Core.List.{List}
 use lib.Dec.{ltb, leb, eqb}

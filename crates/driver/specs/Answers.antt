@@ -35,7 +35,7 @@ unfoldable pub putRows : Output → List (ℕ × ℤ) → Output
 putRows o [] = o
 putRows o (e ∷ t) = putRows (emitted o (printedRow (e .0) (e .1))) t
 
--- n rows of two lists, from place i on
+-- n rows of two lists, from position i on
 unfoldable pub rowsAt : List ℕ → List ℤ → ℕ → ℕ → List (ℕ × ℤ)
 rowsAt accounts totals i zero = []
 rowsAt accounts totals i (suc n) = (getD accounts i 0, getD totals i (pos 0)) ∷ rowsAt accounts totals (suc i) n

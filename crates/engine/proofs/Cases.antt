@@ -1,6 +1,6 @@
 -- The cases of the steps' definitions, in the order in which the code tests them: each takes what the code has read.
 -- Rests on the definitions of the steps.
-use Prim.Native.Nat.{ℕ, _+_, _-_, _≤_, _<_}
+use Prim.Native.Nat.{ℕ, _+_, _≤_, _<_}
 use native.Mathlib.Omega.{arith}
 use mathlib.Core.Path.{_≡_, sym, _∙_, ap}
 use mathlib.Core.Bool.{Bool, true, false, not}

@@ -1,6 +1,6 @@
 -- One step on the words, for any words: each kind of step but the directory swap. Rests on the bucket's functions, on
 -- loads and stores, and on the regions of the lent words. Worker w's record is at p; a bucket's record is at q.
-use Prim.Native.Nat.{ℕ, _+_, _-_}
+use Prim.Native.Nat.{ℕ, _+_}
 use mathlib.Core.Bool.{Bool, not}
 use mathlib.Core.List.{List}
 use mathlib.Core.Option.{Option, none, some}

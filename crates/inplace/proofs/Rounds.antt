@@ -1,5 +1,5 @@
 -- The cases of a round on a bucket's record, in the order in which the code tests them. Rests on the definition of a round.
-use Prim.Native.Nat.{ℕ, _+_, _-_, _*_}
+use Prim.Native.Nat.{ℕ, _+_, _*_}
 use native.Mathlib.Omega.{arith}
 use mathlib.Core.Path.{_≡_, sym, _∙_, ap}
 use mathlib.Core.List.{List}

@@ -1,6 +1,6 @@
 -- A round on a bucket's record, and one worker's update alone, for any words. Rests on what a round makes of a bucket's
 -- state, and on the record's words.
-use Prim.Native.Nat.{ℕ, _+_, _-_, _*_, _≤_, _<_}
+use Prim.Native.Nat.{ℕ, _+_, _*_, _≤_, _<_}
 use mathlib.Core.Path.{_≡_}
 use mathlib.Core.List.{List}
 use lib.Dec.{eqb}
@@ -9,7 +9,7 @@ use Rattle.interface.specs.declared.Settings.{Settings}
 use Rattle.fields.specs.Fields.{slotSize, workerToggle, workerSlots, recordApplied, recordDepth, widestRecord}
 use Rattle.fields.specs.Regions.{workerAt}
 use Rattle.machine.specs.Choice.{if_then_else_}
-use Rattle.rules.specs.Rules.{bit, flipBit}
+use Rattle.rules.specs.Rules.{flipBit}
 use Rattle.rounds.specs.Rounds.{carryOf, withApplied, roundOf}
 use Rattle.rules.specs.declared.Descriptor.{Descriptor}
 use Rattle.lists.specs.Parts.{part}

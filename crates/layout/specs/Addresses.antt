@@ -1,16 +1,16 @@
 -- Which bucket record an account or a worker has, for any words. Rests on the header and on the regions of the lent
 -- words.
-use Prim.Native.Nat.{ℕ, _+_, _-_}
+use Prim.Native.Nat.{ℕ, _+_}
 use mathlib.Core.List.{List}
 use lib.Dec.{leb, eqb}
 use lib.ListN.{length, set}
+use mathlib.Core.Bool.{Bool}
 use Rattle.interface.specs.declared.Settings.{Settings}
 use Rattle.fields.specs.Fields.{workerHeld, widestRecord, slotAccount, workerMarks, workerAccount}
 use Rattle.fields.specs.Regions.{directoryStart, readAt}
 use Rattle.machine.specs.Choice.{if_then_else_}
 use Rattle.machine.specs.Sequential.{firstBits}
 use Rattle.layout.specs.Shape.{word}
-use mathlib.Core.Bool.{Bool}
 use Rattle.rules.specs.Rules.{bit}
 
 -- a word that is to be a record's address, if a whole record fits there; else 0
@@ -25,16 +25,13 @@ recordOf l s a = recordIn l (word l (directoryStart (s .workers) + firstBits (s 
 unfoldable pub heldBy : List ℕ → ℕ → ℕ
 heldBy l p = recordIn l (word l (p + workerHeld))
 
--- ---- the state steps of the directory pass
-
+-- the worker at p has marked slot j in its round of the directory pass
 abbrev pub markedAt : List ℕ → ℕ → ℕ → Bool
 markedAt l p j = eqb (bit (word l (p + workerMarks)) j) 1
 
 -- the record of the bucket that slot j, as the worker at p has read it, belongs to
 abbrev pub recordFor : List ℕ → Settings → ℕ → ℕ → ℕ
 recordFor l s p j = recordOf l s (word l (readAt p j + slotAccount))
-
--- ---- steps that copy words
 
 -- the directory read for the account's bucket
 unfoldable pub bucketReadAt : List ℕ → Settings → ℕ → List ℕ

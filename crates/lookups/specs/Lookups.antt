@@ -1,7 +1,6 @@
 -- A lookup's two steps on the words, for any words. Rests on the search of a record and on the end of an operation.
-use Prim.Native.Nat.{ℕ, zero, suc, _+_, _-_}
+use Prim.Native.Nat.{ℕ, zero, suc, _+_}
 use mathlib.Core.List.{List}
-use mathlib.Core.Option.{none}
 use mir.Syntax.{w64}
 use mir.Val.{toZ}
 use Rattle.interface.specs.declared.Settings.{Settings}

@@ -7,9 +7,9 @@ use mathlib.Core.List.{List, _++_}
 use native.Mathlib.Omega.{arith}
 use lib.ListN.{length, take, drop, getD, set, replicate, length-append, length-drop, length-replicate, replicate-append-replicate}
 use lib.Seq.{length-take-le, getD-drop, set-append-left, take-set-lt, drop-set-lt, take-suc, getD-take}
+use native.Mathlib.Numerals.{add-one}
 use Rattle.lists.specs.Parts.{part, overlay}
 use Rattle.lists.proofs.PartLaws.{overlay-more, overlay-nil, length-overlay, getD-overlay-in, getD-overlay-before, getD-overlay-after}
-use native.Mathlib.Numerals.{add-one}
 use Rattle.memory.specs.Words.{stored}
 
 -- ---- a run laid over words

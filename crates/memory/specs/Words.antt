@@ -1,9 +1,9 @@
 -- The lesser of two numbers, and the words with a part of an array stored in them. Rests on overlays.
 use Prim.Native.Nat.{ℕ}
 use lib.Dec.{ltb}
-use Rattle.machine.specs.Choice.{if_then_else_}
 use mathlib.Core.List.{List}
 use lib.ListN.{take}
+use Rattle.machine.specs.Choice.{if_then_else_}
 use Rattle.lists.specs.Parts.{overlay}
 
 unfoldable pub least : ℕ → ℕ → ℕ

@@ -1,6 +1,5 @@
-// Records in lent words: totals in words and back, one word or a run of words read and written, and a bucket's state
-// loaded and stored. Each contract is an equality with a definition of specs/; an index that a `requires` bounds is
-// not tested again.
+// Lent words: totals in words and back, one word or a run of words read and written, the lesser of two numbers. Each
+// contract is an equality with a definition; an index that a `requires` bounds is not tested again.
 ghost use mathlib.Core.Path.{_≡_};
 ghost use mathlib.Core.Logic.{_⊎_};
 ghost use Prim.Native.Nat.{_+_, _-_, _≤_, _<_};
@@ -36,7 +35,7 @@ pub fn get(words: &[u64], i: usize) -> u64
     words[i]
 }
 
-// The word k places past `at`. The place is taken first, so that several words of one record are read from it.
+// The word k past `at`. The address is taken first, so that several words of one record are read from it.
 pub fn get_from(words: &[u64], at: usize, k: usize) -> u64
     requires { ⌜ at + k < length (now words) ⌝ }
     ensures { λ r. ⌜ r ≡ getD (now (words .entry)) (at + k) 0 ⌝ }
@@ -73,7 +72,7 @@ pub fn copy(words: &mut [u64], from: usize, to: usize, k: usize)
     }
 }
 
-// The word v at each place from `from` to `to`, the last not counted.
+// The word v at each index from `from` to `to`, the last not counted.
 pub fn fill(words: &mut [u64], from: usize, to: usize, v: u64)
     requires { ⌜ to ≤ length (now words) ⌝ }
     ensures { λ _. ⌜ now (words .exit) ≡ overlay (now (words .entry)) from (replicate (to - from) v) ⌝ }

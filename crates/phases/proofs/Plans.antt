@@ -1,4 +1,4 @@
--- Which step of the plan stands at a place, found by comparing the place with the lengths of the plan's parts.
+-- Which step of the plan stands at a position, found by comparing the position with the lengths of the plan's parts.
 -- Rests on the plan, and on the library's laws of lists.
 use Prim.Native.Nat.{ℕ, zero, suc, _+_, _-_, _*_, _≤_, _<_}
 use native.Mathlib.Omega.{arith}
@@ -14,7 +14,7 @@ use Rattle.machine.specs.Choice.{if_then_else_}
 use Rattle.machine.proofs.laws.Base.{if-elim}
 use Rattle.machine.specs.Plan.{Phase, announce, readDirectory, flipToggle, readState, readToggle, swapState, checkState, copyDirectory, swapDirectory, readSlot, resizeFor, each, bucketRound, bucketPass, check, directoryRound, directoryPass, pass, plan, phase}
 
--- ---- a place in a list of parts
+-- ---- a position in a list of parts
 
 abbrev at : List Phase → ℕ → Phase
 at l k = getD l k checkState
@@ -31,7 +31,7 @@ at-behind l m n k e h =
     let p : k ≡ length l + (k - n) = omega arith in
     subst (λ (i : ℕ). at (l ++ m) i ≡ at m (k - n)) (sym p) (getD-append-add l m (k - n) checkState)
 
--- a place in a list that stands twice
+-- a position in a list that stands twice
 pub at-twice : (l : List Phase) (n k r : ℕ) → length l ≡ n → r ≡ (if leb n k then k - n else k) → at (l ++ l) k ≡ at l r
 at-twice l n k r e f =
     rw f

@@ -7,7 +7,6 @@ use mathlib.Core.List.{List}
 use native.Mathlib.Nat.{add-assoc}
 use native.Mathlib.Omega.{arith}
 use lib.ListN.{length, take, getD, set}
-use Rattle.interface.specs.Limits.{greatestCapacity}
 use Rattle.fields.specs.Fields.{recordCount, recordApplied, recordToggle, recordAccounts, accountsFrom, totalsFrom, settledFrom, answersFrom, recordSize}
 use Rattle.bucket.specs.declared.BucketState.{BucketState}
 use Rattle.memory.specs.Words.{least, stored}
@@ -15,17 +14,11 @@ use Rattle.record.specs.Loads.{copied, loadedState, storedState}
 use Rattle.memory.proofs.Runs.{set-before, stored-more, stored-run}
 use Rattle.record.proofs.Runs.{copied-more, copied-same, length-copied}
 use Rattle.memory.proofs.Lesser.{least-bound}
-
--- the arrays of a state have so many items each
-pub record Sized (s : BucketState) : Type 0 where
-  pub accounts : length (s .accounts) ≡ greatestCapacity
-  pub totals : length (s .totals) ≡ greatestCapacity
-  pub settled : length (s .settled) ≡ greatestCapacity
-  pub answers : length (s .answers) ≡ greatestCapacity
+use Rattle.bucket.proofs.Sizes.{Sized}
 
 -- ---- loads
 
--- the state after i accounts and j workers, c and d the count and the applied bits; p, t, u and v are the places of the four runs
+-- the state after i accounts and j workers, c and d the count and the applied bits; p, t, u and v are the addresses of the four runs
 abbrev pub loading : List ℕ → ℕ → ℕ → ℕ → ℕ → ℕ → ℕ → ℕ → ℕ → BucketState
 loading l p t u v i j c d =
     record { accounts = copied l p i; totals = copied l t i; settled = copied l u j; answers = copied l v j; count = c; applied = d }

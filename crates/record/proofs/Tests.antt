@@ -1,8 +1,7 @@
 -- A test of two words of a record that the code has read one after the other.
-use Prim.Native.Nat.{ℕ, _-_}
+use Prim.Native.Nat.{ℕ}
 use mathlib.Core.Path.{_≡_, _∙_, ap}
 use mathlib.Core.Bool.{Bool}
-use Rattle.machine.specs.Choice.{_and_}
 
 -- ---- a bucket's predicates
 

@@ -14,7 +14,7 @@ use Rattle.memory.specs.Words.{least, stored}
 use Rattle.record.specs.Loads.{loadedState, storedState}
 use Rattle.memory.proofs.Runs.{Run, stored-run}
 use Rattle.record.proofs.Runs.{getD-copied}
-use Rattle.record.proofs.States.{Sized}
+use Rattle.bucket.proofs.Sizes.{Sized}
 use Rattle.memory.proofs.Lesser.{least-bound, least-same}
 
 -- y is x as far as a record keeps it: its accounts, and its workers' settled tickets and answers

@@ -1,11 +1,10 @@
--- A bucket's record by the machine's names, for any words: its state, when it is full and what follows from it, and what
--- is settled in it. Rests on loads and stores and on the rules.
-use Prim.Native.Nat.{ℕ, _+_, _-_}
+-- A bucket's record by the machine's names, for any words: its state, when it is full and what follows from it, and
+-- what is settled in it. Rests on loads and stores and on the rules.
+use Prim.Native.Nat.{ℕ, _+_}
 use mathlib.Core.Bool.{Bool}
 use mathlib.Core.List.{List}
 use Rattle.interface.specs.declared.Settings.{Settings}
 use Rattle.fields.specs.Fields.{recordCount, recordDepth, settledFrom, answersFrom}
-use Rattle.machine.specs.Choice.{_and_}
 use Rattle.rules.specs.Rules.{holdsBackBy, splittableBy, crowdedBy}
 use Rattle.bucket.specs.declared.BucketState.{BucketState}
 use Rattle.record.specs.Loads.{loadedState, storedState}

@@ -1,7 +1,7 @@
-// A bucket's record in the lent words: its state loaded and stored, and what is settled in it. Each contract is an equality
-// with a definition of specs/; an index that a `requires` bounds is not tested again.
+// A bucket's record in the lent words: its state loaded and stored, and what is settled in it. Each contract is an
+// equality with a definition of specs/; an index that a `requires` bounds is not tested again.
 ghost use mathlib.Core.Path.{_≡_};
-ghost use Prim.Native.Nat.{_+_, _-_, _≤_, _<_};
+ghost use Prim.Native.Nat.{_+_, _≤_, _<_};
 ghost use lib.ListN.{length};
 ghost use Rattle.interface.specs.Limits.{greatestWorkers, greatestCapacity};
 ghost use Rattle.fields.specs.Fields.{widestRecord};

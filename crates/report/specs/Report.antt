@@ -1,5 +1,5 @@
--- What does not fit into a returned number, in a report: words at its start, an operation's end, and its number. Rests on
--- document 01's numbers.
+-- What does not fit into a returned number, in a report: words at its start, an operation's end, and its number. Rests
+-- on document 01's numbers.
 use Prim.Native.Nat.{ℕ, _+_}
 use mathlib.Core.List.{List, [], _∷_}
 use lib.Dec.{leb}

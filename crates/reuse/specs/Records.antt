@@ -27,7 +27,7 @@ heldByAny l n q = anyHas l n workerHeld q
 unfoldable pub usedAt : List ℕ → Settings → ℕ → Bool
 usedAt l s r = currentAt l s (recordStart s r) || heldByAny l (s .workers) (recordStart s r)
 
--- the next record to use: the first spare one from the place kept in the header on, round the pool
+-- the next record to use: the first spare one from the one kept in the header on, round the pool
 unfoldable pub spareFrom : List ℕ → Settings → ℕ → ℕ → ℕ
 spareFrom l s r zero = r
 spareFrom l s r (suc k) =

@@ -1,6 +1,6 @@
--- What an update, a round and a split make of a bucket's state, for any field values. Rests on the definitions on a state
--- and on the rules.
-use Prim.Native.Nat.{ℕ, zero, suc, _+_, _-_, _*_}
+-- What an update, a round and a split make of a bucket's state, for any field values. Rests on the definitions on a
+-- state and on the rules.
+use Prim.Native.Nat.{ℕ, zero, suc, _-_, _*_}
 use mathlib.Core.Bool.{not}
 use mathlib.Core.List.{List, [], _∷_, _++_, map}
 use lib.Dec.{eqb}

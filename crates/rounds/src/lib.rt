@@ -1,5 +1,5 @@
-// What the two passes do with a bucket's state: one worker's update carried out, a whole round, and a half of a split. Each
-// contract is an equality with a definition of specs/, for any values.
+// What the two passes do with a bucket's state: one worker's update carried out, a whole round, and a half of a split.
+// Each contract is an equality with a definition of specs/, for any values.
 ghost use mathlib.Core.Path.{_≡_};
 ghost use lib.ListN.{length, getD};
 ghost use Rattle.bucket.specs.State.{arraySize};

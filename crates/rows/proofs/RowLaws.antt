@@ -30,7 +30,7 @@ use Rattle.lists.proofs.PartLaws.{overlay-nil, overlay-join, overlay-more}
 -- ---- the accounts of one record
 
 module _ (l : List ℕ) (s : Settings) (e q : ℕ) where
-  -- the row of place i, if it is the entry's
+  -- the row of position i, if it is the entry's
   next : ℕ → List (ℕ × ℤ)
   next i = if eqb (firstBits (s .depth) (word l (accountsFrom q + i))) e then rowAt l s q i ∷ [] else []
 
@@ -126,7 +126,7 @@ module _ {A B : Type 0} (f : A → B) (a w : List B) (k : ℕ) (xs : List A) (e 
       let m : k + length (map f xs) ≡ at = rw length-map (sym n) in
       rw (e, map-append, ← m) (overlay-more a k (map f xs) (f x) (omega arith))
 
--- the rows of the first i accounts of the record at q are written from place k on, and `at` is the place after them
+-- the rows of the first i accounts of the record at q are written from position k on, and `at` is the position after them
 pub record Written (l :
     List ℕ) (s : Settings) (e q k : ℕ) (a : List ℕ) (t : List ℤ) (i : ℕ) (w : List ℕ) (v : List ℤ) (at : ℕ) : Type 0 where
   pub next : at ≡ k + length (rowsIn l s e q 0 i)

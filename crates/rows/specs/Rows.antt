@@ -29,7 +29,7 @@ entryRecord l s e = recordIn l (word l (directoryStart (s .workers) + e))
 unfoldable pub rowAt : List ℕ → Settings → ℕ → ℕ → ℕ × ℤ
 rowAt l s q i = (word l (accountsFrom q + i) % 2 ^ 32, toZ w64 (word l (totalsFrom q (s .capacity) + i)))
 
--- the rows of entry e among the c accounts from place i on of the record at q
+-- the rows of entry e among the c accounts from position i on of the record at q
 unfoldable pub rowsIn : List ℕ → Settings → ℕ → ℕ → ℕ → ℕ → List (ℕ × ℤ)
 rowsIn l s e q i zero = []
 rowsIn l s e q i (suc c) =
@@ -49,14 +49,14 @@ rowsFrom l s e (suc k) = rowsOf l s e ++ rowsFrom l s (suc e) k
 unfoldable pub rows : List ℕ → Settings → List (ℕ × ℤ)
 rows l s = rowsFrom l s 0 (2 ^ s .depth)
 
--- a list of accounts and one of totals with the rows from place k on
+-- a list of accounts and one of totals with the rows from position k on
 abbrev pub accountsWith : List ℕ → ℕ → List (ℕ × ℤ) → List ℕ
 accountsWith accounts k r = overlay accounts k (map (λ x. x .0) r)
 
 abbrev pub totalsWith : List ℤ → ℕ → List (ℕ × ℤ) → List ℤ
 totalsWith totals k r = overlay totals k (map (λ x. x .1) r)
 
--- what both lists are with the rows from place k on
+-- what both lists are with the rows from position k on
 abbrev pub RowsWritten : List ℕ → List ℤ → ℕ → List (ℕ × ℤ) → List ℕ → List ℤ → Type 0
 RowsWritten accounts totals k r accountsAfter totalsAfter =
     (accountsAfter ≡ accountsWith accounts k r) × (totalsAfter ≡ totalsWith totals k r)

@@ -58,7 +58,7 @@ fn count(words: &[u64], g: Settings) -> usize
     k
 }
 
-// The rows of entry e, written from place k on; the place after them.
+// The rows of entry e, written from position k on; the position after them.
 fn write_in(
     words: &[u64],
     g: Settings,

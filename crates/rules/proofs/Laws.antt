@@ -1,5 +1,5 @@
 -- Laws of the rules: the room that is left in a bucket that takes updates, and each case of a pending update. Rests on the rules.
-use Prim.Native.Nat.{ℕ, _-_, _^_, _≤_, _<_}
+use Prim.Native.Nat.{ℕ, _^_, _≤_, _<_}
 use mathlib.Core.Path.{_≡_, ap}
 use mathlib.Core.Logic.{_≢_}
 use mathlib.Core.Bool.{false, not}

@@ -1,6 +1,6 @@
--- The rules that a bucket's words are read by, for any values: when a bucket is full and what follows from it, the update
--- in a slot, single bits, when an update is pending, and the numbers of answers. Rests on the settings, on the names of
--- numbers and words, and on a search's result.
+-- The rules that a bucket's words are read by, for any values: when a bucket is full and what follows from it, the
+-- update in a slot, single bits, when an update is pending, and the numbers of answers. Rests on the settings, on the
+-- names of numbers and words, and on a search's result.
 use Prim.Native.Nat.{ℕ, _+_, _-_, _/_, _%_, _^_}
 use mathlib.Core.Bool.{Bool, not}
 use mathlib.Core.List.{List}
@@ -58,16 +58,6 @@ insertAnswer p = answerBy p (answerNumber Replaced) (answerNumber Added)
 unfoldable pub deleteAnswer : Position → ℕ
 deleteAnswer p = answerBy p (answerNumber Removed) (answerNumber Absent)
 
--- bit j of a word
-unfoldable pub bit : ℕ → ℕ → ℕ
-bit w j = w / 2 ^ j % 2
-
--- worker j's "toggle bit differs from its applied bit" and its "slot's ticket is above its settled one"
-unfoldable pub pendingBy : ℕ → ℕ → ℕ → ℕ → ℕ → Bool
-pendingBy toggle applied j settled ticket = not (eqb (bit toggle j) (bit applied j)) and ltb settled ticket
-
--- ---- a state
-
 -- the answer to an update that a number stands for; none has been given for any other number
 unfoldable pub answerOf : ℕ → Answer
 answerOf k =
@@ -75,7 +65,11 @@ answerOf k =
     else if eqb k (answerNumber Removed) then Removed else if eqb k (answerNumber Absent) then Absent
     else if eqb k (answerNumber Crowded) then Crowded else None
 
--- ---- steps that copy words
+-- ---- single bits
+
+-- bit j of a word
+unfoldable pub bit : ℕ → ℕ → ℕ
+bit w j = w / 2 ^ j % 2
 
 -- bit w of a word changed
 unfoldable pub flipBit : ℕ → ℕ → ℕ
@@ -84,3 +78,9 @@ flipBit x w = if eqb (bit x w) 0 then x + 2 ^ w else x - 2 ^ w
 -- bit j of a word set
 unfoldable pub withBit : ℕ → ℕ → ℕ
 withBit x j = if eqb (bit x j) 0 then x + 2 ^ j else x
+
+-- ---- whether an update is pending
+
+-- worker j's "toggle bit differs from its applied bit" and its "slot's ticket is above its settled one"
+unfoldable pub pendingBy : ℕ → ℕ → ℕ → ℕ → ℕ → Bool
+pendingBy toggle applied j settled ticket = not (eqb (bit toggle j) (bit applied j)) and ltb settled ticket

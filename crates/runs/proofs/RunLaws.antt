@@ -17,7 +17,6 @@ use Rattle.interface.specs.declared.Ran.{Ran}
 use Rattle.fields.specs.Fields.{workerKind, workerSteps, stepsRange}
 use Rattle.fields.specs.Regions.{workerAt}
 use Rattle.machine.specs.Choice.{if_then_else_}
-use Rattle.machine.specs.Plan.{pass}
 use Rattle.machine.proofs.laws.Base.{if-true, if-false}
 use Rattle.memory.specs.Words.{least}
 use Rattle.layout.specs.Shape.{word, strange, shapeOf}

@@ -1,7 +1,6 @@
--- Up to so many steps of one worker, ending early at an answer, with the refusals in document 01's order, for any words.
--- Rests on an operation's step.
-use Prim.Native.Nat.{ℕ, zero, suc, _+_, _-_, _%_}
-use mathlib.Core.Bool.{not}
+-- Up to so many steps of one worker, ending early at an answer, with the refusals in document 01's order, for any
+-- words. Rests on an operation's step.
+use Prim.Native.Nat.{ℕ, zero, suc, _+_, _%_}
 use mathlib.Core.List.{List}
 use mathlib.Core.Option.{Option, none, some}
 use lib.Dec.{leb, eqb}

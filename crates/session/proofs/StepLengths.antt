@@ -1,5 +1,5 @@
--- Each step and each part of the directory swap keeps the number of words, and a state's arrays keep their items.
--- Rests on the bounds of words, on the bucket's laws of arrays, and on the memory's laws of runs and of stored states.
+-- Each step and each part of the directory swap keeps the number of words. Rests on the bounds of words, on the laws of
+-- a state's arrays, and on those of runs and of stored states.
 use Prim.Native.Nat.{ℕ, zero, suc, _+_, _-_, _*_, _%_, _^_, _≤_, _<_}
 use native.Mathlib.Nat.{mod-lt}
 use native.Mathlib.Omega.{arith}
@@ -8,25 +8,17 @@ use mathlib.Core.List.{List}
 use lib.Dec.{ltb, eqb}
 use lib.ListN.{length, set, length-set, length-replicate, replicate}
 use borrow.Author.Tests.{ltb-true}
-use Rattle.interface.specs.Numbers.{kindInsert}
 use Rattle.interface.specs.declared.Settings.{Settings}
 use Rattle.fields.specs.Fields.{headerDepth, headerSpare, slotAccount, slotSize, workerToggle, recordCount, recordApplied, recordToggle, recordDepth, recordPrefix, recordNumber, widestRecord}
 use Rattle.fields.specs.Regions.{slotAt, workerAt, readAt, directoryStart, recordStart}
-use Rattle.machine.specs.Choice.{_and_}
 use Rattle.machine.proofs.laws.Base.{if-elim, and-parts}
-use Rattle.bucket.specs.State.{arraySize, sizeOf, searchOf, putOf, removeOf, settleOf}
-use Rattle.rounds.specs.Rounds.{carryOf, helpOf, helpedOf, withApplied, roundOf, halfOf}
+use Rattle.rounds.specs.Rounds.{halfOf}
 use Rattle.rules.specs.Rules.{fullBy, splittableBy}
 use Rattle.bucket.specs.declared.BucketState.{BucketState}
-use Rattle.rules.specs.declared.Descriptor.{Descriptor}
-use Rattle.arrays.specs.declared.Position.{Position}
-use Rattle.arrays.specs.declared.Position.the-variants.{At, Before}
-use Rattle.arrays.proofs.Laws.{length-inserted, length-removed}
-use Rattle.bucket.proofs.Laws.{size-limit}
-use Rattle.rounds.proofs.Laws.{length-keeps, length-gathered}
 use Rattle.lists.specs.Parts.{part, overlay}
 use Rattle.lists.proofs.PartLaws.{length-part, length-overlay}
-use Rattle.record.proofs.States.{Sized, loaded-sized}
+use Rattle.bucket.proofs.Sizes.{Sized}
+use Rattle.record.proofs.States.{loaded-sized}
 use Rattle.record.proofs.Trips.{length-state}
 use Rattle.layout.specs.Shape.{word, Fits, Whole}
 use Rattle.layout.specs.Addresses.{recordOf}
@@ -37,75 +29,7 @@ use Rattle.reuse.specs.Records.{firstEntry, spareOf}
 use Rattle.splits.specs.Splits.{madeAt, directedAt, halfAt, deepenedAt, splitAt, splitWhileAt, carriedAt, takenAt}
 use Rattle.layout.proofs.Positions.{fits-kept, record-inside, placed}
 use Rattle.reuse.proofs.Pool.{whole-kept, pool-inside, directory-inside, entries-inside, spare-below}
-
--- ---- a state's arrays keep their items
-
-put-sized : (x : BucketState) (p : Position) (a v : ℕ) → Sized x → Sized (putOf x p a v)
-unfolding putOf
-put-sized x (At i) a v z =
-    record { accounts = z .accounts; totals = length-set (x .totals) i v ∙ z .totals; settled = z .settled; answers = z .answers }
-put-sized x (Before i) a v z =
-    if-elim Sized (ltb (sizeOf x) arraySize) _ x
-    (λ t. record {
-      accounts = length-inserted (x .accounts) (sizeOf x) i a ∙ z .accounts;
-      totals = length-inserted (x .totals) (sizeOf x) i v ∙ z .totals;
-      settled = z .settled;
-      answers = z .answers;
-    })
-    (λ t. z)
-
-remove-sized : (x : BucketState) (p : Position) → Sized x → Sized (removeOf x p)
-unfolding removeOf
-remove-sized x (At i) z =
-    record {
-      accounts = length-removed (x .accounts) (sizeOf x) i ∙ z .accounts;
-      totals = length-removed (x .totals) (sizeOf x) i ∙ z .totals;
-      settled = z .settled;
-      answers = z .answers;
-    }
-remove-sized x (Before i) z = z
-
-settle-sized : (x : BucketState) (j t a : ℕ) → Sized x → Sized (settleOf x j t a)
-unfolding settleOf
-settle-sized x j t a z =
-    record {
-      accounts = z .accounts;
-      totals = z .totals;
-      settled = length-set (x .settled) j t ∙ z .settled;
-      answers = length-set (x .answers) j a ∙ z .answers;
-    }
-
-pub carry-sized : (x : BucketState) (j : ℕ) (u : Descriptor) → Sized x → Sized (carryOf x j u)
-unfolding carryOf
-carry-sized x j u z =
-    let p : Position = searchOf x (u .account) in
-    if-elim Sized (eqb (u .kind) kindInsert) _ _ (λ e. settle-sized _ j (u .ticket) _ (put-sized x p (u .account) (u .total) z))
-    (λ e. settle-sized _ j (u .ticket) _ (remove-sized x p z))
-
-helped-sized : (x : BucketState) (slots : List ℕ) (s : Settings) (d toggle n : ℕ) → Sized x → Sized (helpedOf x slots s d toggle n)
-unfolding helpedOf helpOf
-helped-sized x slots s d toggle zero z = z
-helped-sized x slots s d toggle (suc j) z =
-    let y = helped-sized x slots s d toggle j z in
-    if-elim Sized _ _ _ (λ e. carry-sized _ j _ y) (λ e. y)
-
-pub round-sized : (x : BucketState) (slots : List ℕ) (s : Settings) (d toggle : ℕ) → Sized x → Sized (roundOf x slots s d toggle)
-unfolding roundOf withApplied
-round-sized x slots s d toggle z =
-    let y = helped-sized x slots s d toggle (s .workers) z in
-    record { accounts = y .accounts; totals = y .totals; settled = y .settled; answers = y .answers }
-
-pub half-sized : (x : BucketState) (d q : ℕ) → Sized x → Sized (halfOf x d q)
-unfolding halfOf
-half-sized x d q z =
-    let h = length-keeps (x .accounts) d q (sizeOf x) in
-    let k = size-limit x in
-    record {
-      accounts = length-gathered (x .accounts) _ (omega arith);
-      totals = length-gathered (x .totals) _ (omega arith);
-      settled = z .settled;
-      answers = z .answers;
-    }
+use Rattle.rounds.proofs.Sizes.{carry-sized, round-sized, half-sized}
 
 -- ---- lengths after each step
 

@@ -192,7 +192,7 @@ module _ (s : Settings) (range : inRange (s .workers) (s .capacity) (s .depth) �
     abbrev machineAt : ℕ → Machine
     machineAt = stateAt s (machines s) opened [] es
 
-    -- at every place the words mean a good machine
+    -- at every index the words mean a good machine
     pub represents-at : (i : ℕ) → Represents s (wordsAt i) (machineAt i)
     unfolding stateAt opened firstCells newBucket having
     represents-at zero = record {

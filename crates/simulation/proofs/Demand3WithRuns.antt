@@ -30,7 +30,7 @@ leftByEntries l [] = l
 leftByEntries l (e ∷ es) = leftByEntries (next lentWords l e) es
 
 module _ (s : Settings) where
-  -- the words at a place of the list after its first entry
+  -- the words at a position of the list after its first entry
   state-later :
       (l : List ℕ) (e : Entry) (es : List Entry) (i : ℕ)
       → stateAt s lentWords l [] (e ∷ es) (suc i) ≡ stateAt s lentWords (next lentWords l e) [] es i

@@ -125,7 +125,7 @@ items-are x h = ap (λ (c : ℕ). pairs (take c (x .accounts)) (take c (x .total
 -- ---- the rows of one entry
 
 module _ (l : List ℕ) (s : Settings) (e q : ℕ) where
-  -- the accounts and totals from place i on are those of two lists
+  -- the accounts and totals from position i on are those of two lists
   rows-pairs :
       (xs vs : List ℕ) (i : ℕ) → length vs ≡ length xs → Below (2 ^ 32) xs
       → ((k : ℕ) → k < length xs → word l (accountsFrom q + (i + k)) ≡ getD xs k 0)

@@ -117,13 +117,13 @@ spread l (q ∷ qs) = entriesOf l q ++ spread (left l q) qs
 unfoldable pub requestAt : List Request → ℕ → Request
 requestAt qs i = getD qs i (plain (showing 0 0))
 
--- A list with runs, from words l on, by the places of its requests.
+-- A list with runs, from words l on, by the indices of its requests.
 module _ (s : Settings) (l : List ℕ) (qs : List Request) where
-  -- the words before the request at a place
+  -- the words before the request at a position
   abbrev pub wordsBefore : ℕ → List ℕ
   wordsBefore i = leftByAll l (take i qs)
 
-  -- the place of its first entry
+  -- the index of its first entry
   abbrev pub entryIndex : ℕ → ℕ
   entryIndex i = length (spread l (take i qs))
 

@@ -33,7 +33,7 @@ madeAt l s r d q x =
 unfoldable pub directedAt : List ℕ → Settings → ℕ → ℕ → ℕ → List ℕ
 directedAt l s d q r = overlay l (directoryStart (s .workers) + firstEntry s d q) (replicate (2 ^ (s .depth - d)) r)
 
--- one half, in a spare record; the header's place is the next one
+-- one half, in a spare record; the header then has the number after it
 unfoldable pub halfAt : List ℕ → Settings → ℕ → ℕ → BucketState → List ℕ
 halfAt l s d q x =
     let r : ℕ = spareOf l s in

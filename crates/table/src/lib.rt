@@ -1,6 +1,6 @@
-// The table over lent words, as the other crates call it: how many words are needed, opening, calls, steps, runs and the
-// listing. Every one of these functions takes any words and any arguments; its contract equals a definition of specs/ in
-// the crate that it stands in.
+// The table over lent words, as the other crates call it: how many words are needed, opening, calls, steps, runs and
+// the listing. Every one of these functions takes any words and any arguments; its contract equals a definition of
+// specs/ in the crate that it stands in.
 pub use calls::call;
 pub use opening::open;
 pub use opening::words_needed;

@@ -1,5 +1,5 @@
 -- Laws of steps of words that pass the checks. Rests on the definition of a step.
-use Prim.Native.Nat.{ℕ, _+_, _-_, _%_, _<_}
+use Prim.Native.Nat.{ℕ, _+_, _%_, _<_}
 use mathlib.Core.Path.{_≡_, sym, _∙_, ap}
 use mathlib.Core.Logic.{_≢_}
 use mathlib.Core.Bool.{Bool, false}
@@ -11,7 +11,6 @@ use Rattle.interface.specs.declared.Stepped.{Stepped}
 use Rattle.interface.specs.declared.Refusal.{Refusal}
 use Rattle.fields.specs.Fields.{workerKind, workerSteps, stepsRange}
 use Rattle.fields.specs.Regions.{workerAt}
-use Rattle.machine.specs.Plan.{pass}
 use Rattle.machine.proofs.laws.Base.{if-true, if-false}
 use Rattle.layout.specs.Shape.{word, strange, shapeOf}
 use Rattle.updates.specs.Updates.{operationAt}

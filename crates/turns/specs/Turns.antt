@@ -1,6 +1,6 @@
--- A whole step on the words, with its refusals in document 01's order, for any words. Rests on a step of an update and on
--- the search of a record.
-use Prim.Native.Nat.{ℕ, _+_, _-_, _%_}
+-- A whole step on the words, with its refusals in document 01's order, for any words. Rests on a step of an update and
+-- on the search of a record.
+use Prim.Native.Nat.{ℕ, _+_, _%_}
 use mathlib.Core.List.{List}
 use lib.Dec.{leb, eqb}
 use Rattle.interface.specs.Numbers.{kindNone}

@@ -1,8 +1,10 @@
--- A step of an update on the words, by its phase, for any words. Rests on the steps' definitions, on the directory swap,
--- and on the machine's plan.
-use Prim.Native.Nat.{ℕ, zero, suc, _+_, _-_}
+-- A step of an update on the words, by its phase, for any words. Rests on the steps' definitions, on the directory
+-- swap, and on the machine's plan.
+use Prim.Native.Nat.{ℕ, zero, suc, _+_}
 use mathlib.Core.List.{List}
 use mathlib.Core.Option.{Option, none, some}
+use lib.Dec.{eqb}
+use lib.ListN.{set}
 use Rattle.interface.specs.declared.Settings.{Settings}
 use Rattle.interface.specs.declared.Stepped.{Stepped}
 use Rattle.machine.specs.Plan.{Phase, announce, readDirectory, flipToggle, readState, readToggle, swapState, checkState, copyDirectory, swapDirectory, readSlot, resizeFor, phase}
@@ -12,8 +14,6 @@ use Rattle.layout.specs.Addresses.{heldBy, bucketReadAt}
 use Rattle.engine.specs.Engine.{announcedAt, slotReadAt, flippedAt, stateReadAt, toggleReadAt, directoryReadAt, swappedAt, stateStepAt, checkedAt}
 use Rattle.splits.specs.Splits.{redirectedAt}
 use Rattle.calls.specs.Calls.{endedAt}
-use lib.Dec.{eqb}
-use lib.ListN.{set}
 use Rattle.interface.specs.Numbers.{kindLookup}
 use Rattle.machine.specs.Choice.{if_then_else_}
 use Rattle.fields.specs.Fields.{workerKind, workerSteps}

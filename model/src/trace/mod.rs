@@ -4,36 +4,18 @@
 mod chart;
 pub mod command;
 mod labels;
+mod leaf;
 mod looks;
 mod marks;
 pub mod page;
 pub mod record;
 mod words;
 
+pub use leaf::{Leaf, Split};
+
 use crate::records::{Answer, Update};
 use crate::settings::Settings;
 use crate::task::StepKind;
-
-/// A bucket by its depth and prefix.
-#[derive(Clone, Copy, PartialEq, Eq, Debug)]
-pub struct Leaf {
-    pub depth: u32,
-    pub prefix: u32,
-}
-
-impl Leaf {
-    /// Deeper, with the same first bits.
-    fn is_under(&self, top: &Leaf) -> bool {
-        self.depth > top.depth && self.prefix >> (self.depth - top.depth) == top.prefix
-    }
-}
-
-/// A bucket that was split, and the buckets that stand in its place.
-#[derive(Clone, PartialEq, Eq, Debug)]
-pub struct Split {
-    pub old: Leaf,
-    pub into: Vec<Leaf>,
-}
 
 /// An accepted call; its places are those of its list, from 1.
 #[derive(Clone, Debug)]

@@ -1,6 +1,7 @@
 //! Records a run: the driver gives the output of each line, and a machine under all assertions
 //! makes the same steps and knows the moments.
 
+use super::leaf::{leaves, split};
 use super::{words, Effect, Leaf, List, Listing, Met, Operation, Split, Step};
 use crate::check::Checker;
 use crate::fault::Fault;
@@ -8,11 +9,9 @@ use crate::lines::{read_line, Line};
 use crate::machine::{Machine, Report, Stepped};
 use crate::moments::Moment;
 use crate::plain::Plain;
-use crate::records::Bucket;
 use crate::task::Task;
 use crate::totals::{next_line, Driver, LENT};
 use crate::violation::Violation;
-use std::rc::Rc;
 
 /// Records every line of an input; the assertion that fails, if one does.
 pub fn record(mut input: &[u8]) -> Result<Vec<List>, Violation> {
@@ -169,17 +168,6 @@ fn task(machine: &Machine, worker: usize) -> &Task {
     task.expect("an operation is under way")
 }
 
-/// The buckets of a directory's entries, each once.
-pub fn leaves(entries: &[Rc<Bucket>]) -> Vec<Leaf> {
-    let leaf = |bucket: &Rc<Bucket>| Leaf {
-        depth: bucket.depth,
-        prefix: bucket.prefix,
-    };
-    let mut all: Vec<Leaf> = entries.iter().map(leaf).collect();
-    all.dedup();
-    all
-}
-
 /// What the step split: in the current directory, or in the worker's working copy.
 fn splits(machine: &Machine, worker: usize, before: &Task, current: &[Leaf]) -> Vec<Split> {
     let shared = split(current, &leaves(&machine.directory.entries));
@@ -192,18 +180,4 @@ fn splits(machine: &Machine, worker: usize, before: &Task, current: &[Leaf]) -> 
         (Some(old), Some(new)) => split(&leaves(&old.entries), &leaves(&new.entries)),
         _ => shared,
     }
-}
-
-/// The buckets of the first that are not in the second, each with those that stand in its place.
-fn split(old: &[Leaf], new: &[Leaf]) -> Vec<Split> {
-    let gone = old.iter().filter(|leaf| !new.contains(leaf));
-    gone.map(|top| Split {
-        old: *top,
-        into: new
-            .iter()
-            .filter(|leaf| leaf.is_under(top))
-            .copied()
-            .collect(),
-    })
-    .collect()
 }

@@ -1,7 +1,6 @@
 //! What the page says of an operation, a bucket, a line or a step.
 
-use super::record::leaves;
-use super::{Leaf, Split};
+use super::leaf::{leaves, Leaf, Split};
 use crate::machine::Machine;
 use crate::records::{Bucket, Directory, Kind, Update};
 use crate::task::{StepKind, Task};
@@ -58,8 +57,7 @@ fn directory(directory: &Directory) -> String {
 }
 
 fn name(bucket: &Bucket) -> String {
-    let Bucket { depth, prefix, .. } = *bucket;
-    leaf(&Leaf { depth, prefix })
+    leaf(&Leaf::of(bucket))
 }
 
 fn state(bucket: &Bucket) -> String {

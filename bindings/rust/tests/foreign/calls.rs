@@ -1,17 +1,21 @@
-//! Every call over lent words, with guards around whatever is lent, each held against what is expected of it; and
-//! counts of what came back.
+//! Every call over lent words, with guards around whatever is lent: its number, its report and every word that it
+//! leaves are those of the same source compiled as Rust. And counts of what came back.
 
-use crate::expected::{self, Shape};
-use crate::fields::{HEADER_NEEDED, HEADER_SETTINGS, KIND_INSERT, WIDEST_RECORD};
 use crate::lent::{self, told, Lent};
-use crate::random::Random;
+use crate::words::{any_account, any_word, bucket_swaps, directory_swaps};
+use model::prng::Prng;
+use same::capi::capi as source;
+use same::capi::fields::*;
+use same::capi::interface::{GREATEST_KIND, KIND_INSERT, KIND_LOOKUP};
+use same::capi::layout::addresses::{held_by, worker_at};
+use same::capi::layout::shape::{settings_of, strange_words};
 use totals::raw::{self, TOTALS_ADDED, TOTALS_CROWDED, TOTALS_GREATEST_RUN as RUN, TOTALS_IDLE};
-use totals::raw::{TOTALS_MOVED, TOTALS_NARROW, TOTALS_OK, TOTALS_SETTINGS};
+use totals::raw::{TOTALS_MOVED, TOTALS_OK, TOTALS_SETTINGS};
 
 const NAMES: [&str; 6] = ["words_needed", "open", "call", "step", "run", "list"];
 
-/// How often each call gave each number; a number of words needed counts as 0. Of steps, how many carried updates out
-/// in a bucket or split buckets; of runs, how many were held against single steps.
+/// How often each call gave each number; a number of words needed counts as 0. Of steps, how many were a bucket swap
+/// that carried updates out or a directory swap that split; of runs, how many were held against single steps.
 #[derive(Default)]
 pub struct Figures {
     counts: [[u64; TOTALS_CROWDED as usize + 1]; NAMES.len()],
@@ -36,6 +40,26 @@ impl Figures {
         self.counts[call][number as usize]
     }
 
+    /// Counts an update's step that was a bucket swap or a directory swap and changed more than numbers and bits.
+    fn add_swap(&mut self, before: &[u64], after: &[u64], worker: u64) {
+        let s = settings_of(before[HEADER_SETTINGS]);
+        let (p, q) = (worker_at(s, worker as usize), held_by(before, s, worker as usize));
+        if before[p + WORKER_KIND] == KIND_LOOKUP {
+            return;
+        }
+        let steps = before[p + WORKER_STEPS] % STEPS_RANGE;
+        let (count, always) = if bucket_swaps(s).contains(&steps) {
+            (&mut self.carried, [q + RECORD_NUMBER, q + RECORD_APPLIED])
+        } else if directory_swaps(s).contains(&steps) {
+            (&mut self.split, [HEADER_NUMBER; 2])
+        } else {
+            return;
+        };
+        let is_item = |at: &usize| *at != p + WORKER_STEPS && !always.contains(at);
+        let changed = (0..before.len()).filter(is_item).any(|at| before[at] != after[at]);
+        *count += u64::from(changed);
+    }
+
     pub fn print(&self, class: &str) {
         println!("{class}: {} calls", self.calls());
         println!(
@@ -53,14 +77,14 @@ impl Figures {
 /// Words under test.
 pub struct Trial<'a> {
     words: Lent<u64>,
-    random: &'a mut Random,
+    prng: &'a mut Prng,
     figures: &'a mut Figures,
 }
 
 impl<'a> Trial<'a> {
-    pub fn new(words: &[u64], random: &'a mut Random, figures: &'a mut Figures) -> Trial<'a> {
-        let words = Lent::new(words, random.next());
-        Trial { words, random, figures }
+    pub fn new(words: &[u64], prng: &'a mut Prng, figures: &'a mut Figures) -> Trial<'a> {
+        let words = Lent::new(words, prng.draw());
+        Trial { words, prng, figures }
     }
 
     pub fn words(&self) -> &[u64] {
@@ -69,16 +93,16 @@ impl<'a> Trial<'a> {
 
     pub fn needed(&mut self, workers: u64, capacity: u64, depth: u64) {
         let number = unsafe { raw::totals_words_needed(workers, capacity, depth) };
-        let want = expected::in_range(workers, capacity, depth).map_or(TOTALS_SETTINGS, |s| s.words_needed() as u64);
-        assert_eq!(number, want);
+        assert_eq!(number, source::same_totals_words_needed(workers, capacity, depth));
         self.figures.add("words_needed", if number == TOTALS_SETTINGS { number } else { TOTALS_OK });
     }
 
     pub fn open(&mut self, workers: u64, capacity: u64, depth: u64) -> u64 {
         let mut want = self.words().to_vec();
+        let want_number = source::same_totals_open(&mut want, workers, capacity, depth);
         let w = self.words.items_mut();
         let number = unsafe { raw::totals_open(w.as_mut_ptr(), w.len(), workers, capacity, depth) };
-        assert_eq!(number, expected::open(&mut want, workers, capacity, depth));
+        assert_eq!(number, want_number);
         self.same(&want);
         self.figures.add("open", number);
         number
@@ -86,45 +110,48 @@ impl<'a> Trial<'a> {
 
     pub fn call(&mut self, worker: u64, kind: u64, account: u32, total: i64) -> u64 {
         let mut want = self.words().to_vec();
+        let want_number = source::same_totals_call(&mut want, worker, kind, account, total);
         let w = self.words.items_mut();
         let number = unsafe { raw::totals_call(w.as_mut_ptr(), w.len(), worker, kind, account, total) };
-        assert_eq!(number, expected::call(&mut want, worker, kind, account, total));
+        assert_eq!(number, want_number);
         self.same(&want);
         self.figures.add("call", number);
         number
     }
 
-    /// One step; also what it told.
+    /// One step; also what was told where it answered and the report had room.
     pub fn step(&mut self, worker: u64) -> (u64, Option<[u64; 2]>) {
-        let mut want = self.words().to_vec();
-        let mut report = self.report();
+        let (before, mut report) = (self.words().to_vec(), self.report());
+        let (mut want, mut want_report) = (before.clone(), report.items().to_vec());
+        let want_number = source::same_totals_step(&mut want, worker, &mut want_report);
         let (w, r) = (self.words.items_mut(), report.items_mut());
-        let before = r.to_vec();
         let number = unsafe { raw::totals_step(w.as_mut_ptr(), w.len(), worker, r.as_mut_ptr(), r.len()) };
-        let step = expected::step(&mut want, worker);
-        assert_eq!(number, step.number, "step of worker {worker}");
-        told(&report, before, step.told.as_ref().map_or(&[], |words| words));
-        let unsaid = step.unsaid;
-        self.figures.carried += u64::from(unsaid.len() == WIDEST_RECORD);
-        self.figures.split += u64::from(unsaid.len() > WIDEST_RECORD);
-        want[unsaid.clone()].copy_from_slice(&self.words()[unsaid]);
+        assert_eq!(number, want_number, "step of worker {worker}");
         self.same(&want);
+        report.holds(&want_report);
+        if number == TOTALS_MOVED {
+            self.figures.add_swap(&before, &want, worker);
+        }
         self.figures.add("step", number);
-        (number, step.told)
+        let answered = number >= TOTALS_ADDED && want_report.len() >= 2;
+        (number, answered.then(|| [want_report[0], want_report[1]]))
     }
 
-    /// Up to so many steps, held against as many single steps on a copy of the words.
+    /// Up to so many steps, held also against as many single steps on a copy of the words.
     pub fn run(&mut self, worker: u64, most: u64) -> u64 {
-        let first = self.words().to_vec();
-        let mut report = self.report();
+        let (first, mut report) = (self.words().to_vec(), self.report());
+        let before = report.items().to_vec();
+        let (mut want, mut want_report) = (first.clone(), before.clone());
+        let want_number = source::same_totals_run(&mut want, worker, most, &mut want_report);
         let (w, r) = (self.words.items_mut(), report.items_mut());
-        let before = r.to_vec();
         let number = unsafe { raw::totals_run(w.as_mut_ptr(), w.len(), worker, most, r.as_mut_ptr(), r.len()) };
-        assert!(report.intact() && self.words.intact());
-        if let Some((want_number, want_told, want)) = steps(first, worker, most) {
-            assert_eq!(number, want_number, "run of worker {worker}, {most}");
-            told(&report, before, want_told.as_ref().map_or(&[], |words| words));
-            self.same(&want);
+        assert_eq!(number, want_number, "run of worker {worker}, {most}");
+        self.same(&want);
+        report.holds(&want_report);
+        if let Some((number_stepped, told_stepped, left)) = steps(first, worker, most) {
+            assert_eq!(number, number_stepped, "single steps of worker {worker}, {most}");
+            told(&report, before, told_stepped.as_ref().map_or(&[], |words| words));
+            self.same(&left);
             self.figures.compared += 1;
         }
         self.figures.add("run", number);
@@ -133,24 +160,20 @@ impl<'a> Trial<'a> {
 
     /// The listing, into lists that are a place too short, fit, or are up to two places longer.
     pub fn list(&mut self) -> u64 {
-        let rows = expected::rows(self.words());
-        let count = rows.as_ref().map_or(0, Vec::len);
-        let mut places = || (count + self.random.place(3)).saturating_sub(usize::from(self.random.one_in(4)));
+        let count = rows(self.words()).map_or(0, |rows| rows.len());
+        let mut places = || (count + self.prng.place(3)).saturating_sub(usize::from(self.prng.one_in(4)));
         let places = [places(), places()];
-        let listed = match rows {
-            Ok(rows) if places.iter().any(|places| *places < rows.len()) => Err(TOTALS_NARROW),
-            other => other,
-        };
+        let want = listing(self.words(), places);
         let report = self.report();
-        let number = lent::list(&self.words, places, report, listed);
+        let number = lent::list(&self.words, places, report, want);
         self.figures.add("list", number);
         number
     }
 
     /// A report of 0 to 3 places.
     fn report(&mut self) -> Lent<u64> {
-        let items: Vec<u64> = (0..self.random.below(4)).map(|_| self.random.next()).collect();
-        Lent::new(&items, self.random.next())
+        let items: Vec<u64> = (0..self.prng.below(4)).map(|_| self.prng.draw()).collect();
+        Lent::new(&items, self.prng.draw())
     }
 
     fn same(&self, want: &[u64]) {
@@ -164,17 +187,17 @@ impl<'a> Trial<'a> {
     /// One random call, to a worker that may be there, of any kind.
     pub fn any_call(&mut self, lists: u64) -> u64 {
         let first = self.words().get(HEADER_SETTINGS).copied().unwrap_or(0);
-        let workers = Shape::of(first).workers as u64;
-        let worker = match self.random.below(16) {
-            0 => self.random.word(8),
+        let workers = settings_of(first).workers;
+        let worker = match self.prng.below(16) {
+            0 => any_word(self.prng, 8),
             1 => workers,
-            _ => self.random.below(workers),
+            _ => self.prng.below(workers),
         };
-        match self.random.below(16) {
-            0 if self.random.one_in(lists) => self.list(),
+        match self.prng.below(16) {
+            0 if self.prng.one_in(lists) => self.list(),
             0..=3 => self.any_operation(worker),
             4 => {
-                let most = self.random.of(&[0, 1, 2, 9, 60, RUN - 1, RUN, RUN + 1, u64::MAX]);
+                let most = self.prng.one_of(&[0, 1, 2, 9, 60, RUN - 1, RUN, RUN + 1, u64::MAX]);
                 self.run(worker, most)
             }
             _ => self.step(worker).0,
@@ -182,21 +205,28 @@ impl<'a> Trial<'a> {
     }
 
     pub fn any_operation(&mut self, worker: u64) -> u64 {
-        let kind = if self.random.one_in(16) { self.random.word(4) } else { KIND_INSERT + self.random.below(3) };
-        let account = any_account(self.random);
-        let total = self.random.next() as i64;
+        let any = self.prng.one_in(16);
+        let kind = if any { any_word(self.prng, 4) } else { self.prng.between(KIND_INSERT, GREATEST_KIND) };
+        let account = any_account(self.prng);
+        let total = self.prng.draw() as i64;
         self.call(worker, kind, account, total)
     }
 }
 
-/// Accounts that share buckets: few, and spread over the first bits.
-pub fn any_account(random: &mut Random) -> u32 {
-    let low = random.below(4) as u32;
-    match random.below(3) {
-        0 => low,
-        1 => low | (random.below(8) as u32) << 29,
-        _ => low | (random.below(256) as u32) << 24,
+/// What the source lists into lists of so many places, or the refusal's number.
+fn listing(w: &[u64], [account_places, total_places]: [usize; 2]) -> Result<Vec<(u32, i64)>, u64> {
+    let (mut accounts, mut totals, mut report) = (vec![0; account_places], vec![0; total_places], [0]);
+    match source::same_totals_list(w, &mut accounts, &mut totals, &mut report) {
+        TOTALS_OK => Ok(accounts.into_iter().zip(totals).take(report[0] as usize).collect()),
+        number => Err(number),
     }
+}
+
+/// The rows of a listing, or the refusal of strange words.
+pub fn rows(w: &[u64]) -> Result<Vec<(u32, i64)>, u64> {
+    let strange = strange_words(w);
+    let s = settings_of(if strange { 0 } else { w[HEADER_SETTINGS] });
+    listing(w, [(s.capacity << s.depth) as usize; 2])
 }
 
 /// A run's number, what it tells, and the words it leaves.
@@ -207,15 +237,14 @@ type Run = (u64, Option<[u64; 2]>, Vec<u64>);
 fn steps(mut w: Vec<u64>, worker: u64, most: u64) -> Option<Run> {
     let head = |w: &[u64]| w.get(HEADER_SETTINGS..=HEADER_NEEDED).map(<[u64]>::to_vec);
     let first = head(&w);
-    let refusal = expected::step(&mut w.clone(), worker).number;
+    let refusal = source::same_totals_step(&mut w.clone(), worker, &mut []);
     if refusal != TOTALS_MOVED && refusal < TOTALS_ADDED {
         return Some((refusal, None, w));
     }
     let most = most.min(RUN);
     for k in 0..most {
         let mut report = [0; 2];
-        let (places, at) = (report.len(), report.as_mut_ptr());
-        let number = unsafe { raw::totals_step(w.as_mut_ptr(), w.len(), worker, at, places) };
+        let number = source::same_totals_step(&mut w, worker, &mut report);
         if head(&w) != first {
             return None;
         }

@@ -32,13 +32,20 @@ impl<T: Copy + PartialEq> Lent<T> {
     }
 }
 
+impl Lent<u64> {
+    /// A report has these words, and no guard was written.
+    pub fn holds(&self, words: &[u64]) {
+        assert!(self.intact(), "a word outside the report was written");
+        assert_eq!(self.items(), words);
+    }
+}
+
 /// A report has what was told at its start, if it fits, and else what it had.
 pub fn told(report: &Lent<u64>, mut before: Vec<u64>, told: &[u64]) {
-    assert!(report.intact(), "a word outside the report was written");
     if told.len() <= before.len() {
         before[..told.len()].copy_from_slice(told);
     }
-    assert_eq!(report.items(), before);
+    report.holds(&before);
 }
 
 /// The listing into lists of so many places, held against the rows or the refusal that are to come.

@@ -1,18 +1,17 @@
-//! Foreign words lent to every call: random words, damaged tables, and words made to mislead, from fixed seeds. Every
-//! call is held against the definitions; what was lent has guards around it.
+//! Foreign words lent to every call: random words, damaged tables, and words made to mislead, from fixed seeds. What
+//! a call gives and every word that it leaves are held against the same source compiled as Rust; what was lent has
+//! guards around it.
 mod calls;
-mod expected;
-mod fields;
 mod lent;
-mod random;
 mod words;
 
-use calls::{Figures, Trial};
-use expected::Shape;
-use fields::{KIND_INSERT, KIND_NONE, WORKER_KIND};
-use random::Random;
-use std::collections::BTreeMap;
+use calls::{rows, Figures, Trial};
+use model::prng::Prng;
+use same::capi::fields::WORKER_KIND;
+use same::capi::interface::{Settings, KIND_INSERT, KIND_NONE};
+use same::capi::layout::addresses::worker_at;
 use totals::raw::*;
+use words::{any_word, words_needed};
 
 /// What calls give over words of any kind, and what the listing does.
 const CALLED: [u64; 6] = [TOTALS_OK, TOTALS_STRANGER, TOTALS_BUSY, TOTALS_KIND, TOTALS_SPENT, TOTALS_STRANGE];
@@ -24,13 +23,13 @@ const UPDATED: [u64; 4] = [TOTALS_ADDED, TOTALS_REPLACED, TOTALS_REMOVED, TOTALS
 const LOOKED_UP: [u64; 2] = [TOTALS_FOUND, TOTALS_NONE];
 
 /// So many random calls on words, and at the end the calls that take settings.
-fn calls_on(w: &[u64], calls: u64, lists: u64, random: &mut Random, figures: &mut Figures) {
-    let mut choices = Random::new(random.next());
-    let mut trial = Trial::new(w, random, figures);
+fn calls_on(w: &[u64], calls: u64, lists: u64, prng: &mut Prng, figures: &mut Figures) {
+    let mut choices = Prng::new(prng.draw());
+    let mut trial = Trial::new(w, prng, figures);
     for _ in 0..calls {
         trial.any_call(lists);
     }
-    let mut setting = || if choices.one_in(8) { choices.word(20) } else { choices.below(18) };
+    let mut setting = || if choices.one_in(8) { any_word(&mut choices, 20) } else { choices.below(18) };
     let (workers, capacity, depth) = (setting(), setting(), setting() % 10);
     trial.needed(workers, capacity, depth);
     trial.open(workers, capacity, depth);
@@ -45,11 +44,11 @@ fn gave(figures: &Figures, name: &str, numbers: &[u64]) {
 }
 
 /// So many calls at least over words of one class, and what they gave.
-fn class(title: &str, seed: u64, calls: u64, more: impl Fn(&mut Random, &mut Figures)) -> Figures {
-    let mut random = Random::new(seed);
+fn class(title: &str, seed: u64, calls: u64, more: impl Fn(&mut Prng, &mut Figures)) -> Figures {
+    let mut prng = Prng::new(seed);
     let mut figures = Figures::default();
     while figures.calls() < calls {
-        more(&mut random, &mut figures);
+        more(&mut prng, &mut figures);
     }
     figures.print(title);
     figures
@@ -57,9 +56,9 @@ fn class(title: &str, seed: u64, calls: u64, more: impl Fn(&mut Random, &mut Fig
 
 #[test]
 fn random_words() {
-    let figures = class("random words", 1, 400_000, |random, figures| {
-        let w = words::random(random);
-        calls_on(&w, 30, 4, random, figures);
+    let figures = class("random words", 1, 400_000, |prng, figures| {
+        let w = words::random(prng);
+        calls_on(&w, 30, 4, prng, figures);
     });
     gave(&figures, "open", &[TOTALS_OK, TOTALS_SETTINGS, TOTALS_SHORT]);
     gave(&figures, "call", &CALLED);
@@ -70,11 +69,11 @@ fn random_words() {
 
 #[test]
 fn damaged_tables() {
-    let figures = class("damaged tables", 2, 800_000, |random, figures| {
-        let w = words::worked_on(random);
+    let figures = class("damaged tables", 2, 800_000, |prng, figures| {
+        let w = words::worked_on(prng);
         for _ in 0..4 {
-            let damaged = words::damaged(&w, random);
-            calls_on(&damaged, 60, 2, random, figures);
+            let damaged = words::damaged(&w, prng);
+            calls_on(&damaged, 60, 2, prng, figures);
         }
     });
     gave(&figures, "call", &CALLED);
@@ -87,9 +86,9 @@ fn damaged_tables() {
 
 #[test]
 fn misleading_words() {
-    let figures = class("misleading words", 3, 400_000, |random, figures| {
-        let w = words::misleading(random);
-        calls_on(&w, 30, 4, random, figures);
+    let figures = class("misleading words", 3, 400_000, |prng, figures| {
+        let w = words::misleading(prng);
+        calls_on(&w, 30, 4, prng, figures);
     });
     gave(&figures, "call", &CALLED);
     gave(&figures, "step", &[&UNENDED[..], &LOOKED_UP, &[TOTALS_CROWDED]].concat());
@@ -99,12 +98,12 @@ fn misleading_words() {
 
 #[test]
 fn tables_that_nothing_damaged_are_never_strange() {
-    let figures = class("undamaged tables", 4, 200_000, |random, figures| {
-        let s = words::settings(random);
-        let w = words::noise(s.words_needed() + random.place(3), random);
-        let mut choices = Random::new(random.next());
-        let mut trial = Trial::new(&w, random, figures);
-        assert_eq!(trial.open(s.workers as u64, s.capacity as u64, u64::from(s.depth)), TOTALS_OK);
+    let figures = class("undamaged tables", 4, 200_000, |prng, figures| {
+        let s = words::settings(prng);
+        let w = words::noise(words_needed(s) + prng.place(3), prng);
+        let mut choices = Prng::new(prng.draw());
+        let mut trial = Trial::new(&w, prng, figures);
+        assert_eq!(trial.open(s.workers, s.capacity, s.depth), TOTALS_OK);
         for _ in 0..1000 {
             undamaged_call(&mut trial, s, &mut choices);
         }
@@ -114,16 +113,16 @@ fn tables_that_nothing_damaged_are_never_strange() {
 }
 
 /// A call on a table that nothing damaged: it is not strange, answers come at their steps, and the listing ascends.
-fn undamaged_call(trial: &mut Trial, s: Shape, random: &mut Random) {
-    let worker = random.below(s.workers as u64);
-    let idle = trial.words()[s.worker_at(worker as usize) + WORKER_KIND] == KIND_NONE;
-    let number = match random.below(40) {
+fn undamaged_call(trial: &mut Trial, s: Settings, prng: &mut Prng) {
+    let worker = prng.below(s.workers);
+    let idle = trial.words()[worker_at(s, worker as usize) + WORKER_KIND] == KIND_NONE;
+    let number = match prng.below(40) {
         0 => trial.list(),
         1 => trial.any_operation(worker),
         2..=30 if idle => trial.any_operation(worker),
         _ => {
             let (number, told) = trial.step(worker);
-            let n = s.workers as u64;
+            let n = s.workers;
             let ends = if LOOKED_UP.contains(&number) {
                 vec![2]
             } else {
@@ -134,47 +133,20 @@ fn undamaged_call(trial: &mut Trial, s: Shape, random: &mut Random) {
         }
     };
     assert_ne!(number, TOTALS_STRANGE);
-    let rows = expected::rows(trial.words()).expect("a table");
+    let rows = rows(trial.words()).expect("a table");
     assert!(rows.windows(2).all(|pair| pair[0].0 < pair[1].0), "not ascending");
-    assert!(rows.len() <= s.capacity * s.span());
+    assert!(rows.len() <= (s.capacity << s.depth) as usize);
 }
 
 #[test]
 fn zeros_are_strange() {
-    let mut random = Random::new(5);
+    let mut prng = Prng::new(5);
     let mut figures = Figures::default();
     for length in (0..2000).chain([8192, 15_169, 100_000]) {
         let w = vec![0; length];
-        let mut trial = Trial::new(&w, &mut random, &mut figures);
+        let mut trial = Trial::new(&w, &mut prng, &mut figures);
         let given = [trial.call(0, KIND_INSERT, 5, 700), trial.step(0).0, trial.run(0, 9), trial.list()];
         assert_eq!(given, [TOTALS_STRANGE; 4]);
     }
     figures.print("zeros");
-}
-
-/// The constants that a text gives as plain numbers.
-fn constants(text: &str) -> BTreeMap<&str, u64> {
-    let constant = |line| {
-        let (name, rest) = str::strip_prefix(line, "pub const ")?.split_once(": ")?;
-        let number = rest.split_once(" = ")?.1.strip_suffix(';')?;
-        Some((name, number.replace('_', "").parse().ok()?))
-    };
-    text.lines().map(str::trim_start).filter_map(constant).collect()
-}
-
-#[test]
-fn names_and_numbers_are_those_of_the_crates() {
-    let own = constants(include_str!("fields.rs"));
-    let mut compared = 0;
-    for text in
-        [include_str!("../../../../crates/fields/src/lib.rt"), include_str!("../../../../crates/interface/src/lib.rt")]
-    {
-        for (name, number) in constants(text) {
-            if let Some(own) = own.get(name) {
-                assert_eq!(*own, number, "{name}");
-                compared += 1;
-            }
-        }
-    }
-    assert!(compared > 30, "{compared}");
 }

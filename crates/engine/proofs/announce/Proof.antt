@@ -1,5 +1,5 @@
 -- `announce` copies a worker's operation into its slot.
--- Rests on the place of a worker's words.
+-- Rests on the address of a worker's words.
 use native.Mathlib.Omega.{arith}
 use mathlib.Core.Logic.{inr}
 use borrow.Author.Needs.{needs}

@@ -1,5 +1,5 @@
 -- `read_slot` copies a slot into a worker's record.
--- Rests on the place of a worker's words.
+-- Rests on the address of a worker's words.
 use native.Mathlib.Omega.{arith}
 use mathlib.Core.Logic.{inl}
 use borrow.Author.Needs.{needs}

@@ -9,8 +9,7 @@ use lib.Dec.{ltb}
 use lib.ListN.{length, getD, List·getD-eq-default}
 use borrow.Author.Tests.{lt-ltb, le-ltb}
 use Rattle.machine.specs.Choice.{if_then_else_}
-use Rattle.machine.specs.Plan.{Phase, readDirectory, flipToggle, readState, readToggle, swapState, checkState, copyDirectory, swapDirectory}
-use Rattle.machine.specs.Plan.{readSlot, resizeFor, each, bucketRound, bucketPass, check, directoryRound, directoryPass, pass, plan, phase}
+use Rattle.machine.specs.Plan.{Phase, readDirectory, flipToggle, readState, readToggle, swapState, checkState, copyDirectory, swapDirectory, readSlot, resizeFor, each, bucketRound, bucketPass, check, directoryRound, directoryPass, pass, plan, phase}
 use Rattle.machine.proofs.laws.Base.{if-true, if-false}
 use Rattle.machine.specs.Counter.{Two, one, two, BStep, readS, readT, swap, slotB, DStep, copyD, swapD, slotD, state, PC, idle, announce, look₁, look₂, over, readD, flip, checkD, checkS, inB, inD, inPass, eachCounter, bucketCounters, checkCounters, directoryCounters, passCounters, counters, counter}
 

@@ -15,13 +15,11 @@ use borrow.Author.Tests.{ltb-true, ltb-false}
 use Rattle.interface.specs.declared.Settings.{Settings}
 use Rattle.interface.specs.declared.Answer.the-variants.{Added, Replaced, Removed, Absent, Crowded}
 use Rattle.machine.specs.Choice.{if_then_else_}
-use Rattle.machine.specs.Sequential.{Update, insert, delete, update, account, firstBits, Table, find, put, remove, having, present, result}
-use Rattle.machine.specs.Sequential.{changed, crowds, serve}
+use Rattle.machine.specs.Sequential.{Update, insert, delete, update, account, firstBits, Table, find, put, remove, having, present, result, changed, crowds, serve, AccountsAbove, Ascending}
 use Rattle.machine.specs.Records.{Body}
 use Rattle.machine.specs.BucketPass.{full}
 use Rattle.machine.proofs.laws.Base.{if-elim, if-true, if-false, eq-elim, if-eq, if-ne, none-some}
 use Rattle.machine.proofs.laws.Bits.{bits-mono}
-use Rattle.machine.specs.Sequential.{AccountsAbove, Ascending}
 
 -- ---- tables by their first entry
 

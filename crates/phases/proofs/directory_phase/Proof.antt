@@ -1,5 +1,5 @@
--- `directory_phase` gives the step at a place of the directory pass.
--- Rests on the laws of the plan's places.
+-- `directory_phase` gives the step at a position of the directory pass.
+-- Rests on the laws of the plan's positions.
 use Prim.Native.Nat.{_+_, _*_}
 use native.Mathlib.Omega.{arith}
 use mathlib.Core.Path.{sym, _∙_}

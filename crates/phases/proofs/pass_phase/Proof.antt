@@ -1,5 +1,5 @@
--- `pass_phase` gives the step at a place of a pass.
--- Rests on the laws of the plan's places.
+-- `pass_phase` gives the step at a position of a pass.
+-- Rests on the laws of the plan's positions.
 use native.Mathlib.Omega.{arith}
 use mathlib.Core.Path.{sym, _∙_}
 use borrow.Author.Needs.{needs}

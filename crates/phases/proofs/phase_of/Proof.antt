@@ -1,5 +1,5 @@
 -- `phase_of` gives the step that comes after k own steps.
--- Rests on the laws of the plan's places.
+-- Rests on the laws of the plan's positions.
 use native.Mathlib.Omega.{arith}
 use mathlib.Core.Path.{sym, _∙_}
 use borrow.Author.Needs.{needs}

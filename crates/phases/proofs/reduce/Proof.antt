@@ -1,4 +1,4 @@
--- `reduce` takes one round off a place past it.
+-- `reduce` takes one round off a position past it.
 -- Rests on nothing but the test.
 use mathlib.Core.Path.{sym}
 use borrow.Author.Tests.{le-leb, lt-leb}

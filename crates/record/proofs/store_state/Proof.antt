@@ -9,7 +9,8 @@ use Rattle.fields.specs.Fields.{widestRecord}
 use Rattle.memory.specs.Words.{stored}
 use Rattle.record.specs.Loads.{storedState}
 use Rattle.memory.proofs.Runs.{stored-none}
-use Rattle.record.proofs.States.{Sized, pair-stored, state-stored}
+use Rattle.bucket.proofs.Sizes.{Sized}
+use Rattle.record.proofs.States.{pair-stored, state-stored}
 use Rattle.memory.proofs.Lesser.{count-bound}
 use Rattle.record.proofs.Trips.{length-state}
 use borrow.Author.Needs.{needs}

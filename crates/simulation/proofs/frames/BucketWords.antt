@@ -1,45 +1,38 @@
 -- The words of a bucket record: what a state loaded from them depends on, a state stored in them, and a round on them.
 -- Rests on the laws of loads and stores and on what a round means.
-use Prim.Native.Nat.{ℕ, zero, suc, _+_, _*_, _≤_, _<_}
+use Prim.Native.Nat.{ℕ, _+_, _*_, _≤_, _<_}
 use native.Mathlib.Omega.{arith}
 use mathlib.Core.Path.{_≡_, refl, ap, sym, _∙_, subst}
 use mathlib.Core.Logic.{_⊎_, ⊎-elim}
 use mathlib.Core.Bool.{Bool, true}
 use mathlib.Core.List.{List}
-use lib.Dec.{ltb, eqb}
 use lib.ListN.{length, getD, set, take}
 use lib.Seq.{ext-getD, length-take-le, getD-take, getD-set-other}
-use borrow.Author.Tests.{not-true, ltb-false}
 use Rattle.interface.specs.Limits.{inRange, Range, greatestWorkers, greatestCapacity}
-use Rattle.interface.specs.Numbers.{kindInsert}
 use Rattle.interface.proofs.Laws.{range-of}
 use Rattle.interface.specs.declared.Settings.{Settings}
 use Rattle.machine.specs.Records.{State, Slot}
 use Rattle.machine.specs.BucketPass.{nextState}
 use Rattle.fields.specs.Fields.{slotSize, workerToggle, workerSlots, recordCount, recordApplied, recordToggle, recordDepth, recordAccounts, accountsFrom, recordSize, widestRecord}
 use Rattle.fields.specs.Regions.{poolSize, wordsNeeded, record′, startOf}
-use Rattle.machine.proofs.laws.Base.{if-elim, eq-elim, and-parts}
+use Rattle.machine.proofs.laws.Base.{eq-elim}
 use Rattle.bucket.specs.declared.BucketState.{BucketState}
-use Rattle.rules.specs.declared.Descriptor.{Descriptor}
-use Rattle.arrays.specs.declared.Position.{Position}
-use Rattle.arrays.specs.declared.Position.the-variants.{At, Before}
-use Rattle.bucket.specs.State.{arraySize, sizeOf, searchOf, putOf, removeOf, settleOf}
-use Rattle.rounds.specs.Rounds.{carryOf, helpOf, helpedOf, withApplied, roundOf}
-use Rattle.rules.specs.Rules.{bit}
+use Rattle.bucket.specs.State.{arraySize}
+use Rattle.rounds.specs.Rounds.{roundOf}
 use Rattle.simulation.specs.Buckets.{itemsOf, settledOf, bitsOf, slotOf, SoundSlots, Means}
 use Rattle.bucket.proofs.Laws.{size-is}
-use Rattle.rounds.proofs.Laws.{help-left}
-use Rattle.rules.proofs.Laws.{room-left, pending-same}
 use Rattle.simulation.proofs.buckets.Ties.{round-means}
 use Rattle.lists.specs.Parts.{part}
 use Rattle.record.specs.Loads.{loadedState, storedState}
 use Rattle.fields.proofs.Regions.{record-inside}
-use Rattle.record.proofs.States.{Sized, loaded-kept, loaded-sized, loaded-count}
+use Rattle.bucket.proofs.Sizes.{Sized}
+use Rattle.record.proofs.States.{loaded-kept, loaded-sized, loaded-count}
 use Rattle.memory.proofs.Lesser.{least-bound}
 use Rattle.record.proofs.Trips.{Same, length-state, count-word, state-elsewhere, trip}
 use Rattle.layout.specs.Shape.{word}
 use Rattle.inplace.specs.InPlace.{roundAt}
 use Rattle.simulation.specs.Meaning.{at}
+use Rattle.rounds.proofs.Sizes.{round-count, round-idle}
 
 -- ---- a state loaded
 
@@ -148,72 +141,6 @@ module _ (s : Settings) (range : inRange (s .workers) (s .capacity) (s .depth) �
       sized = let h = m .sound in record { accounts = h .accounts; totals = h .totals; settled = h .settled; answers = h .answers }
 
 -- ---- a round
-
--- a bucket that is not full takes at most one account more
-module _ (x : BucketState) where
-  pub size-bound : sizeOf x ≤ x .count
-  unfolding sizeOf
-  size-bound =
-      if-elim (λ (k : ℕ). k ≤ x .count) (ltb (x .count) arraySize) _ _ (λ e. omega arith)
-      (λ e. omega (arith, ltb-false (x .count) arraySize e))
-
-  put-count : (p : Position) (a v : ℕ) → putOf x p a v .count ≤ x .count + 1
-  unfolding putOf
-  put-count (At i) a v = omega arith
-  put-count (Before i) a v =
-      if-elim (λ (z : BucketState). z .count ≤ x .count + 1) (ltb (sizeOf x) arraySize) _ _ (λ e. let h = size-bound in omega arith)
-      (λ e. omega arith)
-
-  remove-count : (p : Position) → removeOf x p .count ≤ x .count + 1
-  unfolding removeOf
-  remove-count (At i) = let h = size-bound in omega arith
-  remove-count (Before i) = omega arith
-
-  pub carry-count : (j : ℕ) (u : Descriptor) → carryOf x j u .count ≤ x .count + 1
-  unfolding carryOf settleOf
-  carry-count j u =
-      let p : Position = searchOf x (u .account) in
-      if-elim (λ (z : BucketState). z .count ≤ x .count + 1) (eqb (u .kind) kindInsert) _ _
-      (λ e. put-count p (u .account) (u .total)) (λ e. remove-count p)
-
-  help-count : (s : Settings) (d toggle j : ℕ) (u : Descriptor) → x .count ≤ s .capacity → helpOf x s d toggle j u .count ≤ s .capacity
-  unfolding helpOf
-  help-count s d toggle j u h = if-elim (λ (z : BucketState). z .count ≤ s .capacity) _ _ _
-      (λ e. let k = carry-count j u in let f = room-left s d (x .count) (not-true _ (and-parts _ _ e .1)) in omega arith)
-      (λ e. h)
-
-module _ (x : BucketState) (slots : List ℕ) (s : Settings) (d toggle : ℕ) where
-  helped-count : (k : ℕ) → x .count ≤ s .capacity → helpedOf x slots s d toggle k .count ≤ s .capacity
-  unfolding helpedOf
-  helped-count zero h = h
-  helped-count (suc k) h = help-count (helpedOf x slots s d toggle k) s d toggle k _ (helped-count k h)
-
-  round-count : x .count ≤ s .capacity → roundOf x slots s d toggle .count ≤ s .capacity
-  unfolding roundOf withApplied
-  round-count h = helped-count (s .workers) h
-
-  -- where no bit differs nobody is helped
-  module _ (e : toggle ≡ x .applied) where
-    help-idle : (j : ℕ) (u : Descriptor) → helpOf x s d toggle j u ≡ x
-    help-idle j u =
-        help-left x s d toggle j u (pending-same toggle (x .applied) j (getD (x .settled) j 0) (u .ticket) (ap (λ (k : ℕ). bit k j) e))
-
-    helped-idle : (k : ℕ) → helpedOf x slots s d toggle k ≡ x
-    unfolding helpedOf
-    helped-idle zero = refl
-    helped-idle (suc k) = rw (helped-idle k) (help-idle k _)
-
-    round-idle : roundOf x slots s d toggle ≡ x
-    unfolding roundOf withApplied
-    round-idle = let h = helped-idle (s .workers) in
-        λ i. record {
-          accounts = h i .accounts;
-          totals = h i .totals;
-          settled = h i .settled;
-          answers = h i .answers;
-          count = h i .count;
-          applied = e i;
-        }
 
 -- The words of record r, which keeps state y, after a round with the toggle bits and the slots that the worker at p has read.
 module _ (s : Settings) (range : inRange (s .workers) (s .capacity) (s .depth) ≡ true) (l : List ℕ) (enough : wordsNeeded s ≤ length l)

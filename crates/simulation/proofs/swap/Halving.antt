@@ -30,7 +30,8 @@ use Rattle.splits.specs.Splits.{madeAt, directedAt, halfAt}
 use Rattle.simulation.specs.Meaning.{at, Keeps}
 use Rattle.simulation.proofs.frames.Frames.{at-here, header-start, header-wide, record-wide, keeps-same, Inside, inside-trans, set-inside}
 use Rattle.simulation.proofs.frames.WordBits.{no-bits}
-use Rattle.simulation.proofs.frames.BucketWords.{Stored, stored-words, size-bound}
+use Rattle.simulation.proofs.frames.BucketWords.{Stored, stored-words}
+use Rattle.bucket.proofs.Sizes.{size-bound}
 use Rattle.simulation.proofs.frames.Spares.{spare-within, spare-unheld, spare-unnamed}
 use Rattle.simulation.proofs.swap.Directing.{directed-length, directed-entries, directed-other}
 use Rattle.simulation.proofs.frames.Storing.{head-same, record-frame, record-entries, record-others, stored-inside, stored-beside, head-frame, head-entries, head-others}

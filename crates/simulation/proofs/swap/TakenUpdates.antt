@@ -41,7 +41,8 @@ use Rattle.simulation.proofs.frames.Frames.{worker-wide, descriptor-nea
 use Rattle.simulation.proofs.swap.Halves.{Deepened, Halved}
 use Rattle.simulation.proofs.frames.Entering.{depth-bound, directed-record, Describes, slot-describes}
 use Rattle.simulation.proofs.own.Answering.{loaded-all, holds-back-is, splittable-is}
-use Rattle.simulation.proofs.frames.BucketWords.{Stored, stored-words, carry-count}
+use Rattle.simulation.proofs.frames.BucketWords.{Stored, stored-words}
+use Rattle.rounds.proofs.Sizes.{carry-count}
 use Rattle.simulation.proofs.frames.Storing.{deepened-at, stored-beside, restated}
 use Rattle.simulation.proofs.swap.Halving.{halved-at}
 use Rattle.simulation.proofs.frames.OwnWorker.{SeenSlots, made-in, read-near}

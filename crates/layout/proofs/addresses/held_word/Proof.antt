@@ -1,5 +1,5 @@
 -- `held_word` reads a word of the record that a worker holds.
--- Rests on the place of a held record.
+-- Rests on the address of a held record.
 use native.Mathlib.Omega.{arith}
 use borrow.Author.Needs.{needs}
 use Rattle.fields.specs.Regions.{workerAt}

@@ -1,5 +1,5 @@
 -- `put_worker_word` writes a word of a worker's record.
--- Rests on the place of a worker's words.
+-- Rests on the address of a worker's words.
 use Prim.Native.Nat.{ℕ, _+_}
 use native.Mathlib.Omega.{arith}
 use mathlib.Core.Path.{_∙_, ap}

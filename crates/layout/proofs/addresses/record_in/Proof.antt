@@ -1,4 +1,4 @@
--- `record_in` keeps a record's place if a whole record fits there.
+-- `record_in` keeps a record's address if a whole record fits there.
 -- Rests on nothing but the test.
 use Prim.Native.Nat.{_+_}
 use native.Mathlib.Omega.{arith}

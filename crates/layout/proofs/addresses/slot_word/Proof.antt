@@ -1,5 +1,5 @@
 -- `slot_word` reads a word of a slot, as a worker has read it.
--- Rests on the place of a worker's words.
+-- Rests on the address of a worker's words.
 use native.Mathlib.Omega.{arith}
 use borrow.Author.Needs.{needs}
 use Rattle.layout.proofs.Positions.{placed}

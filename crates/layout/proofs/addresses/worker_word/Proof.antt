@@ -1,5 +1,5 @@
 -- `worker_word` reads a word of a worker's record.
--- Rests on the place of a worker's words.
+-- Rests on the address of a worker's words.
 use native.Mathlib.Omega.{arith}
 use borrow.Author.Needs.{needs}
 use Rattle.layout.proofs.Positions.{placed}

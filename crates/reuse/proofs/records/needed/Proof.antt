@@ -1,5 +1,5 @@
 -- `needed` counts the words that settings need.
--- Rests on the bounds of the pool and of a record's place.
+-- Rests on the bounds of the pool and of a record's address.
 use Prim.Native.Nat.{ℕ, _+_, _≤_}
 use native.Mathlib.Omega.{arith}
 use mathlib.Core.Path.{_∙_, ap}

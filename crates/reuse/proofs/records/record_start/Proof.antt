@@ -1,5 +1,5 @@
 -- `record_start` gives where a record begins.
--- Rests on the bounds of the directory's start and of a record's place.
+-- Rests on the bounds of the directory's start and of a record's address.
 use native.Mathlib.Omega.{arith}
 use lib.Pow.{pow-mono}
 use borrow.Author.Needs.{needs}

@@ -1,5 +1,5 @@
 -- `early_step` takes the step that the plan has after k own steps, as `updateAt` says: a case for each of the first three, and the rounds.
--- Rests on the laws of the plan's places.
+-- Rests on the laws of the plan's positions.
 use native.Mathlib.Omega.{arith}
 use mathlib.Core.Path.{_∙_, ap}
 use mathlib.Core.List.{List}

@@ -1,5 +1,5 @@
 -- `round_step` takes the step of a bucket round that the plan has after k own steps, as `updateAt` says.
--- Rests on the laws of the plan's places.
+-- Rests on the laws of the plan's positions.
 use native.Mathlib.Omega.{arith}
 use mathlib.Core.Path.{_∙_, ap}
 use mathlib.Core.List.{List}

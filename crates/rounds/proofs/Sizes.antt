@@ -1,0 +1,105 @@
+-- Updates carried out, rounds and halves keep the items of a state's arrays, and never have more accounts than a bucket has room for;
+-- a round where no bit differs changes nothing. Rests on the laws of a state and of rounds.
+use Prim.Native.Nat.{ℕ, zero, suc, _+_, _≤_}
+use native.Mathlib.Omega.{arith}
+use mathlib.Core.List.{List}
+use lib.Dec.{eqb}
+use mathlib.Core.Path.{_≡_, refl, ap}
+use lib.ListN.{getD}
+use borrow.Author.Tests.{not-true}
+use Rattle.interface.specs.Numbers.{kindInsert}
+use Rattle.interface.specs.declared.Settings.{Settings}
+use Rattle.machine.proofs.laws.Base.{if-elim, and-parts}
+use Rattle.bucket.specs.State.{sizeOf, searchOf, settleOf}
+use Rattle.rounds.specs.Rounds.{carryOf, helpOf, helpedOf, withApplied, roundOf, halfOf}
+use Rattle.bucket.specs.declared.BucketState.{BucketState}
+use Rattle.rules.specs.declared.Descriptor.{Descriptor}
+use Rattle.arrays.specs.declared.Position.{Position}
+use Rattle.bucket.proofs.Laws.{size-limit}
+use Rattle.rounds.proofs.Laws.{length-keeps, length-gathered, help-left}
+use Rattle.bucket.proofs.Sizes.{Sized, put-sized, remove-sized, settle-sized, put-count, remove-count}
+use Rattle.rules.specs.Rules.{bit}
+use Rattle.rules.proofs.Laws.{room-left, pending-same}
+
+-- ---- a state's arrays keep their items
+
+pub carry-sized : (x : BucketState) (j : ℕ) (u : Descriptor) → Sized x → Sized (carryOf x j u)
+unfolding carryOf
+carry-sized x j u z =
+    let p : Position = searchOf x (u .account) in
+    if-elim Sized (eqb (u .kind) kindInsert) _ _ (λ e. settle-sized _ j (u .ticket) _ (put-sized x p (u .account) (u .total) z))
+    (λ e. settle-sized _ j (u .ticket) _ (remove-sized x p z))
+
+helped-sized : (x : BucketState) (slots : List ℕ) (s : Settings) (d toggle n : ℕ) → Sized x → Sized (helpedOf x slots s d toggle n)
+unfolding helpedOf helpOf
+helped-sized x slots s d toggle zero z = z
+helped-sized x slots s d toggle (suc j) z =
+    let y = helped-sized x slots s d toggle j z in
+    if-elim Sized _ _ _ (λ e. carry-sized _ j _ y) (λ e. y)
+
+pub round-sized : (x : BucketState) (slots : List ℕ) (s : Settings) (d toggle : ℕ) → Sized x → Sized (roundOf x slots s d toggle)
+unfolding roundOf withApplied
+round-sized x slots s d toggle z =
+    let y = helped-sized x slots s d toggle (s .workers) z in
+    record { accounts = y .accounts; totals = y .totals; settled = y .settled; answers = y .answers }
+
+pub half-sized : (x : BucketState) (d q : ℕ) → Sized x → Sized (halfOf x d q)
+unfolding halfOf
+half-sized x d q z =
+    let h = length-keeps (x .accounts) d q (sizeOf x) in
+    let k = size-limit x in
+    record {
+      accounts = length-gathered (x .accounts) _ (omega arith);
+      totals = length-gathered (x .totals) _ (omega arith);
+      settled = z .settled;
+      answers = z .answers;
+    }
+
+-- ---- a round
+
+module _ (x : BucketState) where
+  pub carry-count : (j : ℕ) (u : Descriptor) → carryOf x j u .count ≤ x .count + 1
+  unfolding carryOf settleOf
+  carry-count j u =
+      let p : Position = searchOf x (u .account) in
+      if-elim (λ (z : BucketState). z .count ≤ x .count + 1) (eqb (u .kind) kindInsert) _ _
+      (λ e. put-count x p (u .account) (u .total)) (λ e. remove-count x p)
+
+  pub help-count : (s : Settings) (d toggle j : ℕ) (u : Descriptor) → x .count ≤ s .capacity → helpOf x s d toggle j u .count ≤ s .capacity
+  unfolding helpOf
+  help-count s d toggle j u h = if-elim (λ (z : BucketState). z .count ≤ s .capacity) _ _ _
+      (λ e. let k = carry-count j u in let f = room-left s d (x .count) (not-true _ (and-parts _ _ e .1)) in omega arith)
+      (λ e. h)
+
+module _ (x : BucketState) (slots : List ℕ) (s : Settings) (d toggle : ℕ) where
+  pub helped-count : (k : ℕ) → x .count ≤ s .capacity → helpedOf x slots s d toggle k .count ≤ s .capacity
+  unfolding helpedOf
+  helped-count zero h = h
+  helped-count (suc k) h = help-count (helpedOf x slots s d toggle k) s d toggle k _ (helped-count k h)
+
+  pub round-count : x .count ≤ s .capacity → roundOf x slots s d toggle .count ≤ s .capacity
+  unfolding roundOf withApplied
+  round-count h = helped-count (s .workers) h
+
+  -- where no bit differs nobody is helped
+  module _ (e : toggle ≡ x .applied) where
+    help-idle : (j : ℕ) (u : Descriptor) → helpOf x s d toggle j u ≡ x
+    help-idle j u =
+        help-left x s d toggle j u (pending-same toggle (x .applied) j (getD (x .settled) j 0) (u .ticket) (ap (λ (k : ℕ). bit k j) e))
+
+    helped-idle : (k : ℕ) → helpedOf x slots s d toggle k ≡ x
+    unfolding helpedOf
+    helped-idle zero = refl
+    helped-idle (suc k) = rw (helped-idle k) (help-idle k _)
+
+    pub round-idle : roundOf x slots s d toggle ≡ x
+    unfolding roundOf withApplied
+    round-idle = let h = helped-idle (s .workers) in
+        λ i. record {
+          accounts = h i .accounts;
+          totals = h i .totals;
+          settled = h i .settled;
+          answers = h i .answers;
+          count = h i .count;
+          applied = e i;
+        }

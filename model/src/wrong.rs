@@ -1,0 +1,263 @@
+//! The wrong machines: each is the true one but for one function, or two where it would not end.
+//! Nothing else in this crate makes a step wrong.
+
+use crate::fault::Fault;
+use crate::machine::Machine;
+use crate::records::{Answer, Bucket, Kind, Settled, State, Update};
+use crate::settings::Settings;
+use crate::steps::{Done, Steps, True};
+use crate::task::{StepKind, Task};
+use crate::working::Working;
+use std::rc::Rc;
+
+impl Fault {
+    /// The machine of this name; the true one for none.
+    pub(crate) fn machine(self) -> &'static dyn Steps {
+        match self {
+            Fault::None => &True,
+            Fault::OnePass => &OnePass,
+            Fault::OneBucketRound => &OneBucketRound,
+            Fault::OneDirectoryRound => &OneDirectoryRound,
+            Fault::FullAsRead => &FullAsRead,
+            Fault::OwnUpdateOnly => &OwnUpdateOnly,
+            Fault::DeleteIntoFull => &DeleteIntoFull,
+            Fault::CrowdedBelowDepth => &CrowdedBelowDepth,
+            Fault::SettledNotCopied => &SettledNotCopied,
+            Fault::AppliedNotReset => &AppliedNotReset,
+            Fault::CheckOtherWorker => &CheckOtherWorker,
+            Fault::BucketSwapBlind => &BucketSwapBlind,
+            Fault::DirectorySwapBlind => &DirectorySwapBlind,
+            Fault::DoubledInRow => &DoubledInRow,
+            Fault::ToggleIgnored => &ToggleIgnored,
+            Fault::AnnounceApplies => &AnnounceApplies,
+            Fault::AlwaysCrowded => &AlwaysCrowded,
+            Fault::AlwaysAdded => &AlwaysAdded,
+        }
+    }
+}
+
+struct OnePass;
+
+impl Steps for OnePass {
+    fn check_answer(&self, settings: &Settings, w: usize, task: &Task) -> Option<Answer> {
+        let last = (task.check() == 2).then_some(Answer::Crowded);
+        True.check_answer(settings, w, task).or(last)
+    }
+}
+
+/// A step that touches nothing and counts.
+fn idle(machine: &Machine, task: &mut Task) -> Done {
+    task.advance(machine.settings.workers);
+    (StepKind::Nothing, None)
+}
+
+struct OneBucketRound;
+
+impl Steps for OneBucketRound {
+    fn perform(&self, machine: &mut Machine, w: usize, task: &mut Task) -> Done {
+        match task.round == 1 && task.in_bucket_rounds() {
+            true => idle(machine, task),
+            false => True.perform(machine, w, task),
+        }
+    }
+}
+
+struct OneDirectoryRound;
+
+impl Steps for OneDirectoryRound {
+    fn perform(&self, machine: &mut Machine, w: usize, task: &mut Task) -> Done {
+        match task.round == 1 && task.in_directory_rounds() {
+            true => idle(machine, task),
+            false => True.perform(machine, w, task),
+        }
+    }
+}
+
+/// Settings by which no bucket is full.
+fn unbounded(settings: &Settings) -> Settings {
+    Settings {
+        bucket_size: usize::MAX,
+        ..*settings
+    }
+}
+
+struct FullAsRead;
+
+impl Steps for FullAsRead {
+    fn bucket_copy(&self, settings: &Settings, task: &Task) -> State {
+        match task.state_read().is_full(settings.bucket_size) {
+            true => True.bucket_copy(settings, task),
+            false => True.bucket_copy(&unbounded(settings), task),
+        }
+    }
+}
+
+/// The slots with all but one empty.
+fn only(slots: &[Option<Update>], j: usize) -> Vec<Option<Update>> {
+    let kept = |(k, slot): (usize, &Option<Update>)| slot.filter(|_| k == j);
+    slots.iter().enumerate().map(kept).collect()
+}
+
+struct OwnUpdateOnly;
+
+impl Steps for OwnUpdateOnly {
+    fn split_for(
+        &self,
+        settings: &Settings,
+        working: &mut Working,
+        slots: &[Option<Update>],
+        j: usize,
+        bucket: &Rc<Bucket>,
+    ) -> u32 {
+        True.split_for(settings, working, &only(slots, j), j, bucket)
+    }
+}
+
+struct DeleteIntoFull;
+
+impl Steps for DeleteIntoFull {
+    /// One slot after the other, since a delete makes room for what follows.
+    fn bucket_copy(&self, settings: &Settings, task: &Task) -> State {
+        let below = task.pass_bucket().depth < settings.greatest_depth;
+        let mut alone = task.clone();
+        for (j, slot) in task.slots.iter().enumerate() {
+            let delete = slot.is_some_and(|update| update.kind == Kind::Delete);
+            alone.slots = only(&task.slots, j);
+            let mut copy = match below && delete {
+                true => True.bucket_copy(&unbounded(settings), &alone),
+                false => True.bucket_copy(settings, &alone),
+            };
+            copy.applied.clone_from(&task.state_read().applied);
+            alone.state = Some(Rc::new(copy));
+        }
+        alone.slots.clear();
+        True.bucket_copy(settings, &alone)
+    }
+}
+
+struct CrowdedBelowDepth;
+
+impl Steps for CrowdedBelowDepth {
+    fn check_answer(&self, settings: &Settings, w: usize, task: &Task) -> Option<Answer> {
+        let full = task.own_bucket().current().is_full(settings.bucket_size);
+        let crowded = full.then_some(Answer::Crowded);
+        True.check_answer(settings, w, task).or(crowded)
+    }
+}
+
+struct SettledNotCopied;
+
+impl Steps for SettledNotCopied {
+    fn half(&self, state: &State, depth: u32, prefix: u32) -> State {
+        let mut half = True.half(state, depth, prefix);
+        if prefix % 2 == 1 {
+            half.settled.fill(Settled::default());
+        }
+        half
+    }
+}
+
+struct AppliedNotReset;
+
+impl Steps for AppliedNotReset {
+    fn half(&self, state: &State, depth: u32, prefix: u32) -> State {
+        let mut half = True.half(state, depth, prefix);
+        half.applied.clone_from(&state.applied);
+        half
+    }
+}
+
+struct CheckOtherWorker;
+
+impl Steps for CheckOtherWorker {
+    fn check_answer(&self, settings: &Settings, w: usize, task: &Task) -> Option<Answer> {
+        True.check_answer(settings, (w + 1) % settings.workers, task)
+    }
+}
+
+struct BucketSwapBlind;
+
+impl Steps for BucketSwapBlind {
+    /// The state that was read is put back before the swap compares with it.
+    fn swap_state(&self, machine: &Machine, task: &Task) -> StepKind {
+        *task.pass_bucket().state.borrow_mut() = Rc::clone(task.state_read());
+        True.swap_state(machine, task)
+    }
+}
+
+struct DirectorySwapBlind;
+
+impl Steps for DirectorySwapBlind {
+    /// The directory that was read is put back before the swap compares with it.
+    fn swap_directory(&self, machine: &mut Machine, task: &mut Task) -> StepKind {
+        machine.directory = Rc::clone(task.directory());
+        True.swap_directory(machine, task)
+    }
+}
+
+struct DoubledInRow;
+
+impl Steps for DoubledInRow {
+    fn doubled(&self, entries: &[Rc<Bucket>]) -> Vec<Rc<Bucket>> {
+        [entries, entries].concat()
+    }
+
+    /// Stops at a bucket that is not the account's: it would be split without end.
+    fn take(&self, settings: &Settings, working: &mut Working, k: usize, update: &Update) -> u32 {
+        let account = update.account;
+        let own = |working: &Working| working.bucket(account).covers(account);
+        let mut splits = 0;
+        while own(working) && working.is_splittable(settings, account) {
+            self.split(working, account);
+            splits += 1;
+        }
+        if own(working) {
+            working.carry_out(settings, k, update);
+        }
+        splits
+    }
+}
+
+struct ToggleIgnored;
+
+impl Steps for ToggleIgnored {
+    fn bucket_copy(&self, settings: &Settings, task: &Task) -> State {
+        let mut flipped = task.clone();
+        let applied = &task.state_read().applied;
+        flipped.toggle = applied.iter().map(|bit| !bit).collect();
+        let mut copy = True.bucket_copy(settings, &flipped);
+        copy.applied.clone_from(&task.toggle);
+        copy
+    }
+}
+
+struct AnnounceApplies;
+
+impl Steps for AnnounceApplies {
+    fn announce(&self, machine: &mut Machine, w: usize, task: &Task) -> StepKind {
+        let bucket = machine.directory.bucket(task.operation.account);
+        let mut copy = State::clone(&bucket.current());
+        if !copy.is_full(machine.settings.bucket_size) {
+            copy.carry_out(w, &task.operation);
+            *bucket.state.borrow_mut() = Rc::new(copy);
+        }
+        True.announce(machine, w, task)
+    }
+}
+
+struct AlwaysCrowded;
+
+impl Steps for AlwaysCrowded {
+    fn check_answer(&self, _: &Settings, _: usize, _: &Task) -> Option<Answer> {
+        Some(Answer::Crowded)
+    }
+}
+
+struct AlwaysAdded;
+
+impl Steps for AlwaysAdded {
+    fn check_answer(&self, settings: &Settings, w: usize, task: &Task) -> Option<Answer> {
+        let answer = True.check_answer(settings, w, task);
+        answer.map(|_| Answer::Added)
+    }
+}
