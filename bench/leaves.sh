@@ -4,8 +4,7 @@
 # cargo and valgrind.
 set -euo pipefail
 cd "$(dirname "$0")/.."
-rt staticlib leaves >/dev/null
-rt staticlib capi >/dev/null
+tests/built.sh capi leaves >&2
 cargo build --release --offline --quiet --manifest-path bench/Cargo.toml --bin leaves
 times=1000
 

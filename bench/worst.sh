@@ -6,9 +6,7 @@ set -euo pipefail
 cd "$(dirname "$0")/.."
 folder=$(mktemp -d)
 trap 'rm -rf "$folder"' EXIT
-for library in capi leaves; do
-  rt staticlib "$library" >"$folder/log" 2>&1 || { cat "$folder/log" >&2 && exit 1; }
-done
+tests/built.sh capi leaves >&2
 cargo build --release --offline --quiet --manifest-path bench/Cargo.toml --bin worst
 
 # a line a call: work, workers, the operation's place, its step, instructions
