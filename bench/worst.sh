@@ -1,7 +1,7 @@
 #!/usr/bin/env bash
 # The worst single call while a table grows, beside a locked map that doubles: instructions, each call counted by itself
-# (callgrind writes a dump a call). Needs rt, cargo, valgrind, two minutes, and room for 200 MB where mktemp makes its
-# folders.
+# (callgrind writes a dump a call). Needs rt, cargo, valgrind, a minute or two, and room for 200 MB where mktemp makes
+# its folders.
 set -euo pipefail
 cd "$(dirname "$0")/.."
 folder=$(mktemp -d)

@@ -1,5 +1,5 @@
 // A worker's own update, carried out on the words of a bucket's record, where it is all that a round has to carry
-// out. Written twice for speed, beside `BucketState`'s carry, whose search and loops it shares: no state is loaded,
+// out. Written twice for speed, beside `carry` of crate rounds, whose search and loops it shares: no state is loaded,
 // copied and stored. This source compiled as Rust takes 2,035 instructions for an insert at n 1 by single steps and
 // 1,540 by `run`; without this file 2,586 and 2,091 (docs/DECISIONS.md, 43).
 ghost use mathlib.Core.Path.{_≡_};

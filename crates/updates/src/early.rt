@@ -1,6 +1,7 @@
 // The steps before the first check, told by their number alone. Written twice for speed, beside the plan that tells
-// every step (engine's `phase_of`), since most steps are such: this source compiled as Rust takes 2,035 instructions
-// for an insert at n 1 by single steps and 1,540 by `run`; without this file 2,528 and 2,009 (docs/DECISIONS.md, 42).
+// every step (`phase_of` of crate phases), since most steps are such: this source compiled as Rust takes 2,035
+// instructions for an insert at n 1 by single steps and 1,540 by `run`; without this file 2,528 and 2,009
+// (docs/DECISIONS.md, 42).
 ghost use mathlib.Core.Path.{_≡_};
 ghost use Prim.Native.Nat.{_+_, _*_, _≤_, _<_};
 ghost use Rattle.interface.specs.declared.Stepped.{Stepped};
