@@ -57,9 +57,9 @@ settle-sized x j t a z =
       answers = length-set (x .answers) j a ∙ z .answers;
     }
 
--- ---- a round
+-- ---- the count
 
--- a bucket that is not full takes at most one account more
+-- an update adds at most one account
 module _ (x : BucketState) where
   pub size-bound : sizeOf x ≤ x .count
   unfolding sizeOf

@@ -1,5 +1,5 @@
--- A call on the words, with its refusals in document 01's order, for any words. Rests on the header and on a worker's
--- words.
+-- A call on the words, with its refusals in document 01's order, and the end of an operation, for any words. Rests on
+-- the header and on a worker's words.
 use Prim.Native.Nat.{ℕ, _+_}
 use mathlib.Core.Bool.{not, _||_}
 use mathlib.Core.List.{List}
@@ -53,7 +53,7 @@ callWords l w kind a v =
     else if leb (shapeOf l .workers) w then (l, Called.Refused Refusal.Stranger)
     else callIn l (workerAt (shapeOf l .workers) w) kind a v
 
--- ---- one step
+-- ---- the end of an operation
 
 -- the operation of the worker at p ended, after k own steps before this one
 unfoldable pub endedAt : List ℕ → ℕ → ℕ → Answer → List ℕ × Stepped

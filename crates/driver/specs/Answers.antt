@@ -1,5 +1,5 @@
 -- What is printed for a command, behind the bytes of a buffer that are used. 01, The driver: "`T` prints account and
--- total, ascending, then `end` and the count." Rests on specs/Responses, the table's listing and the lines' texts.
+-- total, ascending, then `end` and the count." Rests on crate responses, the table's listing and the lines' texts.
 use Prim.Native.Nat.{ℕ, zero, suc, _+_}
 use mathlib.Core.Bool.{Bool, true, false}
 use mathlib.Core.List.{List, [], _∷_}

@@ -13,8 +13,6 @@ use Rattle.layout.specs.Shape.{word}
 use Rattle.record.specs.Bucket.{bucketAt, withBucketAt}
 use Rattle.inplace.specs.InPlace.{roundAt}
 
--- ---- the bucket swap
-
 module _ (l : List ℕ) (s : Settings) (p q a b : ℕ) where
   module _ (toggle : a ≡ word l (p + workerToggle)) (applied : b ≡ word l (q + recordApplied)) where
     pub round-none : a ≡ b → l ≡ roundAt l s p q

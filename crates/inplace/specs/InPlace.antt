@@ -16,8 +16,6 @@ use Rattle.lists.specs.Parts.{part}
 use Rattle.layout.specs.Shape.{word, Fits}
 use Rattle.record.specs.Bucket.{bucketAt, withBucketAt}
 
--- ---- the bucket swap
-
 -- the record's state after a round with what the worker at p has read; where no bit differs there is nothing to carry
 -- out
 unfoldable pub roundAt : List ℕ → Settings → ℕ → ℕ → List ℕ

@@ -1,5 +1,5 @@
--- Which bucket record an account or a worker has, for any words. Rests on the header and on the regions of the lent
--- words.
+-- Which bucket record an account, a worker or a slot that was read has, and the read that keeps it, for any words.
+-- Rests on the header and on the regions of the lent words.
 use Prim.Native.Nat.{ℕ, _+_}
 use mathlib.Core.List.{List}
 use lib.Dec.{leb, eqb}

@@ -16,8 +16,6 @@ use Rattle.layout.specs.Shape.{word}
 use Rattle.layout.specs.Addresses.{heldBy, bucketReadAt}
 use Rattle.calls.specs.Calls.{endedAt}
 
--- ---- one step
-
 -- "answer found with the total, or none": the account's position in the record at q
 unfoldable pub foundAt : List ℕ → Settings → ℕ → Position → Answer
 foundAt l s q (At i) = Answer.Found (toZ w64 (word l (totalsFrom q (s .capacity) + i)))

@@ -28,8 +28,6 @@ least-same a b h = go (ltb a b) refl
 pub count-bound : (a b c : ℕ) → c ≡ least a b → c ≤ b
 count-bound a b c e = rw e (least-bound a b)
 
--- ---- a run of worker w, whose record is at p: k of at most c steps are taken
-
 pub least-small : (a b : ℕ) → a < b → a ≡ least a b
 unfolding least
 least-small a b h = sym (if-true a b (lt-ltb a b h))

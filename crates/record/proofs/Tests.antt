@@ -3,8 +3,6 @@ use Prim.Native.Nat.{ℕ}
 use mathlib.Core.Path.{_≡_, _∙_, ap}
 use mathlib.Core.Bool.{Bool}
 
--- ---- a bucket's predicates
-
 -- a test of a record's depth and count, which the code has read one after the other
 pub both-read : (f : ℕ → ℕ → Bool) {t : Bool} {d c x y : ℕ} → t ≡ f d c → d ≡ x → c ≡ y → t ≡ f x y
 both-read f {t} {d} {c} {x} {y} e g h = e ∙ ap (λ (k : ℕ). f k c) g ∙ ap (f x) h

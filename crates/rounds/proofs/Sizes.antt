@@ -55,7 +55,7 @@ half-sized x d q z =
       answers = z .answers;
     }
 
--- ---- a round
+-- ---- counts, and a round that changes nothing
 
 module _ (x : BucketState) where
   pub carry-count : (j : ℕ) (u : Descriptor) → carryOf x j u .count ≤ x .count + 1

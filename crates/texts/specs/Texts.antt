@@ -1,5 +1,5 @@
 -- What commands are met with on words, as text, with no buffer in sight: what the buffer of `feed` holds is said by
--- these (proofs/Texts). Rests on specs/Responses, the table's listing and the lines' texts and reader.
+-- these (proofs/Texts). Rests on crate responses, the table's listing and the lines' texts and reader.
 use Prim.Native.Nat.{ℕ}
 use mathlib.Core.Bool.{_||_}
 use mathlib.Core.List.{List, [], _∷_, _++_}

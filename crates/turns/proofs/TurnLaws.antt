@@ -17,8 +17,6 @@ use Rattle.updates.specs.Updates.{operationAt}
 use Rattle.turns.specs.Turns.{stepIn, stepWords}
 use Rattle.layout.proofs.Checks.{both-passed}
 
--- ---- whole calls, of words that pass the checks
-
 module _ (l : List ℕ) (x : Bool) (g : Settings) (w : ℕ) (tested : x ≡ strange l) (passed : x ≡ false) (read : g ≡ shapeOf l)
     (known : w < g .workers) where
   pub step-words : (m : List ℕ × Stepped) → m ≡ stepIn l g w → m ≡ stepWords l w

@@ -1,5 +1,5 @@
--- A whole step on the words, with its refusals in document 01's order, for any words. Rests on a step of an update and
--- on the search of a record.
+-- A whole step on the words, with its refusals in document 01's order, for any words. Rests on the step of
+-- an operation.
 use Prim.Native.Nat.{ℕ, _+_, _%_}
 use mathlib.Core.List.{List}
 use lib.Dec.{leb, eqb}
@@ -12,8 +12,6 @@ use Rattle.fields.specs.Fields.{workerKind, workerSteps, stepsRange}
 use Rattle.fields.specs.Regions.{workerAt}
 use Rattle.layout.specs.Shape.{word, strange, shapeOf}
 use Rattle.updates.specs.Updates.{operationAt}
-
--- ---- one step
 
 unfoldable pub stepIn : List ℕ → Settings → ℕ → List ℕ × Stepped
 stepIn l s w =

@@ -1,5 +1,5 @@
--- A step of an update on the words, by its phase, for any words. Rests on the steps' definitions, on the directory
--- swap, and on the machine's plan.
+-- A step of an update on the words, by its phase, and an operation's step, for any words. Rests on the steps'
+-- definitions, on the directory swap, and on the machine's plan.
 use Prim.Native.Nat.{ℕ, zero, suc, _+_}
 use mathlib.Core.List.{List}
 use mathlib.Core.Option.{Option, none, some}
@@ -20,7 +20,7 @@ use Rattle.fields.specs.Fields.{workerKind, workerSteps}
 use Rattle.layout.specs.Shape.{word}
 use Rattle.lookups.specs.Lookups.{lookupAt}
 
--- ---- one step
+-- ---- a step of an update
 
 unfoldable pub checkAt : List ℕ → ℕ → ℕ → Option ℕ → List ℕ × Stepped
 checkAt l p k none = (l, Stepped.Moved)
@@ -53,7 +53,7 @@ updateStep l s w k = updateAt l s (workerAt (s .workers) w) w k (phase (s .worke
 abbrev pub checkStep : List ℕ → Settings → ℕ → ℕ → List ℕ × Stepped
 checkStep l s w k = updateAt l s (workerAt (s .workers) w) w k checkState
 
--- ---- one step
+-- ---- an operation's step
 
 -- an operation's step after k own steps; its count goes up first; what is no lookup is an update
 unfoldable pub operationAt : List ℕ → Settings → ℕ → ℕ → ℕ → List ℕ × Stepped
