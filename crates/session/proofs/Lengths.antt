@@ -28,8 +28,9 @@ use Rattle.reuse.proofs.Pool.{whole-kept}
 use Rattle.phases.specs.declared.Phase as Code
 use Rattle.phases.specs.Phases.{planned}
 use Rattle.engine.specs.Engine.{slotReadAt, flippedAt, stateReadAt, toggleReadAt, directoryReadAt, swappedAt, marks, stateStepAt}
-use Rattle.splits.specs.Splits.{takenAll, resolvedAt, nothingToSplit, redirectedAt}
-use Rattle.splits.proofs.Splitting.{whole-else}
+use Rattle.taking.specs.Taking.{takenAll}
+use Rattle.directory.specs.Directory.{resolvedAt, nothingToSplit, redirectedAt}
+use Rattle.directory.proofs.DirectoryLaws.{whole-else}
 use Rattle.session.proofs.StepLengths.{length-announced, length-round, length-taken}
 use Rattle.calls.specs.Calls.{endedAt}
 use Rattle.updates.specs.Updates.{checkAt, updateAt, operationAt}

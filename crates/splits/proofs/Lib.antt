@@ -1,1 +1,1 @@
-pub mod Splitting
+mod Splitting

@@ -1,41 +1,24 @@
-// The directory swap: splits in place, and the updates that are taken. It looks at the marked buckets again: their
-// contents are read here and not at the state step (docs/DECISIONS.md, 51).
+// A bucket split in place: its halves in spare records, which the directory then names.
 ghost use mathlib.Core.Path.{_≡_};
-ghost use Prim.Native.Nat.{_+_, _≤_, _<_};
+ghost use Prim.Native.Nat.{_+_, _≤_};
 ghost use lib.ListN.{length};
 ghost use Rattle.layout.specs.Shape.{Fits, Whole};
 ghost use Rattle.fields.specs.Fields.{widestRecord};
-ghost use Rattle.fields.specs.Regions.{workerAt};
-ghost use Rattle.splits.specs.Splits.{madeAt, directedAt, halfAt, deepenedAt, splitAt, splitWhileAt, carriedAt, takenAt, dueAt, duesAt, takenAll, resolvedAt, nothingToSplit, redirectedAt};
+ghost use Rattle.splits.specs.Splits.{madeAt, directedAt, halfAt, deepenedAt, splitAt, splitWhileAt};
 use bucket::BucketState;
 use fields::HEADER_DEPTH;
-use fields::HEADER_NUMBER;
 use fields::HEADER_SPARE;
 use fields::RECORD_COUNT;
 use fields::RECORD_DEPTH;
 use fields::RECORD_NUMBER;
 use fields::RECORD_PREFIX;
 use fields::RECORD_TOGGLE;
-use fields::SLOT_ACCOUNT;
-use fields::SLOT_KIND;
-use fields::SLOT_TICKET;
-use fields::WORKER_DIRECTORY;
-use fields::WORKER_MARKS;
-use interface::KIND_NONE;
 use interface::Settings;
 use layout::addresses::record_of;
-use layout::addresses::slot_read;
-use layout::addresses::slot_word;
-use layout::addresses::worker_word;
 use layout::shape::directory_start;
-use record::settled_ticket;
-use reuse::numbers::fresh_directory;
 use reuse::records::first_entry;
-use reuse::records::needed;
 use reuse::records::record_start;
 use reuse::records::spare;
-use rules::first_bits;
-use rules::holds_back;
 use rules::splittable;
 
 // A new bucket of depth d and prefix q in the record at r.
@@ -96,7 +79,7 @@ fn split(words: &mut [u64], g: Settings, q: usize)
 }
 
 // The account's bucket split while it is full and below the greatest depth.
-fn split_while(words: &mut [u64], g: Settings, account: u64)
+pub fn split_while(words: &mut [u64], g: Settings, account: u64)
     requires { ⌜ Whole (now words) g ⌝ }
     ensures { λ _. ⌜ now (words .exit) ≡ splitWhileAt (now (words .entry)) g account (g .depth) ⌝ }
 {
@@ -110,120 +93,4 @@ fn split_while(words: &mut [u64], g: Settings, account: u64)
         split(words, g, q);
         f -= 1;
     }
-}
-
-// Worker i's update, as worker w has read it, carried out in the record at q.
-fn carry(words: &mut [u64], g: Settings, w: usize, i: usize, q: usize)
-    requires { ⌜ Fits (now words) g
-        × ((w < g .workers) × ((i < g .workers) × (q + widestRecord ≤ length (now words)))) ⌝ }
-    ensures { λ _. ⌜ now (words .exit) ≡ carriedAt (now (words .entry)) g (workerAt (g .workers) w) i q ⌝ }
-{
-    let n = g.workers as usize;
-    let b = g.capacity as usize;
-    let s = record::load_state(words, q, b, n);
-    let u = slot_read(words, g, w, i);
-    record::store_state(words, q, b, n, rounds::carry(s, i, u));
-}
-
-// Worker i's update taken: splits first, then carried out if there is room.
-fn take(words: &mut [u64], g: Settings, w: usize, i: usize)
-    requires { ⌜ Whole (now words) g × ((w < g .workers) × (i < g .workers)) ⌝ }
-    ensures { λ _. ⌜ now (words .exit) ≡ takenAt (now (words .entry)) g (workerAt (g .workers) w) i ⌝ }
-{
-    split_while(words, g, slot_word(words, g, w, i, SLOT_ACCOUNT));
-    let q = record_of(words, g, slot_word(words, g, w, i, SLOT_ACCOUNT));
-    let depth = memory::get(words, q + RECORD_DEPTH);
-    if holds_back(g, depth, memory::get(words, q + RECORD_COUNT)) {
-        return;
-    }
-    carry(words, g, w, i, q);
-}
-
-// Whether worker i's update, as worker w has read it, belongs to the bucket in the record at q and is unsettled there.
-fn due(words: &[u64], g: Settings, w: usize, q: usize, i: usize) -> bool
-    requires { ⌜ Fits (now words) g
-        × ((w < g .workers) × ((i < g .workers) × (q + widestRecord ≤ length (now words)))) ⌝ }
-    ensures { λ r. ⌜ r ≡ dueAt (now (words .entry)) g (workerAt (g .workers) w) q i ⌝ }
-{
-    if slot_word(words, g, w, i, SLOT_KIND) == KIND_NONE {
-        return false;
-    }
-    let depth = memory::get(words, q + RECORD_DEPTH);
-    if first_bits(depth, slot_word(words, g, w, i, SLOT_ACCOUNT))
-        != memory::get(words, q + RECORD_PREFIX)
-    {
-        return false;
-    }
-    settled_ticket(words, g, q, i) < slot_word(words, g, w, i, SLOT_TICKET)
-}
-
-// The workers whose update is due there, as bits.
-fn dues(words: &[u64], g: Settings, w: usize, q: usize) -> u64
-    requires { ⌜ Fits (now words) g × ((w < g .workers) × (q + widestRecord ≤ length (now words))) ⌝ }
-    ensures { λ r. ⌜ r ≡ duesAt (now (words .entry)) g (workerAt (g .workers) w) q (g .workers) ⌝ }
-{
-    let mut bits: u64 = 0;
-    let mut i: usize = 0;
-    while i < g.workers as usize {
-        if due(words, g, w, q, i) {
-            bits += 1 << i;
-        }
-        i += 1;
-    }
-    bits
-}
-
-// The updates of these workers taken, in worker order.
-fn take_all(words: &mut [u64], g: Settings, w: usize, bits: u64)
-    requires { ⌜ Whole (now words) g × (w < g .workers) ⌝ }
-    ensures { λ _. ⌜ now (words .exit) ≡ takenAll (now (words .entry)) g (workerAt (g .workers) w) bits (g .workers) ⌝ }
-{
-    let mut i: usize = 0;
-    while i < g.workers as usize {
-        if (bits >> i) % 2 == 1 {
-            take(words, g, w, i);
-        }
-        i += 1;
-    }
-}
-
-// The buckets that worker w has marked, resolved in the order of their marks.
-fn resolve(words: &mut [u64], g: Settings, w: usize)
-    requires { ⌜ Whole (now words) g × (w < g .workers) ⌝ }
-    ensures { λ _. ⌜ now (words .exit) ≡ resolvedAt (now (words .entry)) g (workerAt (g .workers) w) (g .workers) ⌝ }
-{
-    let mut j: usize = 0;
-    while j < g.workers as usize {
-        if (worker_word(words, g, w, WORKER_MARKS) >> j) % 2 == 1 {
-            let q = record_of(words, g, slot_word(words, g, w, j, SLOT_ACCOUNT));
-            let bits = dues(words, g, w, q);
-            take_all(words, g, w, bits);
-        }
-        j += 1;
-    }
-}
-
-// Whether there is nothing to split.
-fn nothing(words: &[u64], g: Settings, w: usize) -> bool
-    requires { ⌜ Fits (now words) g × (w < g .workers) ⌝ }
-    ensures { λ r. ⌜ r ≡ nothingToSplit (now (words .entry)) g (workerAt (g .workers) w) ⌝ }
-{
-    if worker_word(words, g, w, WORKER_MARKS) == 0 {
-        return true;
-    }
-    words.len() < needed(g)
-}
-
-pub fn swap_directory(words: &mut [u64], g: Settings, w: usize)
-    requires { ⌜ Fits (now words) g × (w < g .workers) ⌝ }
-    ensures { λ _. ⌜ now (words .exit) ≡ redirectedAt (now (words .entry)) g (workerAt (g .workers) w) ⌝ }
-{
-    if worker_word(words, g, w, WORKER_DIRECTORY) != memory::get(words, HEADER_NUMBER) {
-        return;
-    }
-    let x = fresh_directory(words, g);
-    if !nothing(words, g, w) {
-        resolve(words, g, w);
-    }
-    memory::put(words, HEADER_NUMBER, x);
 }

@@ -12,7 +12,7 @@ use Rattle.fields.specs.Regions.{workerAt}
 use Rattle.rules.specs.Rules.{answerOf}
 use Rattle.layout.specs.Addresses.{heldBy, bucketReadAt}
 use Rattle.engine.specs.Engine.{announcedAt, slotReadAt, flippedAt, stateReadAt, toggleReadAt, directoryReadAt, swappedAt, stateStepAt, checkedAt}
-use Rattle.splits.specs.Splits.{redirectedAt}
+use Rattle.directory.specs.Directory.{redirectedAt}
 use Rattle.calls.specs.Calls.{endedAt}
 use Rattle.interface.specs.Numbers.{kindLookup}
 use Rattle.machine.specs.Choice.{if_then_else_}

@@ -6,6 +6,7 @@ ghost use Rattle.rules.specs.Rules.{answerOf};
 ghost use Rattle.layout.specs.Shape.{settingsOf, Fits};
 ghost use Rattle.updates.specs.Updates.{numbered, checkStep, updateStep};
 use calls::finish;
+use directory::swap_directory;
 use fields::RECORD_COUNT;
 use fields::RECORD_DEPTH;
 use fields::WORKER_TICKET;
@@ -25,7 +26,6 @@ use phases::phase_of;
 use record::settled_answer;
 use record::settled_ticket;
 use rules::crowded;
-use splits::swap_directory;
 
 pub mod early;
 

@@ -34,7 +34,7 @@ use Rattle.fields.proofs.Regions.{region-inside}
 use Rattle.layout.specs.Shape.{word}
 use Rattle.layout.specs.Addresses.{recordOf, heldBy, bucketReadAt}
 use Rattle.engine.specs.Engine.{stateReadAt, toggleReadAt, slotReadAt, directoryReadAt, swappedAt}
-use Rattle.splits.specs.Splits.{redirectedAt}
+use Rattle.directory.specs.Directory.{redirectedAt}
 use Rattle.turns.specs.Turns.{stepIn}
 use Rattle.lookups.specs.Lookups.{lookupAt}
 use Rattle.updates.specs.Updates.{updateAt}

@@ -25,7 +25,7 @@ use Rattle.rules.specs.Rules.{bit, descriptorIn}
 use Rattle.simulation.specs.Buckets.{updateFrom, slotFrom}
 use Rattle.layout.specs.Shape.{word}
 use Rattle.record.specs.Bucket.{settledTicket}
-use Rattle.splits.specs.Splits.{dueAt, duesAt}
+use Rattle.taking.specs.Taking.{dueAt, duesAt}
 use Rattle.rules.proofs.Bits.{bit-set, bit-beside}
 use Rattle.simulation.specs.Meaning.{slotIn, nameIn, Keeps}
 use Rattle.simulation.proofs.frames.Entering.{account-of}

@@ -25,7 +25,7 @@ use Rattle.machine.proofs.invariant.Inv.{leafBody, ResolvedTo, KeptOrResolved}
 use Rattle.machine.proofs.invariant.Transitions.{redirectedCells}
 use Rattle.layout.specs.Shape.{word}
 use Rattle.reuse.specs.Numbers.{freshDirectory}
-use Rattle.splits.specs.Splits.{resolvedAt, nothingToSplit, redirectedAt}
+use Rattle.directory.specs.Directory.{resolvedAt, nothingToSplit, redirectedAt}
 use Rattle.simulation.specs.Meaning.{at, current, HasDirectory, HasWork, Marked, Marks, Meaning}
 use Rattle.simulation.proofs.frames.Frames.{own-head}
 use Rattle.simulation.proofs.frames.Entering.{raised}

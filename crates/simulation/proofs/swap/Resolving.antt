@@ -25,7 +25,8 @@ use Rattle.fields.specs.Regions.{record′, startOf, worker}
 use Rattle.rules.specs.Rules.{bit, descriptorIn}
 use Rattle.layout.specs.Shape.{word}
 use Rattle.layout.specs.Addresses.{markedAt, recordFor}
-use Rattle.splits.specs.Splits.{duesAt, takenAll, resolvedAt}
+use Rattle.taking.specs.Taking.{duesAt, takenAll}
+use Rattle.directory.specs.Directory.{resolvedAt}
 use Rattle.simulation.specs.Meaning.{at, nameIn, accountIn, Directs}
 use Rattle.simulation.proofs.frames.Frames.{keeps-same, worker-wide}
 use Rattle.simulation.proofs.frames.Entering.{depth-bound, directed-record}

@@ -35,7 +35,8 @@ use Rattle.layout.specs.Shape.{word}
 use Rattle.layout.specs.Addresses.{recordOf}
 use Rattle.reuse.specs.Records.{spareOf}
 use Rattle.record.specs.Bucket.{bucketAt, withBucketAt, holdsBackAt, splittableAt}
-use Rattle.splits.specs.Splits.{halfAt, deepenedAt, splitAt, splitWhileAt, carriedAt, takenAt, takenAll}
+use Rattle.splits.specs.Splits.{halfAt, deepenedAt, splitAt, splitWhileAt}
+use Rattle.taking.specs.Taking.{carriedAt, takenAt, takenAll}
 use Rattle.simulation.specs.Meaning.{at, slotIn, nameIn, Keeps, Directs}
 use Rattle.simulation.proofs.frames.Frames.{worker-wide, descriptor-near, keeps-same}
 use Rattle.simulation.proofs.swap.Halves.{Deepened, Halved}

@@ -7,14 +7,14 @@ use Rattle.layout.specs.Shape.{Fits}
 use Rattle.fields.specs.Fields.{widestRecord}
 use Rattle.fields.specs.Regions.{workerAt}
 use Rattle.layout.proofs.Positions.{fits-kept, record-inside}
-use Rattle.splits.proofs.Splitting.{taken-back, taken-room}
+use Rattle.taking.proofs.TakingLaws.{taken-back, taken-room}
 use mathlib.Core.Path.{_≡_}
 use Rattle.rules.specs.Rules.{holdsBackBy}
 use Rattle.record.specs.Bucket.{holdsBackAt}
 use Rattle.record.proofs.Tests.{both-read}
 use borrow.Author.Needs.{needs}
-use Rattle.splits.proofs.take.Statement.{statement}
-use Rattle.splits.proofs.take.Tie as tie
+use Rattle.taking.proofs.take.Statement.{statement}
+use Rattle.taking.proofs.take.Tie as tie
 
 -- the record of the account's bucket is inside the words, which a split keeps
 inside :

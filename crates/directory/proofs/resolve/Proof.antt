@@ -7,13 +7,13 @@ use mathlib.Core.Logic.{⊎-elim}
 use lib.ListN.{length}
 use Rattle.layout.specs.Shape.{Whole}
 use Rattle.fields.specs.Regions.{workerAt}
-use Rattle.splits.specs.Splits.{resolvedAt}
+use Rattle.directory.specs.Directory.{resolvedAt}
 use Rattle.reuse.proofs.Pool.{whole-kept}
 use Rattle.layout.proofs.Positions.{record-inside}
-use Rattle.splits.proofs.Splitting.{resolved-more, resolved-same}
+use Rattle.directory.proofs.DirectoryLaws.{resolved-more, resolved-same}
 use borrow.Author.Needs.{needs}
-use Rattle.splits.proofs.resolve.Statement.{statement}
-use Rattle.splits.proofs.resolve.Tie as tie
+use Rattle.directory.proofs.resolve.Statement.{statement}
+use Rattle.directory.proofs.resolve.Tie as tie
 
 abbrev Inv-loop : tie.InvT-loop
 Inv-loop words₀ g w j₀ words j =

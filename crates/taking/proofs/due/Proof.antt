@@ -1,10 +1,10 @@
 -- `due` tells whether an update belongs to a bucket and is unsettled there.
 -- Rests on the outcomes of the three tests.
 use Rattle.fields.specs.Regions.{workerAt}
-use Rattle.splits.proofs.Splitting.{due-empty, due-apart, due-here}
+use Rattle.taking.proofs.TakingLaws.{due-empty, due-apart, due-here}
 use borrow.Author.Needs.{needs}
-use Rattle.splits.proofs.due.Statement.{statement}
-use Rattle.splits.proofs.due.Tie as tie
+use Rattle.taking.proofs.due.Statement.{statement}
+use Rattle.taking.proofs.due.Tie as tie
 
 returns : tie.Need-returns
 returns c =

@@ -6,12 +6,12 @@ use mathlib.Core.Path.{_≡_, _∙_, ap}
 use mathlib.Core.Logic.{⊎-elim}
 use borrow.Author.Needs.{needs}
 use Rattle.fields.specs.Regions.{workerAt}
-use Rattle.splits.specs.Splits.{duesAt}
+use Rattle.taking.specs.Taking.{duesAt}
 use lib.Pow.{pow-mono}
 use Rattle.rules.proofs.Bits.{shift-one}
-use Rattle.splits.proofs.Splitting.{Dues, dues-start, dues-more, dues-same}
-use Rattle.splits.proofs.dues.Statement.{statement}
-use Rattle.splits.proofs.dues.Tie as tie
+use Rattle.taking.proofs.TakingLaws.{Dues, dues-start, dues-more, dues-same}
+use Rattle.taking.proofs.dues.Statement.{statement}
+use Rattle.taking.proofs.dues.Tie as tie
 
 abbrev Inv-loop : tie.InvT-loop
 Inv-loop words g w q bits₀ i₀ bits i = (i ≤ g .workers) × Dues words g (workerAt (g .workers) w) q bits i

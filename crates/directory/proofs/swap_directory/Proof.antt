@@ -7,10 +7,10 @@ use lib.ListN.{length}
 use borrow.Author.Tests.{not-false, not-true}
 use Rattle.machine.specs.Choice.{if_then_else_}
 use Rattle.layout.proofs.Positions.{long}
-use Rattle.splits.proofs.Splitting.{whole-else, redirected-not, redirected-done}
+use Rattle.directory.proofs.DirectoryLaws.{whole-else, redirected-not, redirected-done}
 use borrow.Author.Needs.{needs}
-use Rattle.splits.proofs.swap_directory.Statement.{statement}
-use Rattle.splits.proofs.swap_directory.Tie as tie
+use Rattle.directory.proofs.swap_directory.Statement.{statement}
+use Rattle.directory.proofs.swap_directory.Tie as tie
 
 -- after the splits, if there are any, as many words as before
 same :

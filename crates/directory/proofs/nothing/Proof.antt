@@ -1,9 +1,9 @@
 -- `nothing` tells whether there is nothing to split.
 -- Rests on both outcomes of the test.
-use Rattle.splits.proofs.Splitting.{nothing-marked, nothing-short}
+use Rattle.directory.proofs.DirectoryLaws.{nothing-marked, nothing-short}
 use borrow.Author.Needs.{needs}
-use Rattle.splits.proofs.nothing.Statement.{statement}
-use Rattle.splits.proofs.nothing.Tie as tie
+use Rattle.directory.proofs.nothing.Statement.{statement}
+use Rattle.directory.proofs.nothing.Tie as tie
 
 returns : tie.Need-returns
 returns c = nothing-marked _ _ _ _ (c .before .worker-word .ensures) (c .if1 .taken)

@@ -1,10 +1,10 @@
 -- `carry` carries out one update in a record.
 -- Rests on the words of the slot one after another.
 use Rattle.fields.specs.Regions.{workerAt}
-use Rattle.splits.proofs.Splitting.{carried-is}
+use Rattle.taking.proofs.TakingLaws.{carried-is}
 use borrow.Author.Needs.{needs}
-use Rattle.splits.proofs.carry.Statement.{statement}
-use Rattle.splits.proofs.carry.Tie as tie
+use Rattle.taking.proofs.carry.Statement.{statement}
+use Rattle.taking.proofs.carry.Tie as tie
 
 store-state-requires : tie.Need-store-state-requires
 store-state-requires c κs =

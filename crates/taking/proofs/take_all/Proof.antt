@@ -7,11 +7,11 @@ use mathlib.Core.Logic.{⊎-elim}
 use lib.ListN.{length}
 use borrow.Author.Needs.{needs}
 use Rattle.fields.specs.Regions.{workerAt}
-use Rattle.splits.specs.Splits.{takenAll}
+use Rattle.taking.specs.Taking.{takenAll}
 use Rattle.reuse.proofs.Pool.{whole-kept}
-use Rattle.splits.proofs.Splitting.{all-more, all-same}
-use Rattle.splits.proofs.take_all.Statement.{statement}
-use Rattle.splits.proofs.take_all.Tie as tie
+use Rattle.taking.proofs.TakingLaws.{all-more, all-same}
+use Rattle.taking.proofs.take_all.Statement.{statement}
+use Rattle.taking.proofs.take_all.Tie as tie
 
 abbrev Inv-loop : tie.InvT-loop
 Inv-loop words₀ g w bits i₀ words i =
