@@ -1,50 +1,20 @@
 -- What a caller of `feed` knows: the used bytes are bytes of the buffer, no more bytes are taken than there are, and one at least where
--- the buffer holds the longest text. Rests on the definitions of specs/Answers and specs/Feeding.
+-- the buffer holds the longest text. Rests on the definitions of specs/Feeding and on the laws of outputs and answers.
 use Prim.Native.Nat.{ℕ, suc, _+_, _≤_, _<_}
 use mathlib.Core.Path.{_≡_, refl}
 use mathlib.Core.List.{List, [], _∷_}
 use native.Mathlib.Omega.{arith}
-use lib.IntN.{ℤ}
 use lib.ListN.{length}
-use borrow.Author.Tests.{leb-true, le-leb}
-use Rattle.interface.specs.declared.Listed.{Listed}
+use borrow.Author.Tests.{le-leb}
 use Rattle.machine.specs.Choice.{if_then_else_}
 use Rattle.machine.proofs.laws.Base.{if-elim}
-use Rattle.lines.specs.declared.command.Command.{Command}
-use Rattle.replies.specs.Printed.{fits, printedRow, printedEnd}
 use Rattle.lines.specs.Reading.{commandIn}
-use Rattle.lists.proofs.PartLaws.{length-overlay}
-use Rattle.driver.specs.Answers.{Output, emitted, putRows, putListed, DriverState, listedAs, listed, repliedAs, answered}
-use Rattle.driver.specs.Feeding.{Feeding, roomFor, longest, took, fed}
+use Rattle.outputs.specs.Room.{longest, roomFor}
+use Rattle.outputs.proofs.Within.{Within}
+use Rattle.responses.proofs.Answering.{answered-within}
+use Rattle.driver.specs.Feeding.{Feeding, took, fed}
 
 -- ---- the used bytes
-
-pub record Within (o : Output) : Type 0 where
-  pub used : o .used ≤ length (o .bytes)
-
-put-within : (o : Output) (xs : List ℕ) → Within o → Within (emitted o xs)
-unfolding emitted fits
-put-within o xs w =
-    if-elim Within _ _ _
-    (λ e.
-    let h = leb-true (o .used + length xs) (length (o .bytes)) e in
-    record { used = rw (length-overlay (o .bytes) (o .used) xs h) h })
-    (λ e. w)
-
-rows-within : (o : Output) (t : List (ℕ × ℤ)) → Within o → Within (putRows o t)
-unfolding putRows
-rows-within o [] w = w
-rows-within o (e ∷ t) w = rows-within (emitted o (printedRow (e .0) (e .1))) t (put-within o _ w)
-
-listing-within : (o : Output) (accounts : List ℕ) (totals : List ℤ) (x : Listed) → Within o → Within (putListed o accounts totals x)
-unfolding putListed
-listing-within o accounts totals (Listed.Count n) w = put-within _ (printedEnd n) (rows-within o _ w)
-listing-within o accounts totals (Listed.Refused r) w = put-within o _ w
-
-answered-within : (s : DriverState) (c : Command) → Within (s .output) → Within (answered s c .output)
-unfolding answered listed listedAs repliedAs
-answered-within s c w =
-    if-elim (λ (t : DriverState). Within (t .output)) _ _ _ (λ e. listing-within (s .output) _ _ _ w) (λ e. put-within (s .output) _ w)
 
 took-within : (f : Feeding) (b : ℕ) → Within (f .state .output) → Within (took f b .state .output)
 unfolding took

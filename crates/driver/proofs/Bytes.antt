@@ -12,8 +12,10 @@ use Rattle.machine.specs.Choice.{if_then_else_}
 use Rattle.lines.specs.declared.command.Command.{Command}
 use Rattle.lines.specs.declared.reader.Reader.{Reader}
 use Rattle.lines.specs.Reading.{fresh, pushed, commandIn}
-use Rattle.driver.specs.Answers.{DriverState, answered}
-use Rattle.driver.specs.Feeding.{Feeding, roomFor, longest, took, fed}
+use Rattle.outputs.specs.Outputs.{DriverState}
+use Rattle.outputs.specs.Room.{longest, roomFor}
+use Rattle.responses.specs.Answers.{answered}
+use Rattle.driver.specs.Feeding.{Feeding, took, fed}
 
 -- the next byte, by what it is
 module _ (f : Feeding) (b : ℕ) where

@@ -1,5 +1,4 @@
 -- Laws that belong to no one function.
 -- They rest on the definitions of specs/.
-pub mod Outputs
 pub mod Bytes
 pub mod Bounds

@@ -1,6 +1,9 @@
-// A command carried out on the words, and its reply.
+// A command carried out on the words, and its reply, or the listing, printed behind the used bytes of a buffer.
+// Depends on table for the calls, on lines for the commands, and on outputs for what is printed.
 ghost use mathlib.Core.Path.{_≡_};
+ghost use Rattle.outputs.specs.Outputs.{stateOf};
 ghost use Rattle.responses.specs.Responses.{responded, ofOpened, ofCalled, ofRan};
+ghost use Rattle.responses.specs.Answers.{isList, answered};
 use interface::Called;
 use interface::KIND_DELETE;
 use interface::KIND_INSERT;
@@ -8,7 +11,42 @@ use interface::KIND_LOOKUP;
 use interface::Opened;
 use interface::Ran;
 use lines::Command;
+use outputs::put_reply;
+use outputs::show;
 use replies::Reply;
+
+// Carries a command out, and prints what it is met with.
+pub fn answer(
+    words: &mut [u64],
+    accounts: &mut [u32],
+    totals: &mut [i64],
+    out: &mut [u8],
+    used: usize,
+    c: Command,
+) -> usize
+    ensures { λ r. ⌜ stateOf (now (words .exit)) (now (accounts .exit)) (now (totals .exit)) (now (out .exit)) r
+        ≡ answered (stateOf (now (words .entry)) (now (accounts .entry)) (now (totals .entry)) (now (out .entry)) used)
+        c ⌝ }
+{
+    if is_list(c) {
+        return show(words, accounts, totals, out, used);
+    }
+    put_reply(out, used, respond(words, c))
+}
+
+fn is_list(c: Command) -> bool
+    ensures { λ r. ⌜ r ≡ isList c ⌝ }
+{
+    match c {
+        Command::Open(_, _, _) => false,
+        Command::Insert(_, _, _) => false,
+        Command::Delete(_, _) => false,
+        Command::Lookup(_, _) => false,
+        Command::Steps(_, _) => false,
+        Command::List => true,
+        Command::Unread => false,
+    }
+}
 
 // What a command is met with, for any words. A listing is no `Reply`: `answer` does not bring it here, and it would be
 // unread.

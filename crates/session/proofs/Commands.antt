@@ -38,7 +38,7 @@ use Rattle.lines.specs.declared.command.Command.{Command}
 use Rattle.lines.specs.Grammar.{lineOf}
 use Rattle.lines.specs.Session.{told}
 use Rattle.responses.specs.Responses.{ofOpened, ofCalled, ofRan, replying, responded}
-use Rattle.driver.specs.Answers.{isList}
+use Rattle.responses.specs.Answers.{isList}
 use Rattle.texts.specs.Texts.{rowsText, listingText, textOn, wordsOn}
 use Rattle.simulation.proofs.OpeningMeans.{strange-never, shape-is, opened-means}
 use Rattle.simulation.proofs.RowsMean.{rows-are}

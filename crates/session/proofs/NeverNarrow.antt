@@ -37,7 +37,7 @@ use Rattle.opening.specs.Opening.{openWords, openedWords}
 use Rattle.calls.specs.Calls.{callIn, callWords}
 use Rattle.runs.specs.Runs.{lastOf, orElse, runIn, runWords}
 use Rattle.responses.specs.Responses.{ofOpened, ofCalled, ofRan, replying, responded}
-use Rattle.driver.specs.Answers.{isList}
+use Rattle.responses.specs.Answers.{isList}
 use Rattle.texts.specs.Texts.{rowsText, listingText, textOn, wordsOn}
 use Rattle.texts.proofs.Parts.{commands-answered}
 use Rattle.simulation.proofs.OpeningMeans.{shape-is}

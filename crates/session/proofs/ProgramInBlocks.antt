@@ -15,8 +15,9 @@ use Rattle.lines.specs.declared.reader.Reader.{Reader}
 use Rattle.lines.specs.Reading.{fresh, pushed, commandIn, isEmpty}
 use Rattle.lines.specs.Session.{session}
 use Rattle.lines.proofs.Session.{session-of-01}
-use Rattle.driver.specs.Answers.{DriverState}
-use Rattle.driver.specs.Feeding.{Feeding, longest, took, fed}
+use Rattle.outputs.specs.Outputs.{DriverState}
+use Rattle.outputs.specs.Room.{longest}
+use Rattle.driver.specs.Feeding.{Feeding, took, fed}
 use Rattle.texts.specs.Texts.{lastFeed, textsOn, wordsOn, wordsAfter, ended, readerAfter}
 use Rattle.driver.proofs.Bounds.{fed-first}
 use Rattle.texts.proofs.Texts.{behind, answered-kept}

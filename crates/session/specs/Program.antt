@@ -11,7 +11,8 @@ use Rattle.lines.specs.declared.command.Command.{Command}
 use Rattle.lines.specs.declared.reader.Reader.{Reader}
 use Rattle.lines.specs.Reading.{fresh}
 use Rattle.lines.specs.Session.{session}
-use Rattle.driver.specs.Feeding.{Feeding, longest, fed}
+use Rattle.outputs.specs.Room.{longest}
+use Rattle.driver.specs.Feeding.{Feeding, fed}
 use Rattle.texts.specs.Texts.{lastFeed, textOn, wordsOn, textsOn, ended, readerAfter}
 
 -- ---- the whole input at once

@@ -15,8 +15,10 @@ use Rattle.lines.specs.declared.reader.Reader.{Reader}
 use Rattle.lines.specs.Reading.{fresh, pushed, commandIn}
 use Rattle.lists.specs.Parts.{overlay}
 use Rattle.lists.proofs.PartLaws.{length-overlay}
-use Rattle.driver.specs.Answers.{Output, answered}
-use Rattle.driver.specs.Feeding.{Feeding, roomFor, longest, took, fed}
+use Rattle.outputs.specs.Outputs.{Output}
+use Rattle.outputs.specs.Room.{longest, roomFor}
+use Rattle.responses.specs.Answers.{answered}
+use Rattle.driver.specs.Feeding.{Feeding, took, fed}
 use Rattle.texts.specs.Texts.{textOn, wordsOn, textsOn, wordsAfter, ended, readerAfter}
 use Rattle.texts.proofs.Texts.{behind, behind-nil, behind-behind, Room, text-within, answered-behind, answered-words, answered-kept}
 

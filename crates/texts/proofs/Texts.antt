@@ -29,8 +29,9 @@ use Rattle.replies.specs.Printed.{fits, printedRow, printedRows, printedEnd, pr
 use Rattle.lists.proofs.PartLaws.{overlay-nil, length-overlay}
 use Rattle.replies.proofs.Overlays.{next}
 use Rattle.responses.specs.Responses.{responded}
-use Rattle.driver.specs.Answers.{Output, emitted, putRows, rowsAt, putListed, DriverState, listedAs, listed, repliedAs, isList, answered}
-use Rattle.driver.specs.Feeding.{longest}
+use Rattle.outputs.specs.Outputs.{Output, emitted, putRows, rowsAt, putListed, DriverState, listedAs, listed}
+use Rattle.outputs.specs.Room.{longest}
+use Rattle.responses.specs.Answers.{repliedAs, isList, answered}
 use Rattle.texts.specs.Texts.{rowsText, listingText, textOn, wordsOn}
 use Rattle.texts.proofs.Lengths.{row-within, end-within, reply-within}
 use Rattle.texts.proofs.Small.{small-total, small-refused, small-response}

@@ -18,7 +18,7 @@ use Rattle.lines.specs.declared.reader.Reader.{Reader}
 use Rattle.replies.specs.Printed.{printedReply, printedRows, printedEnd}
 use Rattle.lines.specs.Reading.{fresh, pushed, commandIn, isEmpty}
 use Rattle.responses.specs.Responses.{responded}
-use Rattle.driver.specs.Answers.{isList}
+use Rattle.responses.specs.Answers.{isList}
 
 -- ---- one command
 

@@ -2,7 +2,7 @@
 // is the business of the crate driver; here are the lent words and lists, and reading and writing.
 ghost use Prim.Native.Nat.{_≤_};
 ghost use lib.ListN.{length};
-ghost use Rattle.driver.specs.Feeding.{longest};
+ghost use Rattle.outputs.specs.Room.{longest};
 use libc::STDIN_FILENO;
 use libc::STDOUT_FILENO;
 use lines::Reader;

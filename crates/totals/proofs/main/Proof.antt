@@ -2,7 +2,7 @@
 -- Rests on its length.
 use native.Mathlib.Omega.{arith}
 use lib.ListN.{length-replicate}
-use Rattle.driver.specs.Feeding.{longest}
+use Rattle.outputs.specs.Room.{longest}
 use borrow.Author.Needs.{needs}
 use Rattle.totals.proofs.main.Statement.{statement}
 use Rattle.totals.proofs.main.Tie as tie

@@ -1,5 +1,5 @@
 -- What a printer leaves is a text emitted behind the used bytes; rows one by one.
--- Rests on the definitions of specs/Answers and on the lines' printers.
+-- Rests on the definitions of specs/Outputs and on the replies' printers.
 use Prim.Native.Nat.{ℕ, suc, _+_, _-_, _≤_, _<_}
 use mathlib.Core.Path.{_≡_, refl, ap}
 use mathlib.Core.Bool.{Bool, true, false, _||_}
@@ -17,12 +17,10 @@ use Rattle.interface.specs.declared.Refusal.{Refusal}
 use Rattle.machine.specs.Choice.{if_then_else_}
 use Rattle.layout.specs.Shape.{strange, shapeOf}
 use Rattle.rows.specs.Rows.{rows, Shown, shown, listingWords}
-use Rattle.lines.specs.declared.command.Command.{Command}
 use Rattle.replies.specs.declared.Reply.{Reply}
 use Rattle.lists.specs.Parts.{overlay}
 use Rattle.replies.specs.Printed.{fits, Wrote, printedRow, printedEnd, printedReply}
-use Rattle.responses.specs.Responses.{responded}
-use Rattle.driver.specs.Answers.{Output, emitted, putRows, rowsAt, putListed, DriverState, listedAs, listed, repliedAs, isList, answered}
+use Rattle.outputs.specs.Outputs.{Output, emitted, putRows, rowsAt, putListed, DriverState, listedAs, listed}
 
 module _ {l : List ℕ} {at : ℕ} {xs : List ℕ} {r : ℕ} {after : List ℕ} (w : Wrote l at xs r after) where
   pub wrote-put : _≡_ {A = Output} (record { bytes = after; used = at + r }) (emitted (record { bytes = l; used = at }) xs)
@@ -99,15 +97,3 @@ module _ (s : DriverState) (x : Shown) (e : x ≡ listingWords (s .words) (s .ac
       → _≡_ {A = DriverState} (record { words = s .words; accounts = x .accounts; totals = x .totals; output = q }) (listed s)
   unfolding listed listedAs putListed
   listed-refused r k f g h = rw (← e, f, h, g)
-
--- ---- commands
-
-pub answered-list : (s : DriverState) (c : Command) (t : Bool) (x : DriverState) → t ≡ isList c → t ≡ true → x ≡ listed s → x ≡ answered s c
-unfolding answered if_then_else_
-answered-list s c t x e f g = rw (← e, f) g
-
-pub answered-reply : (s : DriverState) (c : Command) (t : Bool) (l : List ℕ) (r : Reply) (o : Output) → t ≡ isList c → t ≡ false
-    → _≡_ {A = List ℕ × Reply} (l, r) (responded (s .words) c) → o ≡ emitted (s .output) (printedReply r)
-    → _≡_ {A = DriverState} (record { words = l; accounts = s .accounts; totals = s .totals; output = o }) (answered s c)
-unfolding answered repliedAs if_then_else_
-answered-reply s c t l r o e f g h = rw (← e, f, ← g, h)

@@ -7,8 +7,8 @@ use lib.ListN.{length, drop}
 use borrow.Author.Needs.{needs}
 use Rattle.driver.specs.Feeding.{Feeding, fed}
 use Rattle.driver.proofs.Bytes.{fed-end, fed-full, fed-next, took-line, took-byte}
-use Rattle.driver.proofs.feeding.feed.Statement.{statement}
-use Rattle.driver.proofs.feeding.feed.Tie as tie
+use Rattle.driver.proofs.feed.Statement.{statement}
+use Rattle.driver.proofs.feed.Tie as tie
 
 abbrev Inv-loop : tie.InvT-loop
 Inv-loop words₀ accounts₀ totals₀ out₀ input reader₀ used₀ i₀ words accounts totals out reader used i =

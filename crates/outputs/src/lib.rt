@@ -1,50 +1,19 @@
-// What a command is met with, printed into a caller's buffer behind the bytes that are used. Each function answers how
-// many bytes are used then; a line for which there is no room is left out.
+// What is printed into a caller's buffer behind the bytes that are used. Each printer answers how many bytes are used
+// then; a line for which there is no room is left out. Depends on rows for the listing, and on replies for the texts.
 ghost use mathlib.Core.Path.{_≡_};
 ghost use Prim.Native.Nat.{_≤_};
 ghost use lib.ListN.{length};
 ghost use Rattle.replies.specs.Printed.{printedReply, printedRow, printedEnd};
-ghost use Rattle.driver.specs.Answers.{outputOf, emitted, putRows, rowsAt, stateOf, listed, isList, answered};
+ghost use Rattle.outputs.specs.Outputs.{outputOf, emitted, putRows, rowsAt, stateOf, listed};
+ghost use Rattle.outputs.specs.Room.{longest, roomFor};
 use interface::Listed;
-use lines::Command;
 use replies::Reply;
-use responses::respond;
 
-// Carries a command out, and prints what it is met with.
-pub fn answer(
-    words: &mut [u64],
-    accounts: &mut [u32],
-    totals: &mut [i64],
-    out: &mut [u8],
-    used: usize,
-    c: Command,
-) -> usize
-    ensures { λ r. ⌜ stateOf (now (words .exit)) (now (accounts .exit)) (now (totals .exit)) (now (out .exit)) r
-        ≡ answered (stateOf (now (words .entry)) (now (accounts .entry)) (now (totals .entry)) (now (out .entry)) used)
-        c ⌝ }
-{
-    if is_list(c) {
-        return show(words, accounts, totals, out, used);
-    }
-    put_reply(out, used, respond(words, c))
-}
-
-fn is_list(c: Command) -> bool
-    ensures { λ r. ⌜ r ≡ isList c ⌝ }
-{
-    match c {
-        Command::Open(_, _, _) => false,
-        Command::Insert(_, _, _) => false,
-        Command::Delete(_, _) => false,
-        Command::Lookup(_, _) => false,
-        Command::Steps(_, _) => false,
-        Command::List => true,
-        Command::Unread => false,
-    }
-}
+// The longest text that one line is met with: 4,096 rows of 32 bytes each, and `end` with a count of up to 20 digits.
+const LONGEST: usize = 131097;
 
 // The listing's rows and its end, or its refusal.
-fn show(
+pub fn show(
     words: &[u64],
     accounts: &mut [u32],
     totals: &mut [i64],
@@ -55,7 +24,7 @@ fn show(
         ≡ listed (stateOf (now (words .entry)) (now (accounts .entry)) (now (totals .entry)) (now (out .entry))
         used) ⌝ }
 {
-    match table::listing(words, accounts, totals) {
+    match rows::listing(words, accounts, totals) {
         Listed::Count(count) => {
             let next = put_rows(accounts, totals, count as usize, out, used);
             put_end(out, next, count)
@@ -94,9 +63,19 @@ fn put_end(out: &mut [u8], used: usize, count: u64) -> usize
     used + replies::print_end(out, used, count)
 }
 
-fn put_reply(out: &mut [u8], used: usize, reply: Reply) -> usize
+pub fn put_reply(out: &mut [u8], used: usize, reply: Reply) -> usize
     ensures { λ r. ⌜ outputOf (now (out .exit)) r
         ≡ emitted (outputOf (now (out .entry)) used) (printedReply reply) ⌝ }
 {
     used + replies::print_reply(out, used, reply)
+}
+
+// Whether the longest text has room behind the used bytes of a buffer.
+pub fn roomy(len: usize, used: usize) -> bool
+    ensures { λ r. ⌜ r ≡ roomFor longest len used ⌝ }
+{
+    if len < used {
+        return false;
+    }
+    LONGEST <= len - used
 }

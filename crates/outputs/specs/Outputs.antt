@@ -1,7 +1,6 @@
--- What is printed for a command, behind the bytes of a buffer that are used. 01, The driver: "`T` prints account and
--- total, ascending, then `end` and the count." Rests on crate responses, the table's listing and the lines' texts.
+-- What is printed behind the bytes of a buffer that are used. 01, The driver: "`T` prints account and total, ascending,
+-- then `end` and the count." Rests on the table's listing and on the replies' texts.
 use Prim.Native.Nat.{ℕ, zero, suc, _+_}
-use mathlib.Core.Bool.{Bool, true, false}
 use mathlib.Core.List.{List, [], _∷_}
 use lib.IntN.{ℤ, pos}
 use lib.ListN.{length, getD}
@@ -9,11 +8,9 @@ use Rattle.interface.specs.Numbers.{numberOf}
 use Rattle.interface.specs.declared.Listed.{Listed}
 use Rattle.machine.specs.Choice.{if_then_else_}
 use Rattle.rows.specs.Rows.{Shown, listingWords}
-use Rattle.lines.specs.declared.command.Command.{Command}
 use Rattle.replies.specs.declared.Reply.{Reply}
 use Rattle.lists.specs.Parts.{overlay}
 use Rattle.replies.specs.Printed.{fits, printedReply, printedRow, printedEnd}
-use Rattle.responses.specs.Responses.{responded}
 
 -- ---- output
 
@@ -45,7 +42,7 @@ unfoldable pub putListed : Output → List ℕ → List ℤ → Listed → Outpu
 putListed o accounts totals (Listed.Count n) = emitted (putRows o (rowsAt accounts totals 0 n)) (printedEnd n)
 putListed o accounts totals (Listed.Refused r) = emitted o (printedReply (Reply.Refused (numberOf r)))
 
--- ---- answers
+-- ---- listings
 
 -- what the program lends, and its output
 pub record DriverState : Type 0 where
@@ -70,24 +67,3 @@ listedAs s x = record {
 
 unfoldable pub listed : DriverState → DriverState
 listed s = listedAs s (listingWords (s .words) (s .accounts) (s .totals))
-
--- after a command left these words and this reply
-unfoldable pub repliedAs : DriverState → List ℕ × Reply → DriverState
-repliedAs s x = record {
-  words = x .0;
-  accounts = s .accounts;
-  totals = s .totals;
-  output = emitted (s .output) (printedReply (x .1));
-}
-
-unfoldable pub isList : Command → Bool
-isList (Command.Open n b M) = false
-isList (Command.Insert w a t) = false
-isList (Command.Delete w a) = false
-isList (Command.Lookup w a) = false
-isList (Command.Steps w k) = false
-isList Command.List = true
-isList Command.Unread = false
-
-unfoldable pub answered : DriverState → Command → DriverState
-answered s c = if isList c then listed s else repliedAs s (responded (s .words) c)

@@ -7,10 +7,10 @@ use lib.ListN.{length, getD}
 use mir.Facts.{toZ-ofZ}
 use borrow.Author.Needs.{needs}
 use Rattle.replies.specs.Printed.{printedRow}
-use Rattle.driver.specs.Answers.{Output, emitted, putRows, rowsAt}
-use Rattle.driver.proofs.Outputs.{rows-start, rows-end, rows-next}
-use Rattle.driver.proofs.answers.put_rows.Statement.{statement}
-use Rattle.driver.proofs.answers.put_rows.Tie as tie
+use Rattle.outputs.specs.Outputs.{Output, emitted, putRows, rowsAt}
+use Rattle.outputs.proofs.Outputs.{rows-start, rows-end, rows-next}
+use Rattle.outputs.proofs.put_rows.Statement.{statement}
+use Rattle.outputs.proofs.put_rows.Tie as tie
 
 abbrev Inv-loop : tie.InvT-loop
 Inv-loop accounts totals count out₀ used used₀ i₀ out used' i = (i ≤ count)

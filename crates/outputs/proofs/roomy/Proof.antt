@@ -5,9 +5,9 @@ use mathlib.Core.Path.{sym}
 use native.Mathlib.Omega.{arith}
 use borrow.Author.Tests.{lt-leb}
 use Rattle.replies.proofs.Overlays.{room-in-rest}
-use Rattle.driver.specs.Feeding.{roomFor, longest}
-use Rattle.driver.proofs.feeding.roomy.Statement.{statement}
-use Rattle.driver.proofs.feeding.roomy.Tie as tie
+use Rattle.outputs.specs.Room.{roomFor, longest}
+use Rattle.outputs.proofs.roomy.Statement.{statement}
+use Rattle.outputs.proofs.roomy.Tie as tie
 
 returns : tie.Need-returns
 unfolding roomFor longest

@@ -1,9 +1,9 @@
 -- `answer`: a listing, or a reply.
 -- Rests on the laws of the two and on the contracts of what is called.
-use Rattle.driver.proofs.Outputs.{answered-list, answered-reply}
+use Rattle.responses.proofs.Answering.{answered-list, answered-reply}
 use borrow.Author.Needs.{needs}
-use Rattle.driver.proofs.answers.answer.Statement.{statement}
-use Rattle.driver.proofs.answers.answer.Tie as tie
+use Rattle.responses.proofs.answer.Statement.{statement}
+use Rattle.responses.proofs.answer.Tie as tie
 
 returns : tie.Need-returns
 returns c =

@@ -5,11 +5,11 @@ use native.Mathlib.Omega.{arith}
 use lib.IntN.{ℤ}
 use mir.Facts.{toZ-ofZ}
 use Rattle.replies.specs.Printed.{printedRow}
-use Rattle.driver.specs.Answers.{emitted}
-use Rattle.driver.proofs.Outputs.{wrote-put, wrote-within}
+use Rattle.outputs.specs.Outputs.{emitted}
+use Rattle.outputs.proofs.Outputs.{wrote-put, wrote-within}
 use borrow.Author.Needs.{needs}
-use Rattle.driver.proofs.answers.put_row.Statement.{statement}
-use Rattle.driver.proofs.answers.put_row.Tie as tie
+use Rattle.outputs.proofs.put_row.Statement.{statement}
+use Rattle.outputs.proofs.put_row.Tie as tie
 
 add-result : tie.Need-add-result
 add-result c = omega (arith, wrote-within (c .before .before .print-row .ensures) 18446744073709551615 (omega arith) (omega arith))

@@ -3,10 +3,10 @@
 use mathlib.Core.Path.{sym, _∙_, ap}
 use native.Mathlib.Omega.{arith}
 use Rattle.rows.specs.Rows.{Shown}
-use Rattle.driver.proofs.Outputs.{count-within, listed-count, listed-refused}
+use Rattle.outputs.proofs.Outputs.{count-within, listed-count, listed-refused}
 use borrow.Author.Needs.{needs}
-use Rattle.driver.proofs.answers.show.Statement.{statement}
-use Rattle.driver.proofs.answers.show.Tie as tie
+use Rattle.outputs.proofs.show.Statement.{statement}
+use Rattle.outputs.proofs.show.Tie as tie
 
 put-rows-requires : tie.Need-put-rows-requires
 put-rows-requires c κs =

@@ -1,9 +1,9 @@
 -- `is_list`: by the command.
 -- Rests on nothing but the definition.
-use Rattle.driver.specs.Answers.{isList}
+use Rattle.responses.specs.Answers.{isList}
 use borrow.Author.Needs.{needs}
-use Rattle.driver.proofs.answers.is_list.Statement.{statement}
-use Rattle.driver.proofs.answers.is_list.Tie as tie
+use Rattle.responses.proofs.is_list.Statement.{statement}
+use Rattle.responses.proofs.is_list.Tie as tie
 
 returns : tie.Need-returns
 unfolding isList
