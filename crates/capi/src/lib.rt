@@ -1,30 +1,26 @@
 // The calls of `table` as flat C functions: a slice is a pointer and a length, an answer is a number, and what does
-// not fit into the number goes into a report. Each takes any words and any arguments; its contract equals a
-// definition of specs/Flat. include/totals.h declares them.
+// not fit into the number goes into a report, both by crate numbers. Each takes any words and any arguments; its
+// contract equals a definition of specs/Flat. include/totals.h declares them.
 ghost use mathlib.Core.Path.{_≡_};
 ghost use Rattle.interface.specs.Limits.{built};
 ghost use Rattle.opening.specs.Opening.{neededFor, openWords};
 ghost use Rattle.calls.specs.Calls.{callWords};
-ghost use Rattle.capi.specs.Flat.{neededNumber, openedNumber, calledNumber, flat, stepLeft, runLeft, listWritten};
-use interface::Called;
-use interface::Listed;
-use interface::Needed;
-use interface::Opened;
-use interface::Ran;
-use interface::Stepped;
-use report::ended;
-use report::tell;
-use report::tell_one;
+ghost use Rattle.numbers.specs.Returned.{neededNumber, openedNumber, calledNumber};
+ghost use Rattle.capi.specs.Flat.{flat, stepLeft, runLeft, listWritten};
+use numbers::called_number;
+use numbers::listed_number;
+use numbers::needed_number;
+use numbers::opened_number;
+use numbers::ran_number;
+use numbers::stepped_number;
 
 // How many words a table of these settings needs, or 1 for wrong settings.
 #[no_mangle]
 pub extern "C" fn totals_words_needed(workers: u64, capacity: u64, depth: u64) -> u64
     ensures { λ r. ⌜ r ≡ neededNumber (neededFor (built workers capacity depth)) ⌝ }
 {
-    match table::words_needed(workers, capacity, depth) {
-        Needed::Words(k) => k,
-        Needed::Refused(r) => r.number(),
-    }
+    let answer = table::words_needed(workers, capacity, depth);
+    needed_number(answer)
 }
 
 // A fresh table: 0, or 1, 2.
@@ -33,10 +29,8 @@ pub extern "C" fn totals_open(words: &mut [u64], workers: u64, capacity: u64, de
     ensures { λ r. ⌜ (now (words .exit), r)
         ≡ flat openedNumber (openWords (now (words .entry)) workers capacity depth) ⌝ }
 {
-    match table::open(words, workers, capacity, depth) {
-        Opened::Opened => 0,
-        Opened::Refused(r) => r.number(),
-    }
+    let answer = table::open(words, workers, capacity, depth);
+    opened_number(answer)
 }
 
 // An operation handed to a worker: 0, or 8, 3, 4, 6, 7.
@@ -51,10 +45,8 @@ pub extern "C" fn totals_call(
     ensures { λ r. ⌜ (now (words .exit), r)
         ≡ flat calledNumber (callWords (now (words .entry)) worker kind account total) ⌝ }
 {
-    match table::call(words, worker, kind, account, total) {
-        Called::Accepted => 0,
-        Called::Refused(r) => r.number(),
-    }
+    let answer = table::call(words, worker, kind, account, total);
+    called_number(answer)
 }
 
 // One step of a worker: 0 where its operation goes on, 16 and the answer's number where it ended, or 8, 3, 5.
@@ -63,11 +55,8 @@ pub extern "C" fn totals_step(words: &mut [u64], worker: u64, report: &mut [u64]
     ensures { λ r. ⌜ record { words = now (words .exit); report = now (report .exit); number = r }
         ≡ stepLeft (now (words .entry)) (now (report .entry)) worker ⌝ }
 {
-    match table::step(words, worker) {
-        Stepped::Moved => 0,
-        Stepped::Answered(c) => ended(report, c),
-        Stepped::Refused(r) => r.number(),
-    }
+    let answer = table::step(words, worker);
+    stepped_number(report, answer)
 }
 
 // Up to so many steps of a worker, ending early at an answer: as a step, and the steps given are reported where the
@@ -77,14 +66,8 @@ pub extern "C" fn totals_run(words: &mut [u64], worker: u64, most: u64, report: 
     ensures { λ r. ⌜ record { words = now (words .exit); report = now (report .exit); number = r }
         ≡ runLeft (now (words .entry)) (now (report .entry)) worker most ⌝ }
 {
-    match table::run(words, worker, most) {
-        Ran::Moved(k) => {
-            tell(report, k, 0);
-            0
-        }
-        Ran::Answered(c) => ended(report, c),
-        Ran::Refused(r) => r.number(),
-    }
+    let answer = table::run(words, worker, most);
+    ran_number(report, answer)
 }
 
 // The accounts in ascending order with their totals: 0 and the count reported, or 8, 10.
@@ -102,11 +85,6 @@ pub extern "C" fn totals_list(
       number = r;
     } ≡ listWritten (now (words .entry)) (now (accounts .entry)) (now (totals .entry)) (now (report .entry)) ⌝ }
 {
-    match table::listing(words, accounts, totals) {
-        Listed::Count(k) => {
-            tell_one(report, k);
-            0
-        }
-        Listed::Refused(r) => r.number(),
-    }
+    let answer = table::listing(words, accounts, totals);
+    listed_number(report, answer)
 }
