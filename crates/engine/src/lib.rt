@@ -32,7 +32,6 @@ use fields::WORKER_MARKS;
 use fields::WORKER_SLOTS;
 use fields::WORKER_STATE;
 use fields::WORKER_TOGGLE;
-use inplace::own_round;
 use interface::KIND_NONE;
 use interface::Settings;
 use layout::addresses::held_by;
@@ -42,6 +41,7 @@ use layout::addresses::record_of;
 use layout::addresses::slot_word;
 use layout::addresses::worker_at;
 use layout::addresses::worker_word;
+use own::own_round;
 use record::settled_ticket;
 use reuse::numbers::fresh_number;
 use rules::splittable;
@@ -152,7 +152,7 @@ fn round(words: &mut [u64], g: Settings, w: usize, q: usize)
     let from = worker_at(g, w) + WORKER_SLOTS;
     let to = from + SLOT_SIZE * n;
     let t = rounds::round(s, &words[from..to], g, depth, toggle);
-    record::store_state(words, q, b, n, t);
+    storing::store_state(words, q, b, n, t);
 }
 
 pub fn swap(words: &mut [u64], g: Settings, w: usize)

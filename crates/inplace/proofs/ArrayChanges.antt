@@ -1,90 +1,27 @@
 -- A bucket's arrays changed in the words of its record: what is written over each is what the changed array would be stored as.
--- Rests on the laws of parts and overlays, and on the memory's laws of runs and of stored states.
-use Prim.Native.Nat.{ℕ, suc, _+_, _-_, _≤_, _<_}
+-- Rests on the laws of parts and overlays, and on the laws of runs, of stored states and of overlays.
+use Prim.Native.Nat.{ℕ, _+_, _-_, _≤_, _<_}
 use native.Mathlib.Nat.{add-assoc}
 use native.Mathlib.Omega.{arith}
 use native.Mathlib.Decide.{decLt}
 use mathlib.Core.Path.{_≡_, refl, sym, _∙_, ap}
 use mathlib.Core.Logic.{inl, inr, ⊎-elim}
-use mathlib.Core.List.{List, [], _∷_, _++_, append-assoc}
-use lib.ListN.{length, getD, set, take, drop}
-use lib.Seq.{drop-drop, length-take-le, getD-take, getD-set-other}
-use borrow.Rule.Slice.PartMut.{putMid}
-use borrow.Author.Tests.{lt-ltb, le-leb}
+use mathlib.Core.List.{List, [], _∷_}
+use lib.ListN.{length, getD, set, take}
+use lib.Seq.{length-take-le, getD-take, getD-set-other}
 use Rattle.interface.specs.Limits.{greatestCapacity}
 use Rattle.fields.specs.Fields.{recordCount, recordApplied, accountsFrom, totalsFrom, settledFrom, answersFrom}
-use Rattle.machine.proofs.laws.Base.{if-true, and-true}
 use Rattle.arrays.specs.Arrays.{insertedIn, removedFrom}
 use Rattle.lists.specs.Parts.{part, overlay}
-use Rattle.lists.proofs.PartLaws.{set-overlay, overlay-inner, length-overlay, length-part, getD-part, part-ext, getD-overlay-in, getD-overlay-before, getD-overlay-after, overlay-ext}
-use Rattle.record.specs.Loads.{copied, storedState}
+use Rattle.lists.proofs.PartLaws.{set-overlay, length-overlay, length-part, getD-part, part-ext, getD-overlay-in, getD-overlay-before, getD-overlay-after, overlay-ext}
+use Rattle.record.specs.Loads.{copied}
+use Rattle.storing.specs.Stores.{storedState}
 use Rattle.memory.specs.Words.{stored}
 use Rattle.memory.proofs.Runs.{Run}
 use Rattle.record.proofs.Runs.{length-copied, getD-copied, copied-same}
 use Rattle.memory.proofs.Lesser.{least-same}
-use Rattle.record.proofs.States.{state-stored}
-
--- ---- an item put into an array and one taken out, as overlays of it
-
-inserted-overlay : (a : List ℕ) (c i v : ℕ) → c < length a → i ≤ c → insertedIn a c i v ≡ overlay a i (v ∷ part a i (c - i))
-unfolding insertedIn overlay part
-inserted-overlay a c i v h k =
-    let n : length (take (c - i) (drop i a)) ≡ c - i = length-part a i (c - i) (omega arith) in
-    let e : suc c ≡ i + suc (length (take (c - i) (drop i a))) = omega arith in
-    if-true _ a (and-true (lt-ltb c (length a) h) (le-leb i c k)) ∙ ap (λ (k : ℕ). take i a ++ v ∷ take (c - i) (drop i a) ++ drop k a) e
-
-removed-overlay : (a : List ℕ) (c i : ℕ) → c ≤ length a → i < c → removedFrom a c i ≡ overlay a i (part a (i + 1) (c - i - 1))
-unfolding removedFrom overlay part
-removed-overlay a c i h k =
-    let next : suc i ≡ i + 1 = omega arith in
-    let left : c - (i + 1) ≡ c - i - 1 = omega arith in
-    let n : length (take (c - i - 1) (drop (i + 1) a)) ≡ c - i - 1 = length-part a (i + 1) (c - i - 1) (omega arith) in
-    let e : c - 1 ≡ i + length (take (c - i - 1) (drop (i + 1) a)) = omega arith in
-    if-true _ a (and-true (le-leb c (length a) h) (lt-ltb i c k))
-    ∙ ap (λ (o : ℕ). take i a ++ take (c - o) (drop o a) ++ drop (c - 1) a) next
-    ∙ ap (λ (o : ℕ). take i a ++ take o (drop (i + 1) a) ++ drop (c - 1) a) left
-    ∙ ap (λ (o : ℕ). take i a ++ take (c - i - 1) (drop (i + 1) a) ++ drop o a) e
-
--- ---- a slice of the words written: the k words at `at`, which a call has made m
-
-module _ (l m : List ℕ) (at k c : ℕ) (fits : at + k ≤ length l) where
-  -- a run of the slice
-  part-part : (i n : ℕ) → i + n ≤ k → part (part l at k) i n ≡ part l (at + i) n
-  part-part i n h =
-      let e : length (part l at k) ≡ k = length-part l at k fits in
-      part-ext (part l at k) i n (part l (at + i) n) (omega arith) (length-part l (at + i) n (omega arith))
-      (λ j g. getD-part l at k (i + j) (omega arith) ∙ rw (← add-assoc) (sym (getD-part l (at + i) n j g)))
-
-  slice-written : length m ≡ k → putMid at k l m ≡ overlay l at m
-  unfolding overlay
-  slice-written n = rw (drop-drop k at l, ← n) (sym (append-assoc (take at l) m _))
-
-  -- overlaid with a run
-  slice-overlaid : (i : ℕ) (xs : List ℕ) → i + length xs ≤ k → m ≡ overlay (part l at k) i xs → putMid at k l m ≡ overlay l (at + i) xs
-  slice-overlaid i xs h e =
-      let n : length (part l at k) ≡ k = length-part l at k fits in
-      slice-written (ap length e ∙ length-overlay (part l at k) i xs (omega arith) ∙ n)
-      ∙ ap (overlay l at) e ∙ overlay-inner l at k fits i xs h
-
-  pub slice-raised :
-      (i v : ℕ) → k ≡ c + 1 → i ≤ c → m ≡ insertedIn (part l at k) c i v
-      → putMid at k l m ≡ overlay l (at + i) (v ∷ part l (at + i) (c - i))
-  slice-raised i v e h f =
-      let n = length-part l at k fits in
-      let r = length-part l (at + i) (c - i) (omega arith) in
-      slice-overlaid i _ (omega arith)
-      (f ∙ inserted-overlay (part l at k) c i v (omega arith) h
-      ∙ ap (λ (xs : List ℕ). overlay (part l at k) i (v ∷ xs)) (part-part i (c - i) (omega arith)))
-
-  pub slice-lowered :
-      (i : ℕ) → k ≡ c → i < c → m ≡ removedFrom (part l at k) c i
-      → putMid at k l m ≡ overlay l (at + i) (part l (at + i + 1) (c - i - 1))
-  slice-lowered i e h f =
-      let n = length-part l at k fits in
-      let r = length-part l (at + i + 1) (c - i - 1) (omega arith) in
-      slice-overlaid i _ (omega arith)
-      (f ∙ removed-overlay (part l at k) c i (omega arith) h
-      ∙ ap (overlay (part l at k) i) (part-part (i + 1) (c - i - 1) (omega arith) ∙ rw (← add-assoc)))
+use Rattle.storing.proofs.States.{state-stored}
+use Rattle.writes.proofs.Slices.{inserted-overlay, removed-overlay}
 
 -- ---- one array changed in the words
 

@@ -1,4 +1,3 @@
 pub mod ArrayChanges
-pub mod OneHelped
 pub mod Rounds
 pub mod OwnUpdate

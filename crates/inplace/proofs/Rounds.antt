@@ -10,7 +10,8 @@ use Rattle.rounds.specs.Rounds.{roundOf}
 use Rattle.bucket.specs.declared.BucketState.{BucketState}
 use Rattle.lists.specs.Parts.{part}
 use Rattle.layout.specs.Shape.{word}
-use Rattle.record.specs.Bucket.{bucketAt, withBucketAt}
+use Rattle.record.specs.Bucket.{bucketAt}
+use Rattle.storing.specs.Stores.{withBucketAt}
 use Rattle.inplace.specs.InPlace.{roundAt}
 
 module _ (l : List ℕ) (s : Settings) (p q a b : ℕ) where

@@ -1,20 +1,17 @@
 -- A round on a bucket's record, and one worker's update alone, for any words. Rests on what a round makes of a bucket's
 -- state, and on the record's words.
-use Prim.Native.Nat.{ℕ, _+_, _*_, _≤_, _<_}
-use mathlib.Core.Path.{_≡_}
+use Prim.Native.Nat.{ℕ, _+_, _*_}
 use mathlib.Core.List.{List}
 use lib.Dec.{eqb}
-use lib.ListN.{length}
 use Rattle.interface.specs.declared.Settings.{Settings}
-use Rattle.fields.specs.Fields.{slotSize, workerToggle, workerSlots, recordApplied, recordDepth, widestRecord}
-use Rattle.fields.specs.Regions.{workerAt}
+use Rattle.fields.specs.Fields.{slotSize, workerToggle, workerSlots, recordApplied, recordDepth}
 use Rattle.machine.specs.Choice.{if_then_else_}
-use Rattle.rules.specs.Rules.{flipBit}
 use Rattle.rounds.specs.Rounds.{carryOf, withApplied, roundOf}
 use Rattle.rules.specs.declared.Descriptor.{Descriptor}
 use Rattle.lists.specs.Parts.{part}
-use Rattle.layout.specs.Shape.{word, Fits}
-use Rattle.record.specs.Bucket.{bucketAt, withBucketAt}
+use Rattle.layout.specs.Shape.{word}
+use Rattle.record.specs.Bucket.{bucketAt}
+use Rattle.storing.specs.Stores.{withBucketAt}
 
 -- the record's state after a round with what the worker at p has read; where no bit differs there is nothing to carry
 -- out
@@ -29,10 +26,3 @@ roundAt l s p q =
 -- the record at q after worker j's update alone, with other applied bits
 unfoldable pub ownAt : List ℕ → Settings → ℕ → ℕ → ℕ → Descriptor → List ℕ
 ownAt l s q bits j u = withBucketAt l s q (withApplied (carryOf (bucketAt l s q) j u) bits)
-
--- worker w has read toggle bits that differ from those applied in the record at q by its own alone
-abbrev pub OwnAlone : List ℕ → Settings → ℕ → ℕ → ℕ → Type 0
-OwnAlone l s w q toggle =
-    Fits l s × ((w < s .workers) × ((q + widestRecord ≤ length l)
-    × ((toggle ≡ word l (workerAt (s .workers) w + workerToggle))
-    × (toggle ≡ flipBit (word l (q + recordApplied)) w))))

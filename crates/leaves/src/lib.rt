@@ -65,6 +65,6 @@ pub extern "C" fn leaf(
     if which == SEARCH {
         return position_number(state.search(account));
     }
-    record::store_state(words, to, b, n, changed(state, which, account, total));
+    storing::store_state(words, to, b, n, changed(state, which, account, total));
     0
 }

@@ -1,22 +1,19 @@
--- Laws of a bucket's state that is loaded or stored in two loops: two arrays at a time, one item of each at a time.
+-- Laws of a bucket's state that is loaded in two loops: two arrays at a time, one item of each at a time.
 -- Rests on the laws of runs.
 use Prim.Native.Nat.{ℕ, _+_, _≤_, _<_}
-use mathlib.Core.Path.{_≡_, refl, _∙_, ap}
+use mathlib.Core.Path.{_≡_, refl, _∙_}
 use mathlib.Core.Logic.{_⊎_, inl, inr}
 use mathlib.Core.List.{List}
 use native.Mathlib.Nat.{add-assoc}
 use native.Mathlib.Omega.{arith}
-use lib.ListN.{length, take, getD, set}
+use lib.ListN.{getD, set}
 use Rattle.fields.specs.Fields.{recordCount, recordApplied, recordToggle, recordAccounts, accountsFrom, totalsFrom, settledFrom, answersFrom, recordSize}
 use Rattle.bucket.specs.declared.BucketState.{BucketState}
-use Rattle.memory.specs.Words.{least, stored}
-use Rattle.record.specs.Loads.{copied, loadedState, storedState}
-use Rattle.memory.proofs.Runs.{set-before, stored-more, stored-run}
+use Rattle.memory.specs.Words.{least}
+use Rattle.record.specs.Loads.{copied, loadedState}
 use Rattle.record.proofs.Runs.{copied-more, copied-same, length-copied}
 use Rattle.memory.proofs.Lesser.{least-bound}
 use Rattle.bucket.proofs.Sizes.{Sized}
-
--- ---- loads
 
 -- the state after i accounts and j workers, c and d the count and the applied bits; p, t, u and v are the addresses of the four runs
 abbrev pub loading : List ℕ → ℕ → ℕ → ℕ → ℕ → ℕ → ℕ → ℕ → ℕ → BucketState
@@ -88,26 +85,3 @@ pub loaded-same :
     (l m : List ℕ) (q p b n : ℕ) → ((i : ℕ) → i < recordSize b n → getD l (q + i) 0 ≡ getD m (p + i) 0)
     → loadedState l q b n ≡ loadedState m p b n
 loaded-same l m q p b n h = loaded-kept l m q p b n (λ i g o. h i g)
-
--- ---- stores
-
-pub pair-stored :
-    (w l : List ℕ) (p t : ℕ) (x y : List ℕ) (i : ℕ) → w ≡ stored (stored l p x i) t y i → p + i < t → t + i < length l → i < length x
-    → i < length y → set (set w (p + i) (getD x i 0)) (t + i) (getD y i 0) ≡ stored (stored l p x (i + 1)) t y (i + 1)
-unfolding stored
-pair-stored w l p t x y i e h k m n =
-    let a = stored-run l p x i (omega arith) (omega arith) .long in
-    let b = stored-run l p x (i + 1) (omega arith) (omega arith) .long in
-    let first : set w (p + i) (getD x i 0) ≡ stored (stored l p x (i + 1)) t y i =
-    ap (λ (z : List ℕ). set z (p + i) (getD x i 0)) e
-    ∙ set-before (stored l p x i) t (take i y) (getD x i 0) (p + i) h (omega arith)
-    ∙ ap (λ (z : List ℕ). stored z t y i) (stored-more _ l p x i refl (omega arith) m) in
-    stored-more _ (stored l p x (i + 1)) t y i first (omega arith) n
-
-pub state-stored :
-    (l w z : List ℕ) (q b n c : ℕ) (s : BucketState) → c ≡ least (s .count) b
-    → w ≡ stored (stored (set (set l (q + recordCount) c) (q + recordApplied) (s .applied)) (accountsFrom q) (s .accounts) c)
-    (totalsFrom q b) (s .totals) c
-    → z ≡ stored (stored w (settledFrom q b) (s .settled) n) (answersFrom q b n) (s .answers) n → z ≡ storedState l q b n s
-unfolding storedState
-state-stored l w z q b n c s e f g = g ∙ simp (f, e)

@@ -1,5 +1,5 @@
 -- A bucket's record by the machine's names, for any words: its state, when it is full and what follows from it, and
--- what is settled in it. Rests on loads and stores and on the rules.
+-- what is settled in it. Rests on loads and on the rules.
 use Prim.Native.Nat.{ℕ, _+_}
 use mathlib.Core.Bool.{Bool}
 use mathlib.Core.List.{List}
@@ -7,16 +7,13 @@ use Rattle.interface.specs.declared.Settings.{Settings}
 use Rattle.fields.specs.Fields.{recordCount, recordDepth, settledFrom, answersFrom}
 use Rattle.rules.specs.Rules.{holdsBackBy, splittableBy, crowdedBy}
 use Rattle.bucket.specs.declared.BucketState.{BucketState}
-use Rattle.record.specs.Loads.{loadedState, storedState}
+use Rattle.record.specs.Loads.{loadedState}
 use Rattle.layout.specs.Shape.{word}
 
 -- ---- a bucket's record, by the machine's names
 
 abbrev pub bucketAt : List ℕ → Settings → ℕ → BucketState
 bucketAt l s q = loadedState l q (s .capacity) (s .workers)
-
-abbrev pub withBucketAt : List ℕ → Settings → ℕ → BucketState → List ℕ
-withBucketAt l s q x = storedState l q (s .capacity) (s .workers) x
 
 abbrev pub holdsBackAt : List ℕ → Settings → ℕ → Bool
 holdsBackAt l s q = holdsBackBy s (word l (q + recordDepth)) (word l (q + recordCount))

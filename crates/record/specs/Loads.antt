@@ -1,12 +1,12 @@
--- What a bucket record's words are as a bucket state, and the words with a bucket state stored in them. Only the
--- accounts that are there are copied. Rests on the fields of a bucket record.
+-- What a bucket record's words are as a bucket state. Only the accounts that are there are copied. Rests on the fields
+-- of a bucket record.
 use Prim.Native.Nat.{ℕ, zero, suc, _+_}
 use mathlib.Core.List.{List}
 use lib.ListN.{getD, set, replicate}
 use Rattle.bucket.specs.declared.BucketState.{BucketState}
 use Rattle.interface.specs.Limits.{greatestCapacity}
 use Rattle.fields.specs.Fields.{recordCount, recordApplied, accountsFrom, totalsFrom, settledFrom, answersFrom}
-use Rattle.memory.specs.Words.{least, stored}
+use Rattle.memory.specs.Words.{least}
 
 -- k words from `at` on, and zeros after them: an array of a state
 unfoldable pub copied : List ℕ → ℕ → ℕ → List ℕ
@@ -25,13 +25,3 @@ loadedState l q b n =
       count = c;
       applied = getD l (q + recordApplied) 0;
     }
-
--- the words with state x in the record at q; its toggle, depth, prefix and number stay
-unfoldable pub storedState : List ℕ → ℕ → ℕ → ℕ → BucketState → List ℕ
-storedState l q b n x =
-    let c : ℕ = least (x .count) b in
-    let l₁ : List ℕ = set (set l (q + recordCount) c) (q + recordApplied) (x .applied) in
-    let l₂ : List ℕ = stored l₁ (accountsFrom q) (x .accounts) c in
-    let l₃ : List ℕ = stored l₂ (totalsFrom q b) (x .totals) c in
-    let l₄ : List ℕ = stored l₃ (settledFrom q b) (x .settled) n in
-    stored l₄ (answersFrom q b n) (x .answers) n

@@ -1,12 +1,12 @@
-// A bucket's record in the lent words: its state loaded and stored, and what is settled in it. Each contract is an
-// equality with a definition of specs/; an index that a `requires` bounds is not tested again.
+// A bucket's record in the lent words, read: its state loaded, and what is settled in it. Each contract is an equality
+// with a definition of specs/; an index that a `requires` bounds is not tested again.
 ghost use mathlib.Core.Path.{_≡_};
 ghost use Prim.Native.Nat.{_+_, _≤_, _<_};
 ghost use lib.ListN.{length};
 ghost use Rattle.interface.specs.Limits.{greatestWorkers, greatestCapacity};
 ghost use Rattle.fields.specs.Fields.{widestRecord};
 ghost use Rattle.layout.specs.Shape.{Fits};
-ghost use Rattle.record.specs.Loads.{loadedState, storedState};
+ghost use Rattle.record.specs.Loads.{loadedState};
 ghost use Rattle.record.specs.Bucket.{settledTicket, settledAnswer};
 use bucket::ARRAY_SIZE;
 use bucket::BucketState;
@@ -48,32 +48,6 @@ pub fn load_state(words: &[u64], q: usize, b: usize, n: usize) -> BucketState
         j += 1;
     }
     s
-}
-
-// The state s, written into the record at q.
-pub fn store_state(words: &mut [u64], q: usize, b: usize, n: usize, s: BucketState)
-    requires { ⌜ (q + widestRecord ≤ length (now words)) × ((b ≤ greatestCapacity) × (n ≤ greatestWorkers)) ⌝ }
-    ensures { λ _. ⌜ now (words .exit) ≡ storedState (now (words .entry)) q b n s ⌝ }
-{
-    let c = least(s.count, b);
-    words[q + RECORD_COUNT] = c as u64;
-    words[q + RECORD_APPLIED] = s.applied;
-    let accounts = q + RECORD_ACCOUNTS;
-    let totals = accounts + b;
-    let mut i: usize = 0;
-    while i < c {
-        words[accounts + i] = s.accounts[i];
-        words[totals + i] = s.totals[i];
-        i += 1;
-    }
-    let settled = totals + b;
-    let answers = settled + n;
-    let mut j: usize = 0;
-    while j < n {
-        words[settled + j] = s.settled[j];
-        words[answers + j] = s.answers[j];
-        j += 1;
-    }
 }
 
 // The ticket of worker j that is settled in the record at q.

@@ -19,7 +19,7 @@ use Rattle.lists.specs.Parts.{part, overlay}
 use Rattle.lists.proofs.PartLaws.{length-part, length-overlay}
 use Rattle.bucket.proofs.Sizes.{Sized}
 use Rattle.record.proofs.States.{loaded-sized}
-use Rattle.record.proofs.Trips.{length-state}
+use Rattle.storing.proofs.Trips.{length-state}
 use Rattle.layout.specs.Shape.{word, Fits, Whole}
 use Rattle.layout.specs.Addresses.{recordOf}
 use Rattle.record.specs.Bucket.{bucketAt, holdsBackAt, splittableAt}

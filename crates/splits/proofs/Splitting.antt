@@ -22,7 +22,8 @@ use Rattle.bucket.specs.declared.BucketState.{BucketState}
 use Rattle.lists.specs.Parts.{overlay}
 use Rattle.layout.specs.Shape.{word, Whole}
 use Rattle.layout.specs.Addresses.{recordOf}
-use Rattle.record.specs.Bucket.{bucketAt, withBucketAt, splittableAt}
+use Rattle.record.specs.Bucket.{bucketAt, splittableAt}
+use Rattle.storing.specs.Stores.{withBucketAt}
 use Rattle.reuse.specs.Records.{firstEntry, spareOf}
 use Rattle.splits.specs.Splits.{madeAt, directedAt, halfAt, deepenedAt, splitAt, splitWhileAt}
 use Rattle.reuse.proofs.Pool.{directory-inside, entries-inside}

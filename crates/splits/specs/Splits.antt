@@ -13,7 +13,8 @@ use Rattle.lists.specs.Parts.{overlay}
 use Rattle.layout.specs.Shape.{word}
 use Rattle.reuse.specs.Records.{firstEntry, spareOf}
 use Rattle.layout.specs.Addresses.{recordOf}
-use Rattle.record.specs.Bucket.{bucketAt, withBucketAt, splittableAt}
+use Rattle.record.specs.Bucket.{bucketAt, splittableAt}
+use Rattle.storing.specs.Stores.{withBucketAt}
 
 -- a new bucket of depth d and prefix q in the record at r, with state x: number 0, all bits 0
 unfoldable pub madeAt : List ℕ → Settings → ℕ → ℕ → ℕ → BucketState → List ℕ

@@ -30,7 +30,7 @@ fn make(words: &mut [u64], g: Settings, r: usize, d: u64, q: u64, s: BucketState
     memory::put(words, r + RECORD_DEPTH, d);
     memory::put(words, r + RECORD_PREFIX, q);
     memory::put(words, r + RECORD_NUMBER, 0);
-    record::store_state(words, r, g.capacity as usize, g.workers as usize, s);
+    storing::store_state(words, r, g.capacity as usize, g.workers as usize, s);
 }
 
 // The directory's entries of a bucket of depth d and prefix q name the record at r.

@@ -22,7 +22,8 @@ use Rattle.rules.specs.declared.Descriptor.{Descriptor}
 use Rattle.bucket.specs.declared.BucketState.{BucketState}
 use Rattle.layout.specs.Shape.{word}
 use Rattle.layout.specs.Addresses.{recordOf}
-use Rattle.record.specs.Bucket.{bucketAt, withBucketAt, holdsBackAt, settledTicket}
+use Rattle.record.specs.Bucket.{bucketAt, holdsBackAt, settledTicket}
+use Rattle.storing.specs.Stores.{withBucketAt}
 use Rattle.taking.specs.Taking.{carriedAt, takenAt, dueAt, duesAt, takenAll}
 use Rattle.splits.specs.Splits.{splitWhileAt}
 

@@ -13,7 +13,8 @@ use Rattle.rules.specs.Rules.{bit, descriptorIn}
 use Rattle.rounds.specs.Rounds.{carryOf}
 use Rattle.layout.specs.Shape.{word}
 use Rattle.layout.specs.Addresses.{recordOf}
-use Rattle.record.specs.Bucket.{bucketAt, withBucketAt, holdsBackAt, settledTicket}
+use Rattle.record.specs.Bucket.{bucketAt, holdsBackAt, settledTicket}
+use Rattle.storing.specs.Stores.{withBucketAt}
 use Rattle.splits.specs.Splits.{splitWhileAt}
 
 -- worker i's update, by the slot that the worker at p has read, carried out in the record at q

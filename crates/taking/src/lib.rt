@@ -33,7 +33,7 @@ fn carry(words: &mut [u64], g: Settings, w: usize, i: usize, q: usize)
     let b = g.capacity as usize;
     let s = record::load_state(words, q, b, n);
     let u = slot_read(words, g, w, i);
-    record::store_state(words, q, b, n, rounds::carry(s, i, u));
+    storing::store_state(words, q, b, n, rounds::carry(s, i, u));
 }
 
 // Worker i's update taken: splits first, then carried out if there is room.

@@ -1,4 +1,4 @@
--- `memory::load_state` loads two arrays at a time. The loops' invariants: the items passed are copied; the measures: the items left.
+-- `load_state` loads two arrays at a time. The loops' invariants: the items passed are copied; the measures: the items left.
 -- Rests on the laws of one item more, and of the whole state.
 use Prim.Native.Nat.{_+_, _≤_, _-_}
 use mathlib.Core.Path.{_≡_, refl}

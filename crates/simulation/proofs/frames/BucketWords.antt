@@ -23,12 +23,13 @@ use Rattle.simulation.specs.Buckets.{itemsOf, settledOf, bitsOf, slotOf,
 use Rattle.bucket.proofs.Laws.{size-is}
 use Rattle.simulation.proofs.buckets.Ties.{round-means}
 use Rattle.lists.specs.Parts.{part}
-use Rattle.record.specs.Loads.{loadedState, storedState}
+use Rattle.record.specs.Loads.{loadedState}
+use Rattle.storing.specs.Stores.{storedState}
 use Rattle.fields.proofs.Regions.{record-inside}
 use Rattle.bucket.proofs.Sizes.{Sized}
 use Rattle.record.proofs.States.{loaded-kept, loaded-sized, loaded-count}
 use Rattle.memory.proofs.Lesser.{least-bound}
-use Rattle.record.proofs.Trips.{Same, length-state, count-word, state-elsewhere, trip}
+use Rattle.storing.proofs.Trips.{Same, length-state, count-word, state-elsewhere, trip}
 use Rattle.layout.specs.Shape.{word}
 use Rattle.inplace.specs.InPlace.{roundAt}
 use Rattle.simulation.specs.Meaning.{at}

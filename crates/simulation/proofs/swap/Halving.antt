@@ -17,7 +17,7 @@ use Rattle.fields.specs.Fields.{headerDepth, headerSpare, headerSize, recordTog
 use Rattle.fields.specs.Regions.{poolSize, wordsNeeded, Region, record′, startOf, regionSize, Within, header, entry}
 use Rattle.machine.specs.DirectoryPass.{half}
 use Rattle.lists.specs.Parts.{overlay}
-use Rattle.record.specs.Loads.{storedState}
+use Rattle.storing.specs.Stores.{storedState}
 use Rattle.bucket.specs.declared.BucketState.{BucketState}
 use Rattle.bucket.specs.State as State
 use Rattle.rounds.specs.Rounds.{halfOf}

@@ -34,7 +34,8 @@ use Rattle.record.proofs.States.{loaded-count}
 use Rattle.layout.specs.Shape.{word}
 use Rattle.layout.specs.Addresses.{recordOf}
 use Rattle.reuse.specs.Records.{spareOf}
-use Rattle.record.specs.Bucket.{bucketAt, withBucketAt, holdsBackAt, splittableAt}
+use Rattle.record.specs.Bucket.{bucketAt, holdsBackAt, splittableAt}
+use Rattle.storing.specs.Stores.{withBucketAt}
 use Rattle.splits.specs.Splits.{halfAt, deepenedAt, splitAt, splitWhileAt}
 use Rattle.taking.specs.Taking.{carriedAt, takenAt, takenAll}
 use Rattle.simulation.specs.Meaning.{at, slotIn, nameIn, Keeps, Directs}

@@ -4,9 +4,9 @@ use Prim.Native.Nat.{_+_, _-_}
 use native.Mathlib.Omega.{arith}
 use borrow.Author.Needs.{needs}
 use Rattle.lists.specs.Parts.{part}
-use Rattle.inplace.proofs.ArrayChanges.{slice-raised}
-use Rattle.inplace.proofs.raise_in.Statement.{statement}
-use Rattle.inplace.proofs.raise_in.Tie as tie
+use Rattle.writes.proofs.Slices.{slice-raised}
+use Rattle.writes.proofs.raise_in.Statement.{statement}
+use Rattle.writes.proofs.raise_in.Tie as tie
 
 returns : tie.Need-returns
 unfolding part

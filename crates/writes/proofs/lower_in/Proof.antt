@@ -4,9 +4,9 @@ use Prim.Native.Nat.{_+_, _-_}
 use native.Mathlib.Omega.{arith}
 use borrow.Author.Needs.{needs}
 use Rattle.lists.specs.Parts.{part}
-use Rattle.inplace.proofs.ArrayChanges.{slice-lowered}
-use Rattle.inplace.proofs.lower_in.Statement.{statement}
-use Rattle.inplace.proofs.lower_in.Tie as tie
+use Rattle.writes.proofs.Slices.{slice-lowered}
+use Rattle.writes.proofs.lower_in.Statement.{statement}
+use Rattle.writes.proofs.lower_in.Tie as tie
 
 returns : tie.Need-returns
 unfolding part

@@ -6,8 +6,8 @@ use mathlib.Core.List.{List}
 use lib.ListN.{set}
 use borrow.Author.Needs.{needs}
 use Rattle.fields.specs.Fields.{answersFrom}
-use Rattle.inplace.proofs.settle.Statement.{statement}
-use Rattle.inplace.proofs.settle.Tie as tie
+use Rattle.writes.proofs.settle.Statement.{statement}
+use Rattle.writes.proofs.settle.Tie as tie
 
 returns : tie.Need-returns
 returns c =

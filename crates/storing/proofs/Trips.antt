@@ -11,9 +11,10 @@ use Rattle.interface.specs.Limits.{greatestWorkers, greatestCapacity}
 use Rattle.fields.specs.Fields.{recordCount, recordApplied, recordToggle, accountsFrom, totalsFrom, settledFrom, answersFrom, recordSize, widestRecord}
 use Rattle.bucket.specs.declared.BucketState.{BucketState}
 use Rattle.memory.specs.Words.{least, stored}
-use Rattle.record.specs.Loads.{loadedState, storedState}
+use Rattle.record.specs.Loads.{loadedState}
+use Rattle.storing.specs.Stores.{storedState}
 use Rattle.memory.proofs.Runs.{Run, stored-run}
 use Rattle.record.proofs.Runs.{getD-copied}
 use Rattle.bucket.proofs.Sizes.{Sized}
 use Rattle.memory.proofs.Lesser.{least-bound, least-same}
 

@@ -3,9 +3,9 @@
 use native.Mathlib.Omega.{arith}
 use borrow.Author.Needs.{needs}
 use Rattle.fields.specs.Regions.{workerAt}
-use Rattle.inplace.proofs.OwnUpdate.{Tested, tested, own-full, own-required, own-settled, own-carried}
-use Rattle.inplace.proofs.own_round.Statement.{statement}
-use Rattle.inplace.proofs.own_round.Tie as tie
+use Rattle.own.proofs.OwnRound.{Tested, tested, own-full, own-required, own-settled, own-carried}
+use Rattle.own.proofs.own_round.Statement.{statement}
+use Rattle.own.proofs.own_round.Tie as tie
 
 -- what every return has tested
 held :

@@ -1,4 +1,4 @@
--- `memory::store_state` stores two arrays at a time. The loops' invariants: the items passed are stored; the measures: the items left.
+-- `store_state` stores two arrays at a time. The loops' invariants: the items passed are stored; the measures: the items left.
 -- Rests on the laws of one item more, and of the whole state.
 use Prim.Native.Nat.{_+_, _≤_, _-_}
 use mathlib.Core.Path.{_≡_, sym, _∙_, ap}
@@ -7,15 +7,15 @@ use native.Mathlib.Omega.{arith}
 use lib.ListN.{length, length-set, length-map}
 use Rattle.fields.specs.Fields.{widestRecord}
 use Rattle.memory.specs.Words.{stored}
-use Rattle.record.specs.Loads.{storedState}
+use Rattle.storing.specs.Stores.{storedState}
 use Rattle.memory.proofs.Runs.{stored-none}
 use Rattle.bucket.proofs.Sizes.{Sized}
-use Rattle.record.proofs.States.{pair-stored, state-stored}
+use Rattle.storing.proofs.States.{pair-stored, state-stored}
 use Rattle.memory.proofs.Lesser.{count-bound}
-use Rattle.record.proofs.Trips.{length-state}
+use Rattle.storing.proofs.Trips.{length-state}
 use borrow.Author.Needs.{needs}
-use Rattle.record.proofs.store_state.Statement.{statement}
-use Rattle.record.proofs.store_state.Tie as tie
+use Rattle.storing.proofs.store_state.Statement.{statement}
+use Rattle.storing.proofs.store_state.Tie as tie
 
 abbrev Inv-loop : tie.InvT-loop
 Inv-loop words₀ q b n s c accounts totals i₀ words i =

@@ -6,8 +6,8 @@ use mathlib.Core.List.{List}
 use lib.ListN.{set}
 use borrow.Author.Needs.{needs}
 use Rattle.fields.specs.Fields.{recordApplied}
-use Rattle.inplace.proofs.put_first.Statement.{statement}
-use Rattle.inplace.proofs.put_first.Tie as tie
+use Rattle.writes.proofs.put_first.Statement.{statement}
+use Rattle.writes.proofs.put_first.Tie as tie
 
 returns : tie.Need-returns
 returns c =

@@ -1,0 +1,2 @@
+pub mod OneHelped
+pub mod OwnRound
