@@ -5,6 +5,7 @@ use mathlib.Core.Bool.{Bool, true, false}
 use mathlib.Core.List.{List, [], _∷_}
 use native.Mathlib.Numerals.{add-one}
 use native.Mathlib.Omega.{arith}
+use lib.IntN.{ℤ}
 use lib.ListN.{length, drop, getD}
 use lib.Seq.{drop-cons, drop-nil}
 use borrow.Author.Tests.{eq-eqb, ne-eqb}
@@ -12,10 +13,16 @@ use Rattle.machine.specs.Choice.{if_then_else_}
 use Rattle.lines.specs.declared.command.Command.{Command}
 use Rattle.lines.specs.declared.reader.Reader.{Reader}
 use Rattle.lines.specs.Reading.{fresh, pushed, commandIn}
-use Rattle.outputs.specs.Outputs.{DriverState}
+use Rattle.outputs.specs.Outputs.{DriverState, stateOf}
 use Rattle.outputs.specs.Room.{longest, roomFor}
 use Rattle.responses.specs.Answers.{answered}
-use Rattle.driver.specs.Feeding.{Feeding, took, fed}
+use Rattle.driver.specs.Feeding.{Feeding, feedingOf, took, fed}
+
+-- the same in each part
+pub same-feeding : {words words' accounts accounts' : List ℕ} {totals totals' : List ℤ} {bytes bytes' : List ℕ} {reader reader' : Reader}
+    {used used' : ℕ} (i : ℕ) → words ≡ words' → accounts ≡ accounts' → totals ≡ totals' → bytes ≡ bytes' → reader ≡ reader' → used ≡ used'
+    → feedingOf (stateOf words accounts totals bytes used) reader i ≡ feedingOf (stateOf words' accounts' totals' bytes' used') reader' i
+same-feeding i e f g h k m = rw (e, f, g, h, k, m)
 
 -- the next byte, by what it is
 module _ (f : Feeding) (b : ℕ) where

@@ -4,7 +4,7 @@ use Prim.Native.Nat.{ℕ, _+_}
 use mathlib.Core.List.{List, [], _∷_}
 use lib.Dec.{eqb}
 use lib.ListN.{length}
-use Rattle.replies.specs.Ascii.{lineFeed}
+use Rattle.decimals.specs.Ascii.{lineFeed}
 use Rattle.machine.specs.Choice.{if_then_else_}
 use Rattle.lines.specs.declared.reader.Reader.{Reader}
 use Rattle.lines.specs.Reading.{fresh, pushed, commandIn}

@@ -13,7 +13,7 @@ use lib.ListN.{length}
 use borrow.Author.Tests.{leb-true, leb-false, eqb-false}
 use Rattle.machine.specs.Choice.{if_then_else_}
 use Rattle.machine.proofs.laws.Base.{and-parts, if-elim}
-use Rattle.replies.specs.Ascii.{space, minusSign, zeroDigit, nineDigit}
+use Rattle.decimals.specs.Ascii.{space, minusSign, zeroDigit, nineDigit}
 use Rattle.lines.specs.declared.command.Command.{Command}
 use Rattle.lines.specs.declared.command.Command.the-variants.{Open, Insert, Delete, Lookup, Steps, Unread}
 use Rattle.numerals.specs.Numerals.{isDigit, digitsAfter, zeroThen, numeral, plus, minus, signedNumeral, upTo, from, in64, greatestTotal, leastTotalSize}

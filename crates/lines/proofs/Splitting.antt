@@ -10,7 +10,7 @@ use lib.ListN.{length, take, drop, getD, drop-of-length-le}
 use lib.Seq.{drop-cons}
 use borrow.Author.Tests.{eq-eqb, ne-eqb}
 use Rattle.machine.specs.Choice.{if_then_else_}
-use Rattle.replies.specs.Ascii.{space}
+use Rattle.decimals.specs.Ascii.{space}
 use Rattle.lines.specs.declared.command.Command.the-variants.{Unread}
 use Rattle.lines.specs.Grammar.{before, partsAt, fieldsOf, firstField, letterOf, oneField, ofFields, commandOf}
 

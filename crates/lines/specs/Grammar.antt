@@ -9,7 +9,7 @@ use lib.IntN.{ℤ}
 use Rattle.interface.specs.Numbers.{kindDelete, kindLookup}
 use Rattle.machine.specs.Choice.{if_then_else_}
 use Rattle.machine.specs.Script.{Line, O, I, D, L, S, T}
-use Rattle.replies.specs.Ascii.{lineFeed, space}
+use Rattle.decimals.specs.Ascii.{lineFeed, space}
 use Rattle.lines.specs.declared.command.Command.{Command}
 use Rattle.lines.specs.declared.command.Command.the-variants.{Open, Insert, Delete, Lookup, Steps, List as Listing, Unread}
 use Rattle.numerals.specs.Numerals.{numeral, signedNumeral, upTo, from, in64}

@@ -6,7 +6,7 @@ use mathlib.Core.List.{List, [], _∷_}
 use lib.Dec.{leb, ltb, eqb}
 use lib.ListN.{length, take, set, replicate}
 use Rattle.machine.specs.Choice.{if_then_else_}
-use Rattle.replies.specs.Ascii.{lineFeed}
+use Rattle.decimals.specs.Ascii.{lineFeed}
 use Rattle.lines.specs.declared.command.Command.{Command}
 use Rattle.lines.specs.declared.command.Command.the-variants.{Unread}
 use Rattle.lines.specs.declared.reader.Reader.{Reader}

@@ -12,7 +12,7 @@ use lib.ListN.{length, drop, getD, drop-of-length-le}
 use lib.Seq.{drop-cons}
 use borrow.Author.Tests.{eq-eqb, ne-eqb, le-leb, lt-leb, leb-true}
 use Rattle.machine.specs.Choice.{if_then_else_, _and_}
-use Rattle.replies.specs.Ascii.{minusSign, zeroDigit, nineDigit}
+use Rattle.decimals.specs.Ascii.{minusSign, zeroDigit, nineDigit}
 use Rattle.numerals.specs.declared.Number.the-variants as Number
 use Rattle.numerals.specs.declared.Signed.the-variants as Signed
 use Rattle.numerals.specs.Numerals.{isDigit, digitsAfter, zeroThen, numeral, plus, minus, signedNumeral, upTo, in64, asNumber, asSigned, greatestTotal, leastTotalSize}

@@ -7,7 +7,7 @@ use mathlib.Core.Option.{Option, none, some}
 use lib.Dec.{leb, eqb}
 use lib.IntN.{ℤ, pos, negsuc}
 use Rattle.machine.specs.Choice.{if_then_else_, _and_}
-use Rattle.replies.specs.Ascii.{minusSign, zeroDigit, nineDigit}
+use Rattle.decimals.specs.Ascii.{minusSign, zeroDigit, nineDigit}
 use Rattle.numerals.specs.declared.Number.{Number}
 use Rattle.numerals.specs.declared.Number.the-variants as Number
 use Rattle.numerals.specs.declared.Pair.{Pair}

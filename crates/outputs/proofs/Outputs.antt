@@ -19,7 +19,8 @@ use Rattle.layout.specs.Shape.{strange, shapeOf}
 use Rattle.rows.specs.Rows.{rows, Shown, shown, listingWords}
 use Rattle.replies.specs.declared.Reply.{Reply}
 use Rattle.lists.specs.Parts.{overlay}
-use Rattle.replies.specs.Printed.{fits, Wrote, printedRow, printedEnd, printedReply}
+use Rattle.printers.specs.Written.{fits, Wrote}
+use Rattle.replies.specs.Printed.{printedRow, printedEnd, printedReply}
 use Rattle.outputs.specs.Outputs.{Output, emitted, putRows, rowsAt, putListed, DriverState, listedAs, listed}
 
 module _ {l : List ℕ} {at : ℕ} {xs : List ℕ} {r : ℕ} {after : List ℕ} (w : Wrote l at xs r after) where

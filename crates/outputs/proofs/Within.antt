@@ -6,7 +6,8 @@ use lib.ListN.{length}
 use borrow.Author.Tests.{leb-true}
 use Rattle.interface.specs.declared.Listed.{Listed}
 use Rattle.machine.proofs.laws.Base.{if-elim}
-use Rattle.replies.specs.Printed.{fits, printedRow, printedEnd}
+use Rattle.printers.specs.Written.{fits}
+use Rattle.replies.specs.Printed.{printedRow, printedEnd}
 use Rattle.lists.proofs.PartLaws.{length-overlay}
 use Rattle.outputs.specs.Outputs.{Output, emitted, putRows, putListed}
 

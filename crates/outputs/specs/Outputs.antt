@@ -10,7 +10,8 @@ use Rattle.machine.specs.Choice.{if_then_else_}
 use Rattle.rows.specs.Rows.{Shown, listingWords}
 use Rattle.replies.specs.declared.Reply.{Reply}
 use Rattle.lists.specs.Parts.{overlay}
-use Rattle.replies.specs.Printed.{fits, printedReply, printedRow, printedEnd}
+use Rattle.printers.specs.Written.{fits}
+use Rattle.replies.specs.Printed.{printedReply, printedRow, printedEnd}
 
 -- ---- output
 

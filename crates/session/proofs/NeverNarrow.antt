@@ -25,9 +25,9 @@ use Rattle.machine.specs.Sequential.{Table}
 use Rattle.machine.specs.Script as Script
 use Rattle.machine.proofs.laws.Base.{if-elim, if-false}
 use Rattle.replies.specs.declared.Reply.{Reply}
-use Rattle.replies.specs.Decimals.{digit, digits, decimal, digitCount}
+use Rattle.decimals.specs.Decimals.{digit, digits, decimal, digitCount}
 use Rattle.replies.specs.Printed.{printedLine, printedRow, printedRows, printedEnd, printedAnswer, printed, printedUnread, printedReply}
-use Rattle.replies.proofs.DecimalLaws.{digit-count-small, digit-count-large, length-decimal}
+use Rattle.decimals.proofs.DecimalLaws.{digit-count-small, digit-count-large, length-decimal}
 use Rattle.lines.specs.declared.command.Command.{Command}
 use Rattle.lines.specs.Grammar.{linesOf, commandOf, lineOf}
 use Rattle.lines.specs.Session.{told}

@@ -8,9 +8,9 @@ use lib.Signed.{mag}
 use Rattle.interface.specs.Numbers.{bytes, answerWord, answerTotal}
 use Rattle.interface.specs.declared.Answer.{Answer}
 use Rattle.replies.specs.declared.Reply.{Reply}
-use Rattle.replies.specs.Decimals.{decimal, signedDecimal}
+use Rattle.decimals.specs.Decimals.{decimal, signedDecimal}
 use Rattle.replies.specs.Printed.{printedLine, totalThen, printedRow, printedEnd, printedAnswer, printed, printedUnread, printedReply}
-use Rattle.replies.proofs.DecimalLaws.{digit-count-within, length-decimal}
+use Rattle.decimals.proofs.DecimalLaws.{digit-count-within, length-decimal}
 
 -- ---- numbers
 

@@ -25,9 +25,10 @@ use Rattle.rows.specs.Rows.{rowAt, rowsIn, rowsOf, rowsFrom, rows, Shown, shown
 use Rattle.lines.specs.declared.command.Command.{Command}
 use Rattle.replies.specs.declared.Reply.{Reply}
 use Rattle.lists.specs.Parts.{overlay}
-use Rattle.replies.specs.Printed.{fits, printedRow, printedRows, printedEnd, printedReply}
+use Rattle.printers.specs.Written.{fits}
+use Rattle.replies.specs.Printed.{printedRow, printedRows, printedEnd, printedReply}
 use Rattle.lists.proofs.PartLaws.{overlay-nil, length-overlay}
-use Rattle.replies.proofs.Overlays.{next}
+use Rattle.decimals.proofs.Overlays.{next}
 use Rattle.responses.specs.Responses.{responded}
 use Rattle.outputs.specs.Outputs.{Output, emitted, putRows, rowsAt, putListed, DriverState, listedAs, listed}
 use Rattle.outputs.specs.Room.{longest}

@@ -5,7 +5,7 @@ use mathlib.Core.Bool.{_||_}
 use mathlib.Core.List.{List, [], _∷_, _++_}
 use lib.Dec.{ltb, eqb}
 use lib.ListN.{length}
-use Rattle.replies.specs.Ascii.{lineFeed}
+use Rattle.decimals.specs.Ascii.{lineFeed}
 use Rattle.interface.specs.Numbers.{numberOf}
 use Rattle.interface.specs.declared.Refusal.{Refusal}
 use Rattle.machine.specs.Choice.{if_then_else_}

@@ -1,12 +1,12 @@
 -- `feed`: the loop's invariant is that feeding the bytes left comes to feeding all; the measure is how many are left.
 -- Rests on the laws of feeding and on the contracts of what is called.
 use Prim.Native.Nat.{_≤_, _-_}
-use mathlib.Core.Path.{_≡_, refl, _∙_}
+use mathlib.Core.Path.{_≡_, refl, _∙_, ap}
 use mathlib.Core.Logic.{⊎-elim}
 use lib.ListN.{length, drop}
 use borrow.Author.Needs.{needs}
 use Rattle.driver.specs.Feeding.{Feeding, fed}
-use Rattle.driver.proofs.Bytes.{fed-end, fed-full, fed-next, took-line, took-byte}
+use Rattle.driver.proofs.Bytes.{same-feeding, fed-end, fed-full, fed-next, took-line, took-byte}
 use Rattle.driver.proofs.feed.Statement.{statement}
 use Rattle.driver.proofs.feed.Tie as tie
 
@@ -45,29 +45,34 @@ loop-holds c = (search needs, ((refl, (refl, (refl, refl))), refl))
 loop-again : tie.Need-loop-again Inv-loop μ-loop
 loop-again c =
     let l = c .before .before .before .before .before in
-    let lengths = l .loop .inv .1 .0 in
-    ⊎-elim
-    (λ w.
-    let kept = w .6 .kept in
-    rw (w .15, w .16, w .17, w .18, w .19, w .20) (
+    let lengths = l .loop .inv .1 .0 in (
       search needs,
-      (
-        (kept .0 ∙ lengths .0, (kept .1 .0 ∙ lengths .1 .0, (kept .1 .1 .0 ∙ lengths .1 .1 .0, kept .1 .1 .1 .0 ∙ lengths .1 .1 .1))),
-        fed-next _ _ _ _ _ (c .before .before .before .before .loop-test .taken) (c .before .before .before .roomy .ensures)
-            (c .before .before .if1 .taken) (took-line _ _ _ _ _ (w .0 .taken) (w .5 .ensures) (w .6 .ensures) (w .14 .ensures))
-            ∙ l .loop .inv .1 .1,
-      ),
-    ))
-    (λ w.
-    rw (w .2, w .3, w .4, w .5, w .6, w .7) (
-      search needs,
-      (
-        lengths,
-        fed-next _ _ _ _ _ (c .before .before .before .before .loop-test .taken) (c .before .before .before .roomy .ensures)
-            (c .before .before .if1 .taken) (took-byte _ _ _ (w .0 .left) (w .1 .ensures)) ∙ l .loop .inv .1 .1,
-      ),
-    ))
-    (c .if2 .came)
+      let next = fed-next _ _ _ _ _ (c .before .before .before .before .loop-test .taken) (c .before .before .before .roomy .ensures)
+          (c .before .before .if1 .taken) in
+          ⊎-elim
+          (λ w.
+          let kept = w .6 .kept in (
+            (
+              ap length (w .15) ∙ kept .0 ∙ lengths .0,
+              (
+                ap length (w .16) ∙ kept .1 .0 ∙ lengths .1 .0,
+                (ap length (w .17) ∙ kept .1 .1 .0 ∙ lengths .1 .1 .0, ap length (w .18) ∙ kept .1 .1 .1 .0 ∙ lengths .1 .1 .1),
+              ),
+            ),
+            next (same-feeding _ (w .15) (w .16) (w .17) (w .18) (w .19) (w .20)
+                ∙ took-line _ _ _ _ _ (w .0 .taken) (w .5 .ensures) (w .6 .ensures) (w .14 .ensures))
+                ∙ l .loop .inv .1 .1,
+          ))
+          (λ w. (
+            (
+              ap length (w .2) ∙ lengths .0,
+              (ap length (w .3) ∙ lengths .1 .0, (ap length (w .4) ∙ lengths .1 .1 .0, ap length (w .5) ∙ lengths .1 .1 .1)),
+            ),
+            next (same-feeding _ (w .2) (w .3) (w .4) (w .5) (w .6) (w .7) ∙ took-byte _ _ _ (w .0 .left) (w .1 .ensures))
+                ∙ l .loop .inv .1 .1,
+          ))
+          (c .if2 .came),
+    )
 
 returns : tie.Need-returns Inv-loop μ-loop
 returns c = fed-full _ _ _ _ (c .before .before .loop-test .taken) (c .before .roomy .ensures) (c .if1 .left)

@@ -4,7 +4,7 @@ use Prim.Native.Nat.{_+_}
 use mathlib.Core.Path.{sym}
 use native.Mathlib.Omega.{arith}
 use borrow.Author.Tests.{lt-leb}
-use Rattle.replies.proofs.Overlays.{room-in-rest}
+use Rattle.printers.proofs.Written.{room-in-rest}
 use Rattle.outputs.specs.Room.{roomFor, longest}
 use Rattle.outputs.proofs.roomy.Statement.{statement}
 use Rattle.outputs.proofs.roomy.Tie as tie

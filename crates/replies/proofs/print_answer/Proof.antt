@@ -6,10 +6,12 @@ use mathlib.Core.List.{List, _++_}
 use mir.Facts.{toZ-ofZ}
 use borrow.Author.Needs.{needs}
 use Rattle.interface.specs.Numbers.{bytes, answerWord, answerTotal}
-use Rattle.replies.specs.declared.Decimal.{Decimal}
-use Rattle.replies.specs.Printed.{printedAnswer, printedLine, totalThen, pairText, signOf}
-use Rattle.replies.proofs.Signs.{found-text}
-use Rattle.replies.proofs.Overlays.{retold}
+use Rattle.decimals.specs.declared.Decimal.{Decimal}
+use Rattle.decimals.specs.Signs.{signOf}
+use Rattle.printers.specs.Written.{pairText}
+use Rattle.replies.specs.Printed.{printedAnswer, printedLine, totalThen}
+use Rattle.replies.proofs.PairLines.{found-text}
+use Rattle.printers.proofs.Written.{retold}
 use Rattle.replies.proofs.print_answer.Statement.{statement}
 use Rattle.replies.proofs.print_answer.Tie as tie
 

@@ -4,10 +4,11 @@ use mathlib.Core.Path.{_∙_, ap}
 use lib.IntN.{pos}
 use mir.Facts.{toZ-ofZ}
 use borrow.Author.Needs.{needs}
-use Rattle.replies.specs.declared.Decimal.{Decimal}
-use Rattle.replies.specs.Printed.{pairText, signOf}
-use Rattle.replies.proofs.Signs.{row-text}
-use Rattle.replies.proofs.Overlays.{retold}
+use Rattle.decimals.specs.declared.Decimal.{Decimal}
+use Rattle.decimals.specs.Signs.{signOf}
+use Rattle.printers.specs.Written.{pairText}
+use Rattle.replies.proofs.PairLines.{row-text}
+use Rattle.printers.proofs.Written.{retold}
 use Rattle.replies.proofs.print_row.Statement.{statement}
 use Rattle.replies.proofs.print_row.Tie as tie
 
