@@ -16,7 +16,7 @@ use Rattle.machine.proofs.laws.Base.{if-true}
 use Rattle.rules.specs.Rules.{bit}
 use Rattle.layout.specs.Shape.{word, Fits, Whole}
 use Rattle.layout.specs.Addresses.{recordOf}
-use Rattle.reuse.specs.Numbers.{freshDirectory}
+use Rattle.renumbering.specs.Numbers.{freshDirectory}
 use Rattle.directory.specs.Directory.{resolvedAt, nothingToSplit, redirectedAt}
 use Rattle.layout.proofs.Checks.{or-parts}
 use Rattle.taking.specs.Taking.{duesAt, takenAll}

@@ -10,7 +10,7 @@ use Rattle.fields.specs.Fields.{headerNumber, workerDirectory, workerMarks}
 use Rattle.fields.specs.Regions.{wordsNeeded}
 use Rattle.layout.specs.Shape.{word}
 use Rattle.layout.specs.Addresses.{markedAt, recordFor}
-use Rattle.reuse.specs.Numbers.{freshDirectory}
+use Rattle.renumbering.specs.Numbers.{freshDirectory}
 use Rattle.taking.specs.Taking.{duesAt, takenAll}
 
 -- the marked buckets, resolved in the order of their marks

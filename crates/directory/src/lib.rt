@@ -12,8 +12,8 @@ use interface::Settings;
 use layout::addresses::record_of;
 use layout::addresses::slot_word;
 use layout::addresses::worker_word;
-use reuse::numbers::fresh_directory;
-use reuse::records::needed;
+use renumbering::fresh_directory;
+use spares::needed;
 use taking::dues;
 use taking::take_all;
 

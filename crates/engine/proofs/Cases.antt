@@ -18,11 +18,11 @@ use Rattle.machine.proofs.laws.Base.{if-true, if-false, if-eq, if-ne, and-true,
 use Rattle.rules.specs.Rules.{bit, withBit}
 use Rattle.layout.specs.Shape.{word}
 use Rattle.layout.specs.Addresses.{recordOf, markedAt, recordFor}
-use Rattle.reuse.specs.Numbers.{freshNumber}
+use Rattle.renumbering.specs.Numbers.{freshNumber}
 use Rattle.record.specs.Bucket.{splittableAt, settledTicket}
 use Rattle.inplace.specs.InPlace.{roundAt}
 use Rattle.engine.specs.Engine.{swappedAt, foundBefore, splitsAt, marks, stateStepAt}
-use Rattle.reuse.proofs.Searches.{and-no}
+use Rattle.renumbering.proofs.Searches.{and-no}
 use Rattle.rules.proofs.Bits.{mark-kept}
 
 -- ---- the bucket swap

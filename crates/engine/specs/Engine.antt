@@ -14,7 +14,7 @@ use Rattle.fields.specs.Regions.{slotAt, readAt}
 use Rattle.machine.specs.Choice.{if_then_else_, _and_}
 use Rattle.lists.specs.Parts.{part, overlay}
 use Rattle.layout.specs.Shape.{word}
-use Rattle.reuse.specs.Numbers.{any, freshNumber}
+use Rattle.renumbering.specs.Numbers.{any, freshNumber}
 use Rattle.record.specs.Bucket.{splittableAt, crowdedAt, settledTicket, settledAnswer}
 use Rattle.rules.specs.Rules.{flipBit, withBit}
 use Rattle.inplace.specs.InPlace.{roundAt}

@@ -43,7 +43,7 @@ use layout::addresses::worker_at;
 use layout::addresses::worker_word;
 use own::own_round;
 use record::settled_ticket;
-use reuse::numbers::fresh_number;
+use renumbering::fresh_number;
 use rules::splittable;
 
 pub fn announce(words: &mut [u64], g: Settings, w: usize)

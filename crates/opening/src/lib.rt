@@ -24,7 +24,7 @@ use interface::Opened;
 use interface::Refusal;
 use interface::Settings;
 use layout::shape::directory_start;
-use reuse::records::needed;
+use spares::needed;
 
 // How many words a table of these settings needs, or refusal 1.
 pub fn words_needed(workers: u64, capacity: u64, depth: u64) -> Needed

@@ -24,7 +24,7 @@ use Rattle.layout.specs.Shape.{word, strange, shapeOf, Fits, Whole}
 use Rattle.layout.specs.Addresses.{heldBy, markedAt, bucketReadAt}
 use Rattle.layout.proofs.Checks.{fits-of}
 use Rattle.layout.proofs.Positions.{fits-kept, placed, held-inside}
-use Rattle.reuse.proofs.Pool.{whole-kept}
+use Rattle.spares.proofs.PoolLaws.{whole-kept}
 use Rattle.phases.specs.declared.Phase as Code
 use Rattle.phases.specs.Phases.{planned}
 use Rattle.engine.specs.Engine.{slotReadAt, flippedAt, stateReadAt, toggleReadAt, directoryReadAt, swappedAt, marks, stateStepAt}

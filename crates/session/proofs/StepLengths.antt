@@ -25,11 +25,11 @@ use Rattle.layout.specs.Addresses.{recordOf}
 use Rattle.record.specs.Bucket.{bucketAt, holdsBackAt, splittableAt}
 use Rattle.engine.specs.Engine.{announcedAt}
 use Rattle.inplace.specs.InPlace.{roundAt}
-use Rattle.reuse.specs.Records.{firstEntry, spareOf}
+use Rattle.spares.specs.Records.{firstEntry, spareOf}
 use Rattle.splits.specs.Splits.{madeAt, directedAt, halfAt, deepenedAt, splitAt, splitWhileAt}
 use Rattle.taking.specs.Taking.{carriedAt, takenAt}
 use Rattle.layout.proofs.Positions.{fits-kept, record-inside, placed}
-use Rattle.reuse.proofs.Pool.{whole-kept, pool-inside, directory-inside, entries-inside, spare-below}
+use Rattle.spares.proofs.PoolLaws.{whole-kept, pool-inside, directory-inside, entries-inside, spare-below}
 use Rattle.rounds.proofs.Sizes.{carry-sized, round-sized, half-sized}
 
 -- ---- lengths after each step

@@ -24,9 +24,9 @@ use Rattle.layout.specs.Shape.{word, Whole}
 use Rattle.layout.specs.Addresses.{recordOf}
 use Rattle.record.specs.Bucket.{bucketAt, splittableAt}
 use Rattle.storing.specs.Stores.{withBucketAt}
-use Rattle.reuse.specs.Records.{firstEntry, spareOf}
+use Rattle.spares.specs.Records.{firstEntry, spareOf}
 use Rattle.splits.specs.Splits.{madeAt, directedAt, halfAt, deepenedAt, splitAt, splitWhileAt}
-use Rattle.reuse.proofs.Pool.{directory-inside, entries-inside}
+use Rattle.spares.proofs.PoolLaws.{directory-inside, entries-inside}
 
 -- ---- one split
 

@@ -11,7 +11,7 @@ use Rattle.rounds.specs.Rounds.{halfOf}
 use Rattle.bucket.specs.declared.BucketState.{BucketState}
 use Rattle.lists.specs.Parts.{overlay}
 use Rattle.layout.specs.Shape.{word}
-use Rattle.reuse.specs.Records.{firstEntry, spareOf}
+use Rattle.spares.specs.Records.{firstEntry, spareOf}
 use Rattle.layout.specs.Addresses.{recordOf}
 use Rattle.record.specs.Bucket.{bucketAt, splittableAt}
 use Rattle.storing.specs.Stores.{withBucketAt}

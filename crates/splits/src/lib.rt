@@ -16,10 +16,10 @@ use fields::RECORD_TOGGLE;
 use interface::Settings;
 use layout::addresses::record_of;
 use layout::shape::directory_start;
-use reuse::records::first_entry;
-use reuse::records::record_start;
-use reuse::records::spare;
 use rules::splittable;
+use spares::first_entry;
+use spares::record_start;
+use spares::spare;
 
 // A new bucket of depth d and prefix q in the record at r.
 fn make(words: &mut [u64], g: Settings, r: usize, d: u64, q: u64, s: BucketState)

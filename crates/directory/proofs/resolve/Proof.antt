@@ -8,7 +8,7 @@ use lib.ListN.{length}
 use Rattle.layout.specs.Shape.{Whole}
 use Rattle.fields.specs.Regions.{workerAt}
 use Rattle.directory.specs.Directory.{resolvedAt}
-use Rattle.reuse.proofs.Pool.{whole-kept}
+use Rattle.spares.proofs.PoolLaws.{whole-kept}
 use Rattle.layout.proofs.Positions.{record-inside}
 use Rattle.directory.proofs.DirectoryLaws.{resolved-more, resolved-same}
 use borrow.Author.Needs.{needs}

@@ -5,9 +5,9 @@ use native.Mathlib.Omega.{arith}
 use mathlib.Core.Path.{_≡_, refl, sym, _∙_}
 use Rattle.rules.specs.Rules.{bit}
 use Rattle.fields.specs.Regions.{workerAt}
-use Rattle.reuse.specs.Numbers.{any}
+use Rattle.renumbering.specs.Numbers.{any}
 use Rattle.engine.specs.Engine.{foundBefore}
-use Rattle.reuse.proofs.Searches.{any-hit, any-turn, any-none}
+use Rattle.renumbering.proofs.Searches.{any-hit, any-turn, any-none}
 use Rattle.engine.proofs.Cases.{found, found-unmarked, found-it, found-not}
 use borrow.Author.Needs.{needs}
 use Rattle.engine.proofs.found_before.Statement.{statement}

@@ -35,7 +35,7 @@ use Rattle.lists.specs.Parts.{part}
 use Rattle.lists.proofs.PartLaws.{length-part, getD-part, length-overlay, getD-overlay-in, getD-overlay-before, getD-overlay-after}
 use Rattle.fields.proofs.Regions.{region-inside}
 use Rattle.layout.specs.Addresses.{heldBy}
-use Rattle.reuse.specs.Numbers.{freshNumber}
+use Rattle.renumbering.specs.Numbers.{freshNumber}
 use Rattle.engine.specs.Engine.{announcedAt, flippedAt, swappedAt}
 use Rattle.inplace.specs.InPlace.{roundAt}
 use Rattle.turns.specs.Turns.{stepIn}

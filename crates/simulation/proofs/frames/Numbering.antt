@@ -12,7 +12,7 @@ use Rattle.machine.proofs.laws.Base.{no-both, is-false, if-elim, and-true, and-
 use Rattle.layout.specs.Shape.{word}
 use Rattle.fields.specs.Fields.{workerHeld, workerState, workerDirectory}
 use Rattle.fields.specs.Regions.{workerAt}
-use Rattle.reuse.specs.Numbers.{any, leastFree, numberTaken, freshNumber, directoryTaken, freshDirectory}
+use Rattle.renumbering.specs.Numbers.{any, leastFree, numberTaken, freshNumber, directoryTaken, freshDirectory}
 
 -- ---- the least number that is not taken
 

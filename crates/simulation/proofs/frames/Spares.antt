@@ -16,10 +16,10 @@ use Rattle.machine.proofs.laws.Base.{no-both, if-elim, if-true, if-false}
 use Rattle.fields.specs.Fields.{headerSpare, workerHeld, recordDepth, recordPrefix, recordSize}
 use Rattle.fields.specs.Regions.{workerAt, directoryStart, recordStart, poolSize, record′, startOf, worker}
 use Rattle.layout.specs.Shape.{word}
-use Rattle.reuse.specs.Numbers.{leastFree}
-use Rattle.reuse.specs.Records.{firstEntry, currentAt, heldByAny, usedAt, spareFrom, spareOf}
+use Rattle.renumbering.specs.Numbers.{leastFree}
+use Rattle.spares.specs.Records.{firstEntry, currentAt, heldByAny, usedAt, spareFrom, spareOf}
 use Rattle.layout.proofs.Checks.{or-parts}
-use Rattle.reuse.proofs.Pool.{entry-below, spare-below}
+use Rattle.spares.proofs.PoolLaws.{entry-below, spare-below}
 use Rattle.simulation.specs.Meaning.{at}
 use Rattle.simulation.proofs.frames.Numbering.{Among, least-free, any-some, some-any}
 use Rattle.simulation.proofs.swap.Halves.{Spare}

@@ -16,7 +16,7 @@ use Rattle.machine.proofs.laws.Base.{eq-elim}
 use Rattle.lists.specs.Parts.{overlay}
 use Rattle.fields.proofs.Regions.{region-inside, regions-apart}
 use Rattle.lists.proofs.PartLaws.{length-overlay, getD-overlay-in, getD-overlay-before, getD-overlay-after}
-use Rattle.reuse.specs.Records.{firstEntry}
+use Rattle.spares.specs.Records.{firstEntry}
 use Rattle.simulation.specs.Meaning.{at}
 use Rattle.simulation.proofs.frames.Frames.{entry-wide}
 

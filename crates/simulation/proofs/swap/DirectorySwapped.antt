@@ -30,7 +30,7 @@ use Rattle.machine.proofs.invariant.Transitions.{redirectedCells}
 use Rattle.fields.proofs.Regions.{region-inside, record-starts-apart}
 use Rattle.simulation.specs.Buckets.{slotFrom}
 use Rattle.layout.specs.Shape.{word}
-use Rattle.reuse.specs.Numbers.{freshDirectory}
+use Rattle.renumbering.specs.Numbers.{freshDirectory}
 use Rattle.simulation.specs.Meaning.{at, nameIn, Keeps, Directs, Refers, Live, current, referred, HasState, HasDirectory, SameOutcome, WorkerMeans, Meaning}
 use Rattle.simulation.proofs.frames.Frames.{state-holds, slot-wide, record-wide, entry-wide, entry-within, SameWords, descriptor-first, name-same, keeps-same, refers-same, worker-same, Inside}
 use Rattle.simulation.proofs.frames.Entering.{depth-bound, raised, refers-once}

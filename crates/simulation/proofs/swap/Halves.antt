@@ -14,7 +14,7 @@ use Rattle.machine.specs.DirectoryPass.{half}
 use Rattle.fields.specs.Fields.{headerDepth, headerSpare, headerSize, workerHeld, recordDepth, recordPrefix}
 use Rattle.fields.specs.Regions.{poolSize, Region, record′, startOf, regionSize, Within, slot, worker, entry, header}
 use Rattle.layout.specs.Shape.{word}
-use Rattle.reuse.specs.Records.{firstEntry}
+use Rattle.spares.specs.Records.{firstEntry}
 use Rattle.simulation.specs.Meaning.{at, nameIn, Keeps}
 use Rattle.simulation.proofs.frames.Frames.{worker-wide, SameWords, Inside}
 

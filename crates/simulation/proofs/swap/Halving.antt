@@ -25,7 +25,7 @@ use Rattle.simulation.specs.Buckets.{bitsOf, Means}
 use Rattle.rounds.proofs.Laws.{length-keeps}
 use Rattle.simulation.proofs.buckets.Ties.{half-means}
 use Rattle.layout.specs.Shape.{word}
-use Rattle.reuse.specs.Records.{firstEntry, spareOf}
+use Rattle.spares.specs.Records.{firstEntry, spareOf}
 use Rattle.splits.specs.Splits.{madeAt, directedAt, halfAt}
 use Rattle.simulation.specs.Meaning.{at, Keeps}
 use Rattle.simulation.proofs.frames.Frames.{at-here, header-start, header-wide, record-wide, keeps-same, Inside, inside-trans, set-inside}

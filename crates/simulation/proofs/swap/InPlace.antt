@@ -25,7 +25,7 @@ use Rattle.machine.proofs.invariant.Inv.{leafBody}
 use Rattle.fields.specs.Fields.{headerDepth, workerHeld}
 use Rattle.fields.specs.Regions.{record′, startOf, worker, entry}
 use Rattle.layout.specs.Shape.{word}
-use Rattle.reuse.specs.Records.{firstEntry}
+use Rattle.spares.specs.Records.{firstEntry}
 use Rattle.simulation.specs.Meaning.{at, nameIn, Keeps, Directs, Refers}
 use Rattle.simulation.proofs.frames.Frames.{name-same, keeps-same}
 use Rattle.simulation.proofs.swap.Halves.{Spare, Deepened, frame-refers, SameRecord, Frame, Halved, frame-trans, same-trans}

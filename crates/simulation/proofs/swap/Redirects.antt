@@ -24,7 +24,7 @@ use Rattle.machine.specs.Tasks.{Task, leaf, DirectoryFresh, IsMade, taskOf, tas
 use Rattle.machine.proofs.invariant.Inv.{leafBody, ResolvedTo, KeptOrResolved}
 use Rattle.machine.proofs.invariant.Transitions.{redirectedCells}
 use Rattle.layout.specs.Shape.{word}
-use Rattle.reuse.specs.Numbers.{freshDirectory}
+use Rattle.renumbering.specs.Numbers.{freshDirectory}
 use Rattle.directory.specs.Directory.{resolvedAt, nothingToSplit, redirectedAt}
 use Rattle.simulation.specs.Meaning.{at, current, HasDirectory, HasWork, Marked, Marks, Meaning}
 use Rattle.simulation.proofs.frames.Frames.{own-head}

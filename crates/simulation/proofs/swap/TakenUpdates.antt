@@ -33,7 +33,7 @@ use Rattle.simulation.proofs.buckets.Ties.{carry-means}
 use Rattle.record.proofs.States.{loaded-count}
 use Rattle.layout.specs.Shape.{word}
 use Rattle.layout.specs.Addresses.{recordOf}
-use Rattle.reuse.specs.Records.{spareOf}
+use Rattle.spares.specs.Records.{spareOf}
 use Rattle.record.specs.Bucket.{bucketAt, holdsBackAt, splittableAt}
 use Rattle.storing.specs.Stores.{withBucketAt}
 use Rattle.splits.specs.Splits.{halfAt, deepenedAt, splitAt, splitWhileAt}

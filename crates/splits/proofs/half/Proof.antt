@@ -2,7 +2,7 @@
 -- Rests on the bounds of records.
 use native.Mathlib.Omega.{arith}
 use borrow.Author.Needs.{needs}
-use Rattle.reuse.proofs.Pool.{pool-bound, pool-inside, spare-below}
+use Rattle.spares.proofs.PoolLaws.{pool-bound, pool-inside, spare-below}
 use Rattle.layout.proofs.Positions.{placed}
 use Rattle.splits.proofs.Splitting.{half-is}
 use Rattle.splits.proofs.half.Statement.{statement}

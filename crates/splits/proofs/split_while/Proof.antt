@@ -12,7 +12,7 @@ use Rattle.record.proofs.Tests.{both-read}
 use Rattle.fields.specs.Fields.{widestRecord}
 use Rattle.layout.specs.Shape.{Whole}
 use Rattle.splits.specs.Splits.{splitWhileAt}
-use Rattle.reuse.proofs.Pool.{whole-kept}
+use Rattle.spares.proofs.PoolLaws.{whole-kept}
 use Rattle.layout.proofs.Positions.{record-inside}
 use Rattle.splits.proofs.Splitting.{splittable-depth, while-done, while-turn, while-end}
 use Rattle.splits.proofs.split_while.Statement.{statement}

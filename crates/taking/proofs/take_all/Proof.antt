@@ -8,7 +8,7 @@ use lib.ListN.{length}
 use borrow.Author.Needs.{needs}
 use Rattle.fields.specs.Regions.{workerAt}
 use Rattle.taking.specs.Taking.{takenAll}
-use Rattle.reuse.proofs.Pool.{whole-kept}
+use Rattle.spares.proofs.PoolLaws.{whole-kept}
 use Rattle.taking.proofs.TakingLaws.{all-more, all-same}
 use Rattle.taking.proofs.take_all.Statement.{statement}
 use Rattle.taking.proofs.take_all.Tie as tie

@@ -1,2 +1,0 @@
-pub mod Searches
-pub mod Pool
