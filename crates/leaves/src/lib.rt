@@ -27,7 +27,7 @@ fn changed(state: BucketState, which: u64, account: u64, total: u64) -> BucketSt
     match which {
         PUT => state.put(state.search(account), account, total),
         REMOVE => state.remove(state.search(account)),
-        HALF => rounds::half(state, account, total),
+        HALF => halves::half(state, account, total),
         _ => state,
     }
 }

@@ -1,5 +1,5 @@
--- Updates carried out, rounds and halves keep the items of a state's arrays, and never have more accounts than a bucket has room for;
--- a round where no bit differs changes nothing. Rests on the laws of a state and of rounds.
+-- Updates carried out and rounds keep the items of a state's arrays, and never have more accounts than a bucket has room for; a round
+-- where no bit differs changes nothing. Rests on the laws of a state and of rounds.
 use Prim.Native.Nat.{ℕ, zero, suc, _+_, _≤_}
 use native.Mathlib.Omega.{arith}
 use mathlib.Core.List.{List}
@@ -10,13 +10,12 @@ use borrow.Author.Tests.{not-true}
 use Rattle.interface.specs.Numbers.{kindInsert}
 use Rattle.interface.specs.declared.Settings.{Settings}
 use Rattle.machine.proofs.laws.Base.{if-elim, and-parts}
-use Rattle.bucket.specs.State.{sizeOf, searchOf, settleOf}
-use Rattle.rounds.specs.Rounds.{carryOf, helpOf, helpedOf, withApplied, roundOf, halfOf}
+use Rattle.bucket.specs.State.{searchOf, settleOf}
+use Rattle.rounds.specs.Rounds.{carryOf, helpOf, helpedOf, withApplied, roundOf}
 use Rattle.bucket.specs.declared.BucketState.{BucketState}
 use Rattle.rules.specs.declared.Descriptor.{Descriptor}
 use Rattle.arrays.specs.declared.Position.{Position}
-use Rattle.bucket.proofs.Laws.{size-limit}
-use Rattle.rounds.proofs.Laws.{length-keeps, length-gathered, help-left}
+use Rattle.rounds.proofs.Laws.{help-left}
 use Rattle.bucket.proofs.Sizes.{Sized, put-sized, remove-sized, settle-sized, put-count, remove-count}
 use Rattle.rules.specs.Rules.{bit}
 use Rattle.rules.proofs.Laws.{room-left, pending-same}
@@ -42,18 +41,6 @@ unfolding roundOf withApplied
 round-sized x slots s d toggle z =
     let y = helped-sized x slots s d toggle (s .workers) z in
     record { accounts = y .accounts; totals = y .totals; settled = y .settled; answers = y .answers }
-
-pub half-sized : (x : BucketState) (d q : ℕ) → Sized x → Sized (halfOf x d q)
-unfolding halfOf
-half-sized x d q z =
-    let h = length-keeps (x .accounts) d q (sizeOf x) in
-    let k = size-limit x in
-    record {
-      accounts = length-gathered (x .accounts) _ (omega arith);
-      totals = length-gathered (x .totals) _ (omega arith);
-      settled = z .settled;
-      answers = z .answers;
-    }
 
 -- ---- counts, and a round that changes nothing
 

@@ -1,9 +1,9 @@
-// What the two passes do with a bucket's state: one worker's update carried out, a whole round, and a half of a split.
+// What a round does with a bucket's state: one worker's update carried out, and a whole round.
 // Each contract is an equality with a definition of specs/, for any values.
 ghost use mathlib.Core.Path.{_≡_};
 ghost use lib.ListN.{length, getD};
 ghost use Rattle.bucket.specs.State.{arraySize};
-ghost use Rattle.rounds.specs.Rounds.{carryOf, roundOf, halfOf};
+ghost use Rattle.rounds.specs.Rounds.{carryOf, roundOf};
 use bucket::ARRAY_SIZE;
 use bucket::BucketState;
 use fields::SLOT_SIZE;
@@ -17,7 +17,6 @@ use interface::Settings;
 use rules::Descriptor;
 use rules::answer_number;
 use rules::descriptor_at;
-use rules::first_bits;
 use rules::holds_back;
 use rules::pending;
 
@@ -71,36 +70,4 @@ pub fn round(state: BucketState, slots: &[u64], s: Settings, depth: u64, toggle:
     }
     x.applied = toggle;
     x
-}
-
-// The half of a split whose accounts have the first d bits q.
-pub fn half(state: BucketState, d: u64, q: u64) -> BucketState
-    ensures { λ r. ⌜ r ≡ halfOf state d q ⌝ }
-{
-    let old_accounts = state.accounts;
-    let old_totals = state.totals;
-    let settled = state.settled;
-    let answers = state.answers;
-    let n = state.size();
-    let mut accounts = [0u64; ARRAY_SIZE];
-    let mut totals = [0u64; ARRAY_SIZE];
-    let mut kept: usize = 0;
-    let mut i = 0;
-    while i < n {
-        let a = old_accounts[i];
-        if first_bits(d, a) == q {
-            accounts[kept] = a;
-            totals[kept] = old_totals[i];
-            kept += 1;
-        }
-        i += 1;
-    }
-    BucketState {
-        accounts,
-        totals,
-        settled,
-        answers,
-        count: kept as u64,
-        applied: 0,
-    }
 }

@@ -12,7 +12,7 @@ use Rattle.interface.specs.declared.Settings.{Settings}
 use Rattle.fields.specs.Fields.{headerDepth, headerSpare, slotAccount, slotSize, workerToggle, recordCount, recordApplied, recordToggle, recordDepth, recordPrefix, recordNumber, widestRecord}
 use Rattle.fields.specs.Regions.{slotAt, workerAt, readAt, directoryStart, recordStart}
 use Rattle.machine.proofs.laws.Base.{if-elim, and-parts}
-use Rattle.rounds.specs.Rounds.{halfOf}
+use Rattle.halves.specs.Halves.{halfOf}
 use Rattle.rules.specs.Rules.{fullBy, splittableBy}
 use Rattle.bucket.specs.declared.BucketState.{BucketState}
 use Rattle.lists.specs.Parts.{part, overlay}
@@ -30,7 +30,8 @@ use Rattle.splits.specs.Splits.{madeAt, directedAt, halfAt, deepenedAt, splitAt
 use Rattle.taking.specs.Taking.{carriedAt, takenAt}
 use Rattle.layout.proofs.Positions.{fits-kept, record-inside, placed}
 use Rattle.spares.proofs.PoolLaws.{whole-kept, pool-inside, directory-inside, entries-inside, spare-below}
-use Rattle.rounds.proofs.Sizes.{carry-sized, round-sized, half-sized}
+use Rattle.rounds.proofs.Sizes.{carry-sized, round-sized}
+use Rattle.halves.proofs.Laws.{half-sized}
 
 -- ---- lengths after each step
 

@@ -17,7 +17,7 @@ use Rattle.fields.specs.Fields.{headerDepth, headerSpare, deepest, recordToggle
 use Rattle.fields.specs.Regions.{directoryStart, recordStart}
 use Rattle.machine.proofs.laws.Base.{if-true, if-false, and-parts}
 use Rattle.rules.specs.Rules.{fullBy, splittableBy}
-use Rattle.rounds.specs.Rounds.{halfOf}
+use Rattle.halves.specs.Halves.{halfOf}
 use Rattle.bucket.specs.declared.BucketState.{BucketState}
 use Rattle.lists.specs.Parts.{overlay}
 use Rattle.layout.specs.Shape.{word, Whole}

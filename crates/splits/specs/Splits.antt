@@ -7,7 +7,7 @@ use Rattle.interface.specs.declared.Settings.{Settings}
 use Rattle.machine.specs.Choice.{if_then_else_}
 use Rattle.fields.specs.Fields.{headerDepth, headerSpare, recordToggle, recordDepth, recordPrefix, recordNumber}
 use Rattle.fields.specs.Regions.{directoryStart, recordStart}
-use Rattle.rounds.specs.Rounds.{halfOf}
+use Rattle.halves.specs.Halves.{halfOf}
 use Rattle.bucket.specs.declared.BucketState.{BucketState}
 use Rattle.lists.specs.Parts.{overlay}
 use Rattle.layout.specs.Shape.{word}

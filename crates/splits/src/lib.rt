@@ -50,7 +50,7 @@ fn half(words: &mut [u64], g: Settings, d: u64, q: u64, s: BucketState)
 {
     let r = spare(words, g);
     let at = record_start(g, r);
-    make(words, g, at, d, q, rounds::half(s, d, q));
+    make(words, g, at, d, q, halves::half(s, d, q));
     memory::put(words, HEADER_SPARE, r as u64 + 1);
     direct(words, g, d, q, at);
 }

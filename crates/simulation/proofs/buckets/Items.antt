@@ -19,12 +19,13 @@ use Rattle.bucket.specs.declared.BucketState.{BucketState}
 use Rattle.arrays.specs.declared.Position.{Position}
 use Rattle.arrays.specs.declared.Position.the-variants.{At, Before}
 use Rattle.bucket.specs.State.{arraySize, sizeOf, searchOf, putOf, removeOf}
-use Rattle.rounds.specs.Rounds.{withApplied, keeps, gathered, halfOf}
+use Rattle.rounds.specs.Rounds.{withApplied}
+use Rattle.halves.specs.Halves.{keeps, gathered, halfOf}
 use Rattle.arrays.specs.Arrays.{insertedIn, removedFrom, scan}
 use Rattle.simulation.specs.Buckets.{signed, pairs, itemsOf, totalAt, Below, Sound}
 use Rattle.arrays.proofs.Laws.{length-inserted, length-removed}
 use Rattle.bucket.proofs.Laws.{size-is}
-use Rattle.rounds.proofs.Laws.{length-keeps, length-gathered}
+use Rattle.halves.proofs.Laws.{length-keeps, length-gathered}
 
 -- ---- the first items of an array
 

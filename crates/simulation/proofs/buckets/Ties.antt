@@ -30,7 +30,8 @@ use Rattle.rules.specs.declared.Descriptor.{Descriptor}
 use Rattle.arrays.specs.declared.Position.{Position}
 use Rattle.arrays.specs.declared.Position.the-variants.{At, Before}
 use Rattle.bucket.specs.State.{arraySize, sizeOf, searchOf, putOf, removeOf, settleOf}
-use Rattle.rounds.specs.Rounds.{carryOf, helpOf, helpedOf, withApplied, roundOf, halfOf}
+use Rattle.rounds.specs.Rounds.{carryOf, helpOf, helpedOf, withApplied, roundOf}
+use Rattle.halves.specs.Halves.{halfOf}
 use Rattle.rules.specs.Rules.{fullBy, holdsBackBy, splittableBy, crowdedBy, descriptorIn, answerBy, insertAnswer, deleteAnswer, bit, pendingBy, answerOf}
 use Rattle.simulation.specs.Buckets.{signed, itemsOf, totalAt, settledOf, bitsOf, updateFrom, slotFrom, slotOf, SoundSlots, Means}
 use Rattle.rules.proofs.Laws.{room-left, pending-settled}

@@ -20,9 +20,9 @@ use Rattle.lists.specs.Parts.{overlay}
 use Rattle.storing.specs.Stores.{storedState}
 use Rattle.bucket.specs.declared.BucketState.{BucketState}
 use Rattle.bucket.specs.State as State
-use Rattle.rounds.specs.Rounds.{halfOf}
+use Rattle.halves.specs.Halves.{halfOf}
 use Rattle.simulation.specs.Buckets.{bitsOf, Means}
-use Rattle.rounds.proofs.Laws.{length-keeps}
+use Rattle.halves.proofs.Laws.{length-keeps}
 use Rattle.simulation.proofs.buckets.Ties.{half-means}
 use Rattle.layout.specs.Shape.{word}
 use Rattle.spares.specs.Records.{firstEntry, spareOf}

@@ -7,10 +7,10 @@ use mathlib.Core.Logic.{⊎-elim}
 use mathlib.Core.Path.{sym, _∙_}
 use borrow.Author.Needs.{needs}
 use Rattle.bucket.specs.State.{arraySize}
-use Rattle.rounds.proofs.Laws.{Halved, halved-start, halved-more, halved-same, halved-end}
+use Rattle.halves.proofs.Laws.{Halved, halved-start, halved-more, halved-same, halved-end}
 use Rattle.bucket.proofs.Laws.{size-limit}
-use Rattle.rounds.proofs.half.Statement.{statement}
-use Rattle.rounds.proofs.half.Tie as tie
+use Rattle.halves.proofs.half.Statement.{statement}
+use Rattle.halves.proofs.half.Tie as tie
 
 abbrev Inv-loop : tie.InvT-loop
 Inv-loop d q old-accounts old-totals settled answers n accounts₀ totals₀ kept₀ i₀ accounts totals kept i =
