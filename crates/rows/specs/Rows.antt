@@ -1,45 +1,17 @@
 -- The listing on the words, for any words: for each entry of the directory at depth M in order, those accounts of its
--- bucket whose first M bits are the entry. Rests on the regions of the lent words.
-use Prim.Native.Nat.{ℕ, zero, suc, _+_, _%_, _^_}
-use mathlib.Core.Path.{_≡_}
+-- bucket whose first M bits are the entry. Rests on the rows of one entry.
+use Prim.Native.Nat.{ℕ, zero, suc, _^_}
 use mathlib.Core.Bool.{_||_}
-use mathlib.Core.List.{List, [], _∷_, _++_, map}
-use lib.Dec.{ltb, eqb}
+use mathlib.Core.List.{List, [], _++_}
+use lib.Dec.{ltb}
 use lib.ListN.{length}
 use lib.IntN.{ℤ}
-use mir.Syntax.{w64}
-use mir.Val.{toZ}
 use Rattle.interface.specs.declared.Settings.{Settings}
 use Rattle.interface.specs.declared.Refusal.{Refusal}
 use Rattle.interface.specs.declared.Listed.{Listed}
-use Rattle.fields.specs.Fields.{recordCount, accountsFrom, totalsFrom}
-use Rattle.fields.specs.Regions.{directoryStart}
 use Rattle.machine.specs.Choice.{if_then_else_}
-use Rattle.machine.specs.Sequential.{firstBits}
-use Rattle.lists.specs.Parts.{overlay}
-use Rattle.memory.specs.Words.{least}
-use Rattle.layout.specs.Shape.{word, strange, shapeOf}
-use Rattle.layout.specs.Addresses.{recordIn}
-
--- the record that entry e names
-unfoldable pub entryRecord : List ℕ → Settings → ℕ → ℕ
-entryRecord l s e = recordIn l (word l (directoryStart (s .workers) + e))
-
--- an account with its total
-unfoldable pub rowAt : List ℕ → Settings → ℕ → ℕ → ℕ × ℤ
-rowAt l s q i = (word l (accountsFrom q + i) % 2 ^ 32, toZ w64 (word l (totalsFrom q (s .capacity) + i)))
-
--- the rows of entry e among the c accounts from position i on of the record at q
-unfoldable pub rowsIn : List ℕ → Settings → ℕ → ℕ → ℕ → ℕ → List (ℕ × ℤ)
-rowsIn l s e q i zero = []
-rowsIn l s e q i (suc c) =
-    if eqb (firstBits (s .depth) (word l (accountsFrom q + i))) e
-    then rowAt l s q i ∷ rowsIn l s e q (suc i) c
-    else rowsIn l s e q (suc i) c
-
--- the rows of entry e: at most b accounts are looked at
-unfoldable pub rowsOf : List ℕ → Settings → ℕ → List (ℕ × ℤ)
-rowsOf l s e = rowsIn l s e (entryRecord l s e) 0 (least (word l (entryRecord l s e + recordCount)) (s .capacity))
+use Rattle.layout.specs.Shape.{strange, shapeOf}
+use Rattle.entries.specs.Entries.{rowsOf, accountsWith, totalsWith}
 
 -- the rows of k entries from e on
 unfoldable pub rowsFrom : List ℕ → Settings → ℕ → ℕ → List (ℕ × ℤ)
@@ -48,18 +20,6 @@ rowsFrom l s e (suc k) = rowsOf l s e ++ rowsFrom l s (suc e) k
 
 unfoldable pub rows : List ℕ → Settings → List (ℕ × ℤ)
 rows l s = rowsFrom l s 0 (2 ^ s .depth)
-
--- a list of accounts and one of totals with the rows from position k on
-abbrev pub accountsWith : List ℕ → ℕ → List (ℕ × ℤ) → List ℕ
-accountsWith accounts k r = overlay accounts k (map (λ x. x .0) r)
-
-abbrev pub totalsWith : List ℤ → ℕ → List (ℕ × ℤ) → List ℤ
-totalsWith totals k r = overlay totals k (map (λ x. x .1) r)
-
--- what both lists are with the rows from position k on
-abbrev pub RowsWritten : List ℕ → List ℤ → ℕ → List (ℕ × ℤ) → List ℕ → List ℤ → Type 0
-RowsWritten accounts totals k r accountsAfter totalsAfter =
-    (accountsAfter ≡ accountsWith accounts k r) × (totalsAfter ≡ totalsWith totals k r)
 
 -- the two lists and the answer
 pub record Shown : Type 0 where

@@ -10,8 +10,9 @@ use Rattle.fields.specs.Regions.{directoryStart, recordStart, poolSize, wordsNe
 use Rattle.memory.specs.Words.{least}
 use Rattle.memory.proofs.Lesser.{least-bound}
 use Rattle.layout.specs.Shape.{word}
-use Rattle.rows.specs.Rows.{entryRecord, rowsIn, rowsOf, rowsFrom, rows}
-use Rattle.rows.proofs.RowLaws.{rows-limit}
+use Rattle.entries.specs.Entries.{entryRecord, rowsIn, rowsOf}
+use Rattle.rows.specs.Rows.{rowsFrom, rows}
+use Rattle.entries.proofs.EntryLaws.{rows-limit}
 
 -- at most b rows an entry, whatever the words are
 rows-few : (l : List ℕ) (s : Settings) (k e : ℕ) → length (rowsFrom l s e k) ≤ k * s .capacity

@@ -39,7 +39,8 @@ use Rattle.record.specs.Loads.{copied, loadedState}
 use Rattle.record.proofs.Runs.{getD-copied}
 use Rattle.layout.specs.Shape.{word}
 use Rattle.layout.specs.Addresses.{recordIn, recordOf}
-use Rattle.rows.specs.Rows.{entryRecord, rowAt, rowsIn, rowsOf, rowsFrom, rows}
+use Rattle.entries.specs.Entries.{entryRecord, rowAt, rowsIn, rowsOf}
+use Rattle.rows.specs.Rows.{rowsFrom, rows}
 use Rattle.simulation.specs.Meaning.{at, current, Meaning}
 use Rattle.simulation.proofs.frames.Entering.{directed-record}
 

@@ -21,7 +21,8 @@ use Rattle.machine.specs.Choice.{if_then_else_}
 use Rattle.machine.specs.Sequential.{Table}
 use Rattle.machine.proofs.laws.Base.{if-elim, if-true}
 use Rattle.layout.specs.Shape.{strange, shapeOf, word}
-use Rattle.rows.specs.Rows.{rowAt, rowsIn, rowsOf, rowsFrom, rows, Shown, shown, listingWords}
+use Rattle.entries.specs.Entries.{rowAt, rowsIn, rowsOf}
+use Rattle.rows.specs.Rows.{rowsFrom, rows, Shown, shown, listingWords}
 use Rattle.lines.specs.declared.command.Command.{Command}
 use Rattle.replies.specs.declared.Reply.{Reply}
 use Rattle.lists.specs.Parts.{overlay}

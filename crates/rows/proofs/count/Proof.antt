@@ -6,13 +6,14 @@ use native.Mathlib.Omega.{arith}
 use mathlib.Core.Path.{_≡_, refl, _∙_, ap}
 use lib.ListN.{length}
 use Rattle.rows.specs.Rows.{rowsFrom, rows}
-use Rattle.rows.proofs.RowLaws.{span-is, span-limit, entry-limit, counted-entry}
+use Rattle.rows.proofs.RowLaws.{span-is, counted-entry}
+use Rattle.entries.proofs.EntryLaws.{span-limit, entry-limit}
 use borrow.Author.Needs.{needs}
 use Rattle.rows.proofs.count.Statement.{statement}
 use Rattle.rows.proofs.count.Tie as tie
 use Rattle.rows.proofs.count.Reads as reads
 use Rattle.rows.proofs.count.Lts as lts
-use Rattle.rows.proofs.count_in.Reads as count-in-reads
+use Rattle.entries.proofs.count_in.Reads as count-in-reads
 
 abbrev Inv-loop : tie.InvT-loop
 Inv-loop words g span k₀ e₀ k e = (span ≡ 2 ^ g .depth) × ((e ≤ span) × ((k ≤ 16 * e) × (k ≡ length (rowsFrom words g 0 e))))

@@ -8,7 +8,8 @@ use mathlib.Core.Path.{_≡_, refl, sym, _∙_}
 use mathlib.Core.List.{map}
 use lib.ListN.{length}
 use Rattle.lists.specs.Parts.{overlay}
-use Rattle.rows.specs.Rows.{rowsOf, rowsFrom, rows}
+use Rattle.entries.specs.Entries.{rowsOf}
+use Rattle.rows.specs.Rows.{rowsFrom, rows}
 use Rattle.lists.proofs.PartLaws.{overlay-nil}
 use Rattle.rows.proofs.RowLaws.{span-is, entries-more, counted-entry, entry-room, written-behind}
 use borrow.Author.Needs.{needs}
@@ -16,7 +17,7 @@ use Rattle.rows.proofs.write.Statement.{statement}
 use Rattle.rows.proofs.write.Tie as tie
 use Rattle.rows.proofs.write.Reads as reads
 use Rattle.rows.proofs.write.Lts as lts
-use Rattle.rows.proofs.write_in.Reads as write-in-reads
+use Rattle.entries.proofs.write_in.Reads as write-in-reads
 
 abbrev Inv-loop : tie.InvT-loop
 Inv-loop words g accounts₀ totals₀ span k₀ e₀ accounts totals k e =

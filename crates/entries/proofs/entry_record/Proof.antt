@@ -1,14 +1,14 @@
 -- `entry_record` reads the record that an entry names, as `entryRecord` says.
 -- Rests on the bounds of words that fit.
 use native.Mathlib.Omega.{arith}
-use Rattle.rows.specs.Rows.{entryRecord}
+use Rattle.entries.specs.Entries.{entryRecord}
 use Rattle.layout.proofs.Positions.{start-bound}
-use Rattle.rows.proofs.RowLaws.{span-limit}
+use Rattle.entries.proofs.EntryLaws.{span-limit}
 use borrow.Author.Needs.{needs}
-use Rattle.rows.proofs.entry_record.Statement.{statement}
-use Rattle.rows.proofs.entry_record.Tie as tie
-use Rattle.rows.proofs.entry_record.Reads as reads
-use Rattle.rows.proofs.entry_record.Lts as lts
+use Rattle.entries.proofs.entry_record.Statement.{statement}
+use Rattle.entries.proofs.entry_record.Tie as tie
+use Rattle.entries.proofs.entry_record.Reads as reads
+use Rattle.entries.proofs.entry_record.Lts as lts
 use Rattle.memory.proofs.get_or.Reads as get-or-reads
 use Rattle.layout.proofs.addresses.record_in.Reads as record-in-reads
 use Rattle.layout.proofs.shape.directory_start.Reads as directory-start-reads

@@ -5,18 +5,18 @@ use lib.ListN.{length}
 use native.Mathlib.Omega.{arith}
 use mathlib.Core.Path.{sym, _∙_, ap}
 use mathlib.Core.Logic.{⊎-elim}
-use Rattle.rows.specs.Rows.{rowAt}
-use Rattle.rows.proofs.RowLaws.{Looked, looked, entry-inside, same-bits, Written, written-start, written-room, written-more, written-same, written-end}
+use Rattle.entries.specs.Entries.{rowAt}
+use Rattle.entries.proofs.EntryLaws.{Looked, looked, entry-inside, same-bits, Written, written-start, written-room, written-more, written-same, written-end}
 use Rattle.memory.proofs.Totals.{total-kept}
 use borrow.Author.Needs.{needs}
-use Rattle.rows.proofs.write_in.Statement.{statement}
-use Rattle.rows.proofs.write_in.Tie as tie
-use Rattle.rows.proofs.write_in.Reads as reads
-use Rattle.rows.proofs.write_in.Lts as lts
+use Rattle.entries.proofs.write_in.Statement.{statement}
+use Rattle.entries.proofs.write_in.Tie as tie
+use Rattle.entries.proofs.write_in.Reads as reads
+use Rattle.entries.proofs.write_in.Lts as lts
 use Rattle.memory.proofs.get.Reads as get-reads
 use Rattle.memory.proofs.total_of.Reads as total-of-reads
 use Rattle.rules.proofs.first_bits.Reads as first-bits-reads
-use Rattle.rows.proofs.entry_record.Reads as entry-record-reads
+use Rattle.entries.proofs.entry_record.Reads as entry-record-reads
 use Rattle.layout.proofs.addresses.size.Reads as size-reads
 
 abbrev Inv-loop : tie.InvT-loop

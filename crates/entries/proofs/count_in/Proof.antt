@@ -5,16 +5,16 @@ use native.Mathlib.Omega.{arith}
 use mathlib.Core.Path.{_≡_, refl, sym, _∙_, ap}
 use mathlib.Core.Logic.{⊎-elim}
 use lib.ListN.{length}
-use Rattle.rows.specs.Rows.{rowsIn}
-use Rattle.rows.proofs.RowLaws.{Looked, looked, entry-inside, same-bits, rows-same, counted-more, counted-end}
+use Rattle.entries.specs.Entries.{rowsIn}
+use Rattle.entries.proofs.EntryLaws.{Looked, looked, entry-inside, same-bits, rows-same, counted-more, counted-end}
 use borrow.Author.Needs.{needs}
-use Rattle.rows.proofs.count_in.Statement.{statement}
-use Rattle.rows.proofs.count_in.Tie as tie
-use Rattle.rows.proofs.count_in.Reads as reads
-use Rattle.rows.proofs.count_in.Lts as lts
+use Rattle.entries.proofs.count_in.Statement.{statement}
+use Rattle.entries.proofs.count_in.Tie as tie
+use Rattle.entries.proofs.count_in.Reads as reads
+use Rattle.entries.proofs.count_in.Lts as lts
 use Rattle.memory.proofs.get.Reads as get-reads
 use Rattle.rules.proofs.first_bits.Reads as first-bits-reads
-use Rattle.rows.proofs.entry_record.Reads as entry-record-reads
+use Rattle.entries.proofs.entry_record.Reads as entry-record-reads
 use Rattle.layout.proofs.addresses.size.Reads as size-reads
 
 abbrev Inv-loop : tie.InvT-loop
