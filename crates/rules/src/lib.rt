@@ -1,11 +1,12 @@
 // The rules that a bucket's words are read by: the bits of an account, when a bucket is full and what follows from it,
-// the update in a slot, and when it is pending. Each contract is an equality with a definition.
+// the update in a slot, when it is pending, and one bit of a word changed. Each contract is an equality with a
+// definition.
 ghost use mathlib.Core.Path.{_≡_};
-ghost use Prim.Native.Nat.{_+_, _≤_};
+ghost use Prim.Native.Nat.{_+_, _≤_, _<_};
 ghost use lib.ListN.{length};
 ghost use Rattle.fields.specs.Fields.{slotSize};
 ghost use Rattle.machine.specs.Sequential.{place, firstBits};
-ghost use Rattle.rules.specs.Rules.{fullBy, holdsBackBy, splittableBy, crowdedBy, descriptorIn, answerBy, pendingBy};
+ghost use Rattle.rules.specs.Rules.{fullBy, holdsBackBy, splittableBy, crowdedBy, descriptorIn, answerBy, flipBit, pendingBy};
 use arrays::Position;
 use fields::SLOT_ACCOUNT;
 use fields::SLOT_KIND;
@@ -97,6 +98,15 @@ pub fn answer_number(p: Position, there: u64, missing: u64) -> u64
         Position::At(_) => there,
         Position::Before(_) => missing,
     }
+}
+
+// A word with bit w changed.
+pub fn flip_bit(x: u64, w: usize) -> u64
+    requires { ⌜ w < 64 ⌝ }
+    ensures { λ r. ⌜ r ≡ flipBit x w ⌝ }
+{
+    let bit: u64 = 1 << w;
+    if (x >> w) % 2 == 0 { x + bit } else { x - bit }
 }
 
 // Whether worker j's update is to be carried out: its toggle bit differs from its applied bit, and its ticket is above

@@ -27,7 +27,9 @@ use Rattle.layout.proofs.Positions.{fits-kept, placed, held-inside}
 use Rattle.spares.proofs.PoolLaws.{whole-kept}
 use Rattle.phases.specs.declared.Phase as Code
 use Rattle.phases.specs.Phases.{planned}
-use Rattle.engine.specs.Engine.{slotReadAt, flippedAt, stateReadAt, toggleReadAt, directoryReadAt, swappedAt, marks, stateStepAt}
+use Rattle.engine.specs.Engine.{slotReadAt, flippedAt, stateReadAt, toggleReadAt, directoryReadAt}
+use Rattle.swaps.specs.BucketSwap.{swappedAt}
+use Rattle.marks.specs.StateStep.{marks, stateStepAt}
 use Rattle.taking.specs.Taking.{takenAll}
 use Rattle.directory.specs.Directory.{resolvedAt, nothingToSplit, redirectedAt}
 use Rattle.directory.proofs.DirectoryLaws.{whole-else}

@@ -23,12 +23,11 @@ use Rattle.phases.specs.declared.Phase as Code
 use Rattle.layout.specs.Shape.{word, Fits}
 use Rattle.layout.specs.Addresses.{heldBy}
 use Rattle.record.specs.Bucket.{crowdedAt, settledTicket, settledAnswer}
-use Rattle.engine.specs.Engine.{checkedAt}
 use Rattle.rules.specs.Rules.{answerOf}
 use Rattle.phases.specs.Phases.{planned}
 use Rattle.phases.proofs.Plans.{bucket-round, pass-bucket, plan-pass}
 use Rattle.calls.specs.Calls.{endedAt}
-use Rattle.updates.specs.Updates.{checkAt, numbered, updateAt, operationAt}
+use Rattle.updates.specs.Updates.{checkedAt, checkAt, numbered, updateAt, operationAt}
 use Rattle.layout.proofs.Positions.{held-inside}
 use Rattle.lookups.specs.Lookups.{lookupAt}
 

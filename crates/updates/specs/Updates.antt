@@ -1,9 +1,9 @@
--- A step of an update on the words, by its phase, and an operation's step, for any words. Rests on the steps'
--- definitions, on the directory swap, and on the machine's plan.
+-- The check, a step of an update on the words, by its phase, and an operation's step, for any words. Rests on the other
+-- steps' definitions, on what is settled in a bucket's record, and on the machine's plan.
 use Prim.Native.Nat.{ℕ, zero, suc, _+_}
 use mathlib.Core.List.{List}
 use mathlib.Core.Option.{Option, none, some}
-use lib.Dec.{eqb}
+use lib.Dec.{eqb, leb}
 use lib.ListN.{set}
 use Rattle.interface.specs.declared.Settings.{Settings}
 use Rattle.interface.specs.declared.Stepped.{Stepped}
@@ -11,20 +11,33 @@ use Rattle.machine.specs.Plan.{Phase, announce, readDirectory, flipToggle, read
 use Rattle.fields.specs.Regions.{workerAt}
 use Rattle.rules.specs.Rules.{answerOf}
 use Rattle.layout.specs.Addresses.{heldBy, bucketReadAt}
-use Rattle.engine.specs.Engine.{announcedAt, slotReadAt, flippedAt, stateReadAt, toggleReadAt, directoryReadAt, swappedAt, stateStepAt, checkedAt}
+use Rattle.engine.specs.Engine.{announcedAt, slotReadAt, flippedAt, stateReadAt, toggleReadAt, directoryReadAt}
+use Rattle.swaps.specs.BucketSwap.{swappedAt}
+use Rattle.marks.specs.StateStep.{stateStepAt}
 use Rattle.directory.specs.Directory.{redirectedAt}
 use Rattle.calls.specs.Calls.{endedAt}
-use Rattle.interface.specs.Numbers.{kindLookup}
+use Rattle.interface.specs.Numbers.{kindLookup, answerNumber}
+use Rattle.interface.specs.declared.Answer.the-variants.{Crowded}
+use Rattle.record.specs.Bucket.{crowdedAt, settledTicket, settledAnswer}
 use Rattle.machine.specs.Choice.{if_then_else_}
-use Rattle.fields.specs.Fields.{workerKind, workerSteps}
+use Rattle.fields.specs.Fields.{workerKind, workerTicket, workerSteps}
 use Rattle.layout.specs.Shape.{word}
 use Rattle.lookups.specs.Lookups.{lookupAt}
 
--- ---- a step of an update
+-- ---- the check
+
+-- what the check's second step finds for worker w at p, whose bucket's record is at q: an answer's number, or nothing
+unfoldable pub checkedAt : List ℕ → Settings → ℕ → ℕ → ℕ → Option ℕ
+checkedAt l s p q w =
+    if leb (word l (p + workerTicket)) (settledTicket l s q w)
+    then some (settledAnswer l s q w)
+    else if crowdedAt l s q then some (answerNumber Crowded) else none
 
 unfoldable pub checkAt : List ℕ → ℕ → ℕ → Option ℕ → List ℕ × Stepped
 checkAt l p k none = (l, Stepped.Moved)
 checkAt l p k (some x) = endedAt l p k (answerOf x)
+
+-- ---- a step of an update
 
 -- what a step gives, after k own steps before it, whose update ended with an answer's number; 0 where the operation
 -- goes on

@@ -31,7 +31,7 @@ fn round_step(words: &mut [u64], x: u64, w: usize, k: usize)
         engine::read_slot(words, settings_of(x), w, j - 2);
         return;
     }
-    engine::swap(words, settings_of(x), w);
+    swaps::swap(words, settings_of(x), w);
 }
 
 // A step before the first check, after k own steps.

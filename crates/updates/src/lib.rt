@@ -80,10 +80,10 @@ pub fn update_step(words: &mut [u64], x: u64, w: usize, k: u64) -> u64
         Phase::ReadState => engine::read_state(words, g, w),
         Phase::ReadToggle => engine::read_toggle(words, g, w),
         Phase::ReadSlot(j) => engine::read_slot(words, g, w, j),
-        Phase::Swap => engine::swap(words, g, w),
+        Phase::Swap => swaps::swap(words, g, w),
         Phase::Check => return check(words, g, w),
         Phase::CopyDirectory => engine::copy_directory(words, g, w),
-        Phase::StateStep(j) => engine::state_step(words, g, w, j),
+        Phase::StateStep(j) => marks::state_step(words, g, w, j),
         Phase::SwapDirectory => swap_directory(words, g, w),
     }
     GOES_ON

@@ -36,7 +36,8 @@ use Rattle.lists.proofs.PartLaws.{length-part, getD-part, length-overlay, getD-
 use Rattle.fields.proofs.Regions.{region-inside}
 use Rattle.layout.specs.Addresses.{heldBy}
 use Rattle.renumbering.specs.Numbers.{freshNumber}
-use Rattle.engine.specs.Engine.{announcedAt, flippedAt, swappedAt}
+use Rattle.engine.specs.Engine.{announcedAt, flippedAt}
+use Rattle.swaps.specs.BucketSwap.{swappedAt}
 use Rattle.inplace.specs.InPlace.{roundAt}
 use Rattle.turns.specs.Turns.{stepIn}
 use Rattle.updates.specs.Updates.{updateAt}

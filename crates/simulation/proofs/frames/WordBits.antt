@@ -1,4 +1,4 @@
--- Single bits of a word, as the machine's arrays of bits have them: none in 0, and one flipped. Rests on the engine's laws of single bits.
+-- Single bits of a word, as the machine's arrays of bits have them: none in 0, and one flipped. Rests on the laws of single bits.
 use Prim.Native.Nat.{ℕ, _%_, _^_}
 use native.Mathlib.Nat.{zero-div}
 use mathlib.Core.Path.{_≡_, ap}

@@ -46,7 +46,7 @@ use Rattle.memory.proofs.Lesser.{least-same}
 use Rattle.record.proofs.States.{loaded-count}
 use Rattle.layout.specs.Shape.{word}
 use Rattle.record.specs.Bucket.{bucketAt, holdsBackAt, splittableAt, crowdedAt, settledTicket, settledAnswer}
-use Rattle.engine.specs.Engine.{checkedAt}
+use Rattle.updates.specs.Updates.{checkedAt}
 use Rattle.lookups.specs.Lookups.{foundAt, lookedAt}
 use Rattle.simulation.specs.Meaning.{at, Keeps}
 

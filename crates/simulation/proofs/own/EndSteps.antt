@@ -30,10 +30,9 @@ use Rattle.fields.specs.Fields.{workerKind, workerAccount, workerTotal, workerT
 use Rattle.fields.specs.Regions.{startOf, worker}
 use Rattle.layout.specs.Shape.{word}
 use Rattle.layout.specs.Addresses.{heldBy}
-use Rattle.engine.specs.Engine.{checkedAt}
 use Rattle.turns.specs.Turns.{stepIn}
 use Rattle.lookups.specs.Lookups.{lookupAt, lookedAt}
-use Rattle.updates.specs.Updates.{updateAt, checkAt}
+use Rattle.updates.specs.Updates.{checkedAt, updateAt, checkAt}
 use Rattle.calls.specs.Calls.{endedAt}
 use Rattle.simulation.specs.Meaning.{at, operationIn}
 use Rattle.simulation.proofs.frames.Entering.{raised, counter-is, is-about, lookup-enters}

@@ -36,7 +36,7 @@ use Rattle.fields.proofs.Regions.{record-starts-apart}
 use Rattle.layout.specs.Shape.{word}
 use Rattle.layout.specs.Addresses.{recordOf, recordFor}
 use Rattle.record.specs.Bucket.{splittableAt, settledTicket}
-use Rattle.engine.specs.Engine.{foundBefore, splitsAt, marks, stateStepAt}
+use Rattle.marks.specs.StateStep.{foundBefore, splitsAt, marks, stateStepAt}
 use Rattle.rules.proofs.Bits.{bit-room, bit-set, bit-beside}
 use Rattle.updates.specs.Updates.{updateAt}
 use Rattle.simulation.specs.Meaning.{at, nameIn, accountIn, Keeps, current, HasDirectory, HasWork, Marks}

@@ -33,7 +33,8 @@ use Rattle.lists.proofs.PartLaws.{length-part, getD-part}
 use Rattle.fields.proofs.Regions.{region-inside}
 use Rattle.layout.specs.Shape.{word}
 use Rattle.layout.specs.Addresses.{recordOf, heldBy, bucketReadAt}
-use Rattle.engine.specs.Engine.{stateReadAt, toggleReadAt, slotReadAt, directoryReadAt, swappedAt}
+use Rattle.engine.specs.Engine.{stateReadAt, toggleReadAt, slotReadAt, directoryReadAt}
+use Rattle.swaps.specs.BucketSwap.{swappedAt}
 use Rattle.directory.specs.Directory.{redirectedAt}
 use Rattle.turns.specs.Turns.{stepIn}
 use Rattle.lookups.specs.Lookups.{lookupAt}

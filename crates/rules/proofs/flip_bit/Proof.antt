@@ -2,12 +2,11 @@
 -- Rests on the laws of single bits.
 use Prim.Native.Nat.{_^_, _<_}
 use native.Mathlib.Omega.{arith}
 use Rattle.rules.specs.Rules.{bit}
-use Rattle.rules.proofs.Bits.{shift-one}
-use Rattle.rules.proofs.Bits.{bit-room, bit-clear-fits, flip-set, flip-clear}
+use Rattle.rules.proofs.Bits.{shift-one, bit-room, bit-clear-fits, flip-set, flip-clear}
 use borrow.Author.Needs.{needs}
-use Rattle.engine.proofs.flip_bit.Statement.{statement}
-use Rattle.engine.proofs.flip_bit.Tie as tie
+use Rattle.rules.proofs.flip_bit.Statement.{statement}
+use Rattle.rules.proofs.flip_bit.Tie as tie
 
 add-result : tie.Need-add-result
 unfolding bit

@@ -11,10 +11,10 @@ use Rattle.rules.specs.Rules.{splittableBy}
 use Rattle.layout.proofs.Positions.{record-inside}
 use Rattle.record.specs.Bucket.{splittableAt}
 use Rattle.record.proofs.Tests.{both-read}
-use Rattle.engine.proofs.Cases.{marks-idle, marks-not, marks-settled, marks-found}
+use Rattle.marks.proofs.Cases.{marks-idle, marks-not, marks-settled, marks-found}
 use borrow.Author.Needs.{needs}
-use Rattle.engine.proofs.marking.Statement.{statement}
-use Rattle.engine.proofs.marking.Tie as tie
+use Rattle.marks.proofs.marking.Statement.{statement}
+use Rattle.marks.proofs.marking.Tie as tie
 
 -- the record of the account's bucket is inside the words
 inside :

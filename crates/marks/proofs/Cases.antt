@@ -1,7 +1,6 @@
--- The cases of the steps' definitions, in the order in which the code tests them: each takes what the code has read.
--- Rests on the definitions of the steps.
+-- The cases of a state step's definitions, in the order in which the code tests them: each takes what the code has read.
+-- Rests on the definitions of a state step.
 use Prim.Native.Nat.{ℕ, _+_, _≤_, _<_}
-use native.Mathlib.Omega.{arith}
 use mathlib.Core.Path.{_≡_, sym, _∙_, ap}
 use mathlib.Core.Bool.{Bool, true, false, not}
 use mathlib.Core.List.{List}
@@ -11,33 +10,17 @@ use lib.Seq.{set-getD}
 use borrow.Author.Tests.{lt-ltb, le-ltb, eq-eqb, ne-eqb}
 use Rattle.interface.specs.Numbers.{kindNone}
 use Rattle.interface.specs.declared.Settings.{Settings}
-use Rattle.fields.specs.Fields.{slotKind, slotAccount, slotTicket, workerState, workerMarks, recordNumber}
+use Rattle.fields.specs.Fields.{slotKind, slotAccount, slotTicket, workerMarks}
 use Rattle.fields.specs.Regions.{readAt}
 use Rattle.machine.specs.Choice.{_and_}
-use Rattle.machine.proofs.laws.Base.{if-true, if-false, if-eq, if-ne, and-true, and-left-false}
+use Rattle.machine.proofs.laws.Base.{if-true, if-false, and-true, and-left-false}
 use Rattle.rules.specs.Rules.{bit, withBit}
 use Rattle.layout.specs.Shape.{word}
 use Rattle.layout.specs.Addresses.{recordOf, markedAt, recordFor}
-use Rattle.renumbering.specs.Numbers.{freshNumber}
 use Rattle.record.specs.Bucket.{splittableAt, settledTicket}
-use Rattle.inplace.specs.InPlace.{roundAt}
-use Rattle.engine.specs.Engine.{swappedAt, foundBefore, splitsAt, marks, stateStepAt}
+use Rattle.marks.specs.StateStep.{foundBefore, splitsAt, marks, stateStepAt}
 use Rattle.renumbering.proofs.Searches.{and-no}
 use Rattle.rules.proofs.Bits.{mark-kept}
-
--- ---- the bucket swap
-
-module _ (l : List ℕ) (s : Settings) (p q a b : ℕ) where
-  module _ (known : a ≡ word l (p + workerState)) (now : b ≡ word l (q + recordNumber)) where
-    pub swap-none : (a ≡ b → ⊥) → l ≡ swappedAt l s p q
-    unfolding swappedAt
-    swap-none d = sym (if-ne (word l (p + workerState)) (word l (q + recordNumber)) _ l (λ e. d (omega arith)))
-
-    pub swap-done :
-        a ≡ b → (m : List ℕ) (x : ℕ) → m ≡ roundAt l s p q → x ≡ freshNumber l (s .workers) q
-        → set m (q + recordNumber) x ≡ swappedAt l s p q
-    unfolding swappedAt
-    swap-done e m x em ex = rw (em, ex) (sym (if-eq (word l (p + workerState)) (word l (q + recordNumber)) _ l (omega arith)))
 
 -- ---- a state step's test
 

@@ -6,12 +6,12 @@ use mathlib.Core.Path.{_≡_, _∙_, ap}
 use lib.ListN.{length}
 use Rattle.fields.specs.Fields.{widestRecord}
 use Rattle.fields.specs.Regions.{workerAt}
-use Rattle.engine.specs.Engine.{swappedAt}
+use Rattle.swaps.specs.BucketSwap.{swappedAt}
 use Rattle.layout.proofs.Positions.{held-inside}
-use Rattle.engine.proofs.Cases.{swap-none, swap-done}
+use Rattle.swaps.proofs.Cases.{swap-none, swap-done}
 use borrow.Author.Needs.{needs}
-use Rattle.engine.proofs.swap.Statement.{statement}
-use Rattle.engine.proofs.swap.Tie as tie
+use Rattle.swaps.proofs.swap.Statement.{statement}
+use Rattle.swaps.proofs.swap.Tie as tie
 
 -- the record that the worker holds is inside the words
 inside : (c : tie.After-held-by) → c .held-by .result + widestRecord ≤ length (c .before .before .before .args .words .now)

@@ -10,8 +10,8 @@ use Rattle.rules.specs.Rules.{flipBit}
 use Rattle.inplace.proofs.Rounds.{round-none, round-done}
 use Rattle.lists.proofs.PartLaws.{part-taken}
 use borrow.Author.Needs.{needs}
-use Rattle.engine.proofs.round.Statement.{statement}
-use Rattle.engine.proofs.round.Tie as tie
+use Rattle.swaps.proofs.round.Statement.{statement}
+use Rattle.swaps.proofs.round.Tie as tie
 
 -- the worker's record lies inside the words
 own :

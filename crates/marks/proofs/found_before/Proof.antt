@@ -6,12 +6,12 @@ use mathlib.Core.Path.{_≡_, refl, sym, _∙_}
 use Rattle.rules.specs.Rules.{bit}
 use Rattle.fields.specs.Regions.{workerAt}
 use Rattle.renumbering.specs.Numbers.{any}
-use Rattle.engine.specs.Engine.{foundBefore}
+use Rattle.marks.specs.StateStep.{foundBefore}
 use Rattle.renumbering.proofs.Searches.{any-hit, any-turn, any-none}
-use Rattle.engine.proofs.Cases.{found, found-unmarked, found-it, found-not}
+use Rattle.marks.proofs.Cases.{found, found-unmarked, found-it, found-not}
 use borrow.Author.Needs.{needs}
-use Rattle.engine.proofs.found_before.Statement.{statement}
-use Rattle.engine.proofs.found_before.Tie as tie
+use Rattle.marks.proofs.found_before.Statement.{statement}
+use Rattle.marks.proofs.found_before.Tie as tie
 
 abbrev Inv-loop : tie.InvT-loop
 Inv-loop words g w j q bits i₀ i =

@@ -4,10 +4,10 @@ use mathlib.Core.Path.{_∙_}
 use Rattle.rules.specs.Rules.{bit}
 use Rattle.fields.specs.Regions.{workerAt}
 use Rattle.rules.proofs.Bits.{mark-set}
-use Rattle.engine.proofs.Cases.{step-none, step-marked, step-kept}
+use Rattle.marks.proofs.Cases.{step-none, step-marked, step-kept}
 use borrow.Author.Needs.{needs}
-use Rattle.engine.proofs.state_step.Statement.{statement}
-use Rattle.engine.proofs.state_step.Tie as tie
+use Rattle.marks.proofs.state_step.Statement.{statement}
+use Rattle.marks.proofs.state_step.Tie as tie
 
 returns : tie.Need-returns
 unfolding bit
