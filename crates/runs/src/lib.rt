@@ -6,6 +6,7 @@ ghost use Prim.Native.Nat.{_≤_, _<_};
 ghost use Rattle.layout.specs.Shape.{settingsOf, Fits};
 ghost use Rattle.runs.specs.Runs.{longestRun, runIn, runWords};
 use calls::completed;
+use early::early_step;
 use fields::HEADER_SETTINGS;
 use fields::STEPS_RANGE;
 use fields::WORKER_KIND;
@@ -21,7 +22,6 @@ use layout::shape::strange_words;
 use lookups::lookup_step;
 use updates::GOES_ON;
 use updates::answer_of;
-use updates::early::early_step;
 use updates::update_step;
 
 // No operation of an opened table takes as many steps.

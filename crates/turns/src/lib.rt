@@ -7,6 +7,7 @@ ghost use Rattle.layout.specs.Shape.{word, settingsOf, Fits};
 ghost use Rattle.updates.specs.Updates.{operationAt};
 ghost use Rattle.turns.specs.Turns.{stepWords};
 use crate::results::stepped;
+use early::early_step;
 use fields::HEADER_SETTINGS;
 use fields::STEPS_RANGE;
 use fields::WORKER_KIND;
@@ -19,7 +20,6 @@ use layout::addresses::worker_at;
 use layout::shape::settings_of;
 use layout::shape::strange_words;
 use lookups::lookup_step;
-use updates::early::early_step;
 use updates::update_step;
 
 mod results;

@@ -1,13 +1,12 @@
 -- Laws of a step of an update: the phases of its plan, and each case of a check. Rests on the definition of such a step, and on the
 -- machine's plan.
-use Prim.Native.Nat.{ℕ, zero, suc, _+_, _-_, _*_, _≤_, _<_, _%_}
+use Prim.Native.Nat.{ℕ, zero, suc, _+_, _≤_, _<_, _%_}
 use native.Mathlib.Omega.{arith}
 use mathlib.Core.Path.{_≡_, refl, sym, _∙_, ap, subst}
 use mathlib.Core.Logic.{_≢_}
 use mathlib.Core.Bool.{Bool, true, false}
 use mathlib.Core.List.{List, [], _∷_, _++_}
 use mathlib.Core.Option.{none, some}
-use lib.Dec.{leb}
 use lib.ListN.{length, getD, set}
 use borrow.Author.Tests.{le-leb, lt-leb, eq-eqb, ne-eqb}
 use Rattle.interface.specs.Numbers.{kindNone, answerNumber, kindLookup}
@@ -25,7 +24,6 @@ use Rattle.layout.specs.Addresses.{heldBy}
 use Rattle.record.specs.Bucket.{crowdedAt, settledTicket, settledAnswer}
 use Rattle.rules.specs.Rules.{answerOf}
 use Rattle.phases.specs.Phases.{planned}
-use Rattle.phases.proofs.Plans.{bucket-round, pass-bucket, plan-pass}
 use Rattle.calls.specs.Calls.{endedAt}
 use Rattle.updates.specs.Updates.{checkedAt, checkAt, numbered, updateAt, operationAt}
 use Rattle.layout.proofs.Positions.{held-inside}
@@ -85,26 +83,6 @@ slot-below n k j r h e = subst (λ (x : Phase). Below n x) (sym e ∙ ap planned
 pub state-below : (n k j : ℕ) (r : Code.Phase) → r ≡ Code.Phase.StateStep j → planned r ≡ phase n k → j < n
 unfolding phase planned Below
 state-below n k j r h e = subst (λ (x : Phase). Below n x) (sym e ∙ ap planned h) (all-at n k (all-plan n))
-
--- ---- the steps before the first check
-
-module _ (n : ℕ) where
-  pub early-directory : phase n 1 ≡ readDirectory
-  unfolding phase plan pass
-  early-directory = refl
-
-  pub early-flip : phase n 2 ≡ flipToggle
-  unfolding phase plan pass bucketPass
-  early-flip = refl
-
-  pub early-round :
-      (k i : ℕ) → 3 ≤ k → k < 2 * n + 9 → i ≡ (if leb (n + 3) (k - 3) then k - 3 - (n + 3) else k - 3)
-      → phase n k ≡ getD (bucketRound n) i checkState
-  early-round k i h m e =
-      let z : k - 1 - 1 - 1 ≡ k - 3 = omega arith in
-      plan-pass n k (k - 1) (omega arith) (sym (if-false _ _ (lt-leb (6 * n + 16) (k - 1) (omega arith))))
-      ∙ pass-bucket n (k - 1) (omega arith) (omega arith)
-      ∙ bucket-round n (k - 1 - 1) i (omega arith) (rw z e)
 
 -- ---- a step of an update
 

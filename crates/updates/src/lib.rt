@@ -27,8 +27,6 @@ use record::settled_answer;
 use record::settled_ticket;
 use rules::crowded;
 
-pub mod early;
-
 // What an update's step gives where the operation goes on; any other number is its answer's.
 pub const GOES_ON: u64 = 0;
 

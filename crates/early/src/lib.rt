@@ -1,12 +1,12 @@
 // The steps before the first check, told by their number alone. Written twice for speed, beside the plan that tells
 // every step (`phase_of` of crate phases), since most steps are such: this source compiled as Rust takes 2,035
-// instructions for an insert at n 1 by single steps and 1,540 by `run`; without this file 2,528 and 2,009
+// instructions for an insert at n 1 by single steps and 1,540 by `run`; without this crate 2,528 and 2,009
 // (docs/DECISIONS.md, 42).
 ghost use mathlib.Core.Path.{_≡_};
 ghost use Prim.Native.Nat.{_+_, _*_, _≤_, _<_};
 ghost use Rattle.interface.specs.declared.Stepped.{Stepped};
 ghost use Rattle.layout.specs.Shape.{settingsOf, Fits};
 ghost use Rattle.updates.specs.Updates.{updateStep};
 use layout::shape::settings_of;
 use phases::reduce;
 

@@ -8,11 +8,12 @@ use Rattle.interface.specs.declared.Settings.{Settings}
 use Rattle.interface.specs.declared.Stepped.{Stepped}
 use Rattle.machine.specs.Plan.{readState, readToggle, readSlot, swapState}
 use Rattle.phases.proofs.Plans.{reduced-below, bucket-state, bucket-toggle, bucket-slot, bucket-swap}
 use Rattle.updates.specs.Updates.{updateAt}
-use Rattle.updates.proofs.UpdateLaws.{early-round, at-phase}
+use Rattle.updates.proofs.UpdateLaws.{at-phase}
+use Rattle.early.proofs.EarlyPhases.{early-round}
 use borrow.Author.Needs.{needs}
-use Rattle.updates.proofs.early.round_step.Statement.{statement}
-use Rattle.updates.proofs.early.round_step.Tie as tie
+use Rattle.early.proofs.round_step.Statement.{statement}
+use Rattle.early.proofs.round_step.Tie as tie
 
 add-reduce : tie.Need-add-reduce
 add-reduce c = omega (arith, c .before .before .pre .0 .workers, ap (λ (s : Settings). s .workers) (c .settings-of .ensures))

@@ -7,11 +7,12 @@ use Prim.Native.Nat.{ℕ}
 use Rattle.interface.specs.declared.Stepped.{Stepped}
 use Rattle.machine.specs.Plan.{announce, readDirectory, flipToggle, phase}
 use Rattle.phases.proofs.Plans.{plan-announce}
 use Rattle.updates.specs.Updates.{updateAt}
-use Rattle.updates.proofs.UpdateLaws.{early-directory, early-flip, at-phase}
+use Rattle.updates.proofs.UpdateLaws.{at-phase}
+use Rattle.early.proofs.EarlyPhases.{early-directory, early-flip}
 use borrow.Author.Needs.{needs}
-use Rattle.updates.proofs.early.early_step.Statement.{statement}
-use Rattle.updates.proofs.early.early_step.Tie as tie
+use Rattle.early.proofs.early_step.Statement.{statement}
+use Rattle.early.proofs.early_step.Tie as tie
 
 announce-requires : tie.Need-announce-requires
 announce-requires c κs =
