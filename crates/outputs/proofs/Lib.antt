@@ -2,3 +2,4 @@
 -- They rest on the definitions of specs/.
 pub mod Outputs
 pub mod Within
+pub mod Rooms

@@ -17,6 +17,7 @@ use Rattle.lines.specs.Session.{session}
 use Rattle.lines.proofs.Session.{session-of-01}
 use Rattle.outputs.specs.Outputs.{DriverState}
 use Rattle.outputs.specs.Room.{longest}
+use Rattle.outputs.proofs.Rooms.{zeros-hold}
 use Rattle.driver.specs.Feeding.{Feeding, took, fed}
 use Rattle.texts.specs.Texts.{lastFeed, textsOn, wordsOn, wordsAfter, ended, readerAfter}
 use Rattle.driver.proofs.Bounds.{fed-first}
@@ -193,7 +194,7 @@ own-start = record {
   words = refl;
   accounts = length-replicate {A = ℕ} 4_096 0;
   totals = length-replicate {A = ℤ} 4_096 (pos 0);
-  buffer = omega (arith, length-replicate {A = ℕ} 262_144 0);
+  buffer = zeros-hold 262_144 (omega arith);
   reader = refl;
 }
 
