@@ -1,11 +1,14 @@
 -- `load_state` loads two arrays at a time. The loops' invariants: the items passed are copied; the measures: the items left.
--- Rests on the laws of one item more, and of the whole state.
-use Prim.Native.Nat.{_+_, _≤_, _-_}
+-- Rests on the laws of one item more, of the whole state, and of the places.
+use Prim.Native.Nat.{ℕ, _+_, _≤_, _<_, _-_}
 use mathlib.Core.Path.{_≡_, refl}
-use native.Mathlib.Nat.{le-antisymm}
-use lib.ListN.{getD}
-use Rattle.fields.specs.Fields.{recordApplied}
+use native.Mathlib.Nat.{le-antisymm, le-trans}
+use native.Mathlib.Numerals.{add-one}
+use native.Mathlib.Omega.{arith}
+use lib.ListN.{length, getD}
+use Rattle.fields.specs.Fields.{recordCount, recordApplied, accountsFrom, totalsFrom, settledFrom, answersFrom, widestRecord}
 use Rattle.record.specs.Loads.{copied}
+use Rattle.record.proofs.Pairs.{Room, Place, Pair, place, begins, nearer, accounts-pair, workers-pair}
 use Rattle.record.proofs.States.{loading, account-loaded, worker-loaded, state-loaded}
 use Rattle.memory.proofs.Lesser.{count-bound}
 use borrow.Author.Needs.{needs}
@@ -26,18 +29,58 @@ Inv-loop2 words q b n c s₀ accounts totals i settled answers j₀ s j =
 abbrev μ-loop2 : tie.MeasureT-loop2
 μ-loop2 words q b n c s₀ accounts totals i settled answers j₀ s j = n - j
 
+-- the record's place
+room :
+    (c : tie.Start Inv-loop μ-loop Inv-loop2 μ-loop2) → let s = c .args in Room (s .q) (s .b) (s .n) (length (s .words .now))
+room c = record { inside = c .pre .0; low = c .good .0 .1; capacity = c .pre .1 .0; workers = c .pre .1 .1 }
+
+-- the places of a word before the arrays, of an account and its total, and of a worker's ticket and answer
+counted :
+    (c : tie.Start Inv-loop μ-loop Inv-loop2 μ-loop2) → let s = c .args in Place (length (s .words .now)) (s .q + recordCount)
+counted c = place (room c) recordCount (omega arith)
+
+marked :
+    (c : tie.Start Inv-loop μ-loop Inv-loop2 μ-loop2) → let s = c .args in Place (length (s .words .now)) (s .q + recordApplied)
+marked c = place (room c) recordApplied (omega arith)
+
+account :
+    (c : tie.In-loop Inv-loop μ-loop Inv-loop2 μ-loop2) → let s = c .before .before .before .before .before .before .args in
+    Pair (s .q) (accountsFrom (s .q)) (totalsFrom (s .q) (s .b)) (c .before .loop .i)
+account c =
+    accounts-pair _ _ _ _ _ _ (room (c .before .before .before .before .before .before)) (c .loop-test .taken) (c .before .loop .inv .1 .0)
+
+worker :
+    (c : tie.In-loop2 Inv-loop μ-loop Inv-loop2 μ-loop2)
+    → let s = c .before .before .before .before .before .before .before .before .args in
+    Pair (s .q) (settledFrom (s .q) (s .b)) (answersFrom (s .q) (s .b) (s .n)) (c .before .loop2 .j)
+worker c = workers-pair _ _ _ _ _ (room (c .before .before .before .before .before .before .before .before)) (c .loop2-test .taken)
+
+-- a place in the record is inside the words
+account-inside :
+    (c : tie.In-loop Inv-loop μ-loop Inv-loop2 μ-loop2) → let s = c .before .before .before .before .before .before in
+    (k : ℕ) → k < s .args .q + widestRecord → k < length (s .args .words .now)
+account-inside c k h = le-trans h (c .before .before .before .before .before .before .pre .0)
+
+worker-inside :
+    (c : tie.In-loop2 Inv-loop μ-loop Inv-loop2 μ-loop2) → let s = c .before .before .before .before .before .before .before .before in
+    (k : ℕ) → k < s .args .q + widestRecord → k < length (s .args .words .now)
+worker-inside c k h = le-trans h (c .before .before .before .before .before .before .before .before .pre .0)
+
 loop-holds : tie.Need-loop-holds Inv-loop μ-loop Inv-loop2 μ-loop2
 unfolding copied
 loop-holds c = (search needs, (count-bound _ _ _ (c .before .least .ensures), refl))
 
 loop-again : tie.Need-loop-again Inv-loop μ-loop Inv-loop2 μ-loop2
-loop-again c = (search needs, (search needs, account-loaded _ _ _ _ _ _ _ _ _ _ (c .before .before .before .loop .inv .1 .1)))
+loop-again c =
+    let known = c .before .before .before .loop .inv in
+    (rw add-one (c .before .before .loop-test .taken), (known .1 .0, account-loaded _ _ _ _ _ _ _ _ _ _ (known .1 .1)))
 
 loop2-holds : tie.Need-loop2-holds Inv-loop μ-loop Inv-loop2 μ-loop2
 loop2-holds c = (search needs, rw (le-antisymm (c .before .loop .inv .0) (c .loop-test .left)) at (c .before .loop .inv .1 .1))
 
 loop2-again : tie.Need-loop2-again Inv-loop μ-loop Inv-loop2 μ-loop2
-loop2-again c = (search needs, worker-loaded _ _ _ _ _ _ _ _ _ _ (c .before .before .before .loop2 .inv .1))
+loop2-again c =
+    (rw add-one (c .before .before .loop2-test .taken), worker-loaded _ _ _ _ _ _ _ _ _ _ (c .before .before .before .loop2 .inv .1))
 
 returns : tie.Need-returns Inv-loop μ-loop Inv-loop2 μ-loop2
 returns c =
@@ -47,11 +90,22 @@ returns c =
 
 pub load-state-spec : {M : Type 1} → statement M
 load-state-spec =
-    tie.close (tie.spec Inv-loop μ-loop Inv-loop2 μ-loop2 (λ c. search needs) (λ c. search needs) (λ c. search needs)
-    (λ c κs. search needs) (λ c. search needs) (λ c. search needs) (λ c. search needs) (λ c. search needs)
-    (λ c. search needs) loop-holds (λ c. search needs) (λ c. search needs) (λ c. search needs) (λ c. search needs)
-    (λ c. search needs) (λ c. search needs) (λ c. search needs) (λ c. search needs) (λ c. search needs)
-    (λ c. search needs) (λ c. search needs) (λ c. search needs) loop-again (λ c. search needs) (λ c. search needs)
-    loop2-holds (λ c. search needs) (λ c. search needs) (λ c. search needs) (λ c. search needs) (λ c. search needs)
-    (λ c. search needs) (λ c. search needs) (λ c. search needs) (λ c. search needs) (λ c. search needs)
-    (λ c. search needs) (λ c. search needs) loop2-again returns)
+    tie.close (tie.spec Inv-loop μ-loop Inv-loop2 μ-loop2 (λ c. counted (c .before) .address) (λ c. counted (c .before) .scaled)
+    (λ c. counted (c .before .before) .inside) (λ c κs. search needs) (λ c. marked (c .before .before .before) .address)
+    (λ c. marked (c .before .before .before) .scaled) (λ c. marked (c .before .before .before .before) .inside)
+    (λ c. begins (room (c .before .before .before .before)) .accounts)
+    (λ c. begins (room (c .before .before .before .before)) .totals) loop-holds
+    (λ c. account c .first) (λ c. account c .first-scaled)
+    (λ c. account-inside (c .before) _ (account (c .before) .first-inside)) (λ c. account (c .before) .scaled)
+    (λ c. account (c .before) .small) (λ c. account (c .before) .second) (λ c. account (c .before) .second-scaled)
+    (λ c. account-inside (c .before .before) _ (account (c .before .before) .second-inside)) (λ c. account (c .before .before) .scaled)
+    (λ c. account (c .before .before) .small) (λ c. account (c .before .before) .next)
+    (λ c. nearer (c .before .before .loop-test .taken)) loop-again
+    (λ c. begins (room (c .before .before .before .before .before .before)) .settled)
+    (λ c. begins (room (c .before .before .before .before .before .before)) .answers) loop2-holds
+    (λ c. worker c .first) (λ c. worker c .first-scaled)
+    (λ c. worker-inside (c .before) _ (worker (c .before) .first-inside)) (λ c. worker (c .before) .scaled)
+    (λ c. worker (c .before) .small) (λ c. worker (c .before) .second) (λ c. worker (c .before) .second-scaled)
+    (λ c. worker-inside (c .before .before) _ (worker (c .before .before) .second-inside)) (λ c. worker (c .before .before) .scaled)
+    (λ c. worker (c .before .before) .small) (λ c. worker (c .before .before) .next)
+    (λ c. nearer (c .before .before .loop2-test .taken)) loop2-again returns)

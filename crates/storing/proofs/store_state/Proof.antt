@@ -1,15 +1,17 @@
 -- `store_state` stores two arrays at a time. The loops' invariants: the items passed are stored; the measures: the items left.
--- Rests on the laws of one item more, and of the whole state.
+-- Rests on the laws of one item more, of the whole state, and of the places.
 use Prim.Native.Nat.{_+_, _≤_, _-_}
 use mathlib.Core.Path.{_≡_, sym, _∙_, ap}
-use native.Mathlib.Nat.{le-antisymm}
+use native.Mathlib.Nat.{le-antisymm, le-trans}
+use native.Mathlib.Numerals.{add-one}
 use native.Mathlib.Omega.{arith}
 use lib.ListN.{length, length-set, length-map}
-use Rattle.fields.specs.Fields.{widestRecord}
+use Rattle.fields.specs.Fields.{recordCount, accountsFrom, totalsFrom, settledFrom, answersFrom, widestRecord}
 use Rattle.memory.specs.Words.{stored}
 use Rattle.storing.specs.Stores.{storedState}
 use Rattle.memory.proofs.Runs.{stored-none}
 use Rattle.bucket.proofs.Sizes.{Sized}
+use Rattle.record.proofs.Pairs.{Room, Place, Pair, place, begins, nearer, accounts-pair, workers-pair}
 use Rattle.storing.proofs.States.{pair-stored, state-stored}
 use Rattle.memory.proofs.Lesser.{count-bound}
 use Rattle.storing.proofs.Trips.{length-state}
@@ -43,6 +45,29 @@ sized c =
       answers = sym (length-map (c .args .t5 .answers) (λ x. x)) ∙ known .1 .1 .1 .0 .1 .0 .1;
     }
 
+-- the record's place
+room :
+    (c : tie.Start Inv-loop μ-loop Inv-loop2 μ-loop2) → let s = c .args in Room (s .q) (s .b) (s .n) (length (s .words .now))
+room c = record { inside = c .pre .0; low = c .good .0 .1; capacity = c .pre .1 .0; workers = c .pre .1 .1 }
+
+-- the place of the count
+counted :
+    (c : tie.After-least Inv-loop μ-loop Inv-loop2 μ-loop2) → let s = c .before .before .args in
+    Place (length (s .words .now)) (s .q + recordCount)
+counted c = place (room (c .before .before)) recordCount (omega arith)
+
+-- the places of an account and its total, and of a worker's ticket and answer
+account :
+    (c : tie.In-loop Inv-loop μ-loop Inv-loop2 μ-loop2) → let s = c .before .before .before .before .args in
+    Pair (s .q) (accountsFrom (s .q)) (totalsFrom (s .q) (s .b)) (c .before .loop .i)
+account c =
+    accounts-pair _ _ _ _ _ _ (room (c .before .before .before .before)) (c .loop-test .taken) (c .before .loop .inv .1 .0)
+
+worker :
+    (c : tie.In-loop2 Inv-loop μ-loop Inv-loop2 μ-loop2) → let s = c .before .before .before .before .before .before .args in
+    Pair (s .q) (settledFrom (s .q) (s .b)) (answersFrom (s .q) (s .b) (s .n)) (c .before .loop2 .j)
+worker c = workers-pair _ _ _ _ _ (room (c .before .before .before .before .before .before)) (c .loop2-test .taken)
+
 slice-write-words-2 : tie.Need-slice-write-words-2 Inv-loop μ-loop Inv-loop2 μ-loop2
 slice-write-words-2 c = simp length-set (omega arith)
 
@@ -51,18 +76,24 @@ loop-holds c =
     (search needs, (count-bound _ _ _ (c .least .ensures), (simp length-set (omega arith), sym (stored-none _ _ _ ∙ stored-none _ _ _))))
 
 slice-write-words-4 : tie.Need-slice-write-words-4 Inv-loop μ-loop Inv-loop2 μ-loop2
-slice-write-words-4 c = simp length-set (omega arith)
+slice-write-words-4 c =
+    let here = c .before .before in
+    simp length-set (le-trans (account here .second-inside) (here .before .loop .inv .1 .1 .0))
 
 loop-again : tie.Need-loop-again Inv-loop μ-loop Inv-loop2 μ-loop2
 loop-again c =
-    let long = sized (c .before .before .before .before .before .before) in (
-      search needs,
+    let here = c .before .before in
+    let known = here .before .loop .inv in
+    let start = here .before .before .before .before in
+    let long = sized start in
+    let place = account here in (
+      rw add-one (here .loop-test .taken),
       (
-        search needs,
+        known .1 .0,
         (
-          simp length-set (omega arith),
-          pair-stored _ _ _ _ _ _ _ (c .before .before .before .loop .inv .1 .1 .1) (omega arith) (simp length-set (omega arith))
-              (omega arith) (omega arith),
+          simp length-set (known .1 .1 .0),
+          pair-stored _ _ _ _ _ _ _ (known .1 .1 .1) (place .apart) (simp length-set (le-trans (place .second-inside) (start .pre .0)))
+              (rw (long .accounts) (place .small)) (rw (long .totals) (place .small)),
         ),
       ),
     )
@@ -71,15 +102,22 @@ loop2-holds : tie.Need-loop2-holds Inv-loop μ-loop Inv-loop2 μ-loop2
 loop2-holds c = (search needs, (search needs, sym (stored-none _ _ _ ∙ stored-none _ _ _)))
 
 slice-write-words-6 : tie.Need-slice-write-words-6 Inv-loop μ-loop Inv-loop2 μ-loop2
-slice-write-words-6 c = simp length-set (omega arith)
+slice-write-words-6 c =
+    let here = c .before .before in
+    simp length-set (le-trans (worker here .second-inside) (here .before .loop2 .inv .1 .0))
 
 loop2-again : tie.Need-loop2-again Inv-loop μ-loop Inv-loop2 μ-loop2
 loop2-again c =
-    let long = sized (c .before .before .before .before .before .before .before .before) in (
-      search needs,
+    let here = c .before .before in
+    let known = here .before .loop2 .inv in
+    let first = here .before .before .before in
+    let long = sized (first .before .before .before) in
+    let place = worker here in (
+      rw add-one (here .loop2-test .taken),
       (
-        simp length-set (omega arith),
-        pair-stored _ _ _ _ _ _ _ (c .before .before .before .loop2 .inv .1 .1) (omega arith) (omega arith) (omega arith) (omega arith),
+        simp length-set (known .1 .0),
+        pair-stored _ _ _ _ _ _ _ (known .1 .1) (place .apart) (le-trans (place .second-inside) (first .loop .inv .1 .1 .0))
+            (rw (long .settled) (place .small)) (rw (long .answers) (place .small)),
       ),
     )
 
@@ -102,11 +140,19 @@ returns c = whole c
 
 pub store-state-spec : {M : Type 1} → statement M
 store-state-spec =
-    tie.close (tie.spec Inv-loop μ-loop Inv-loop2 μ-loop2 (λ c κs. search needs) (λ c. search needs)
-    (λ c. search needs) (λ c. search needs) (λ c. search needs) (λ c. search needs) slice-write-words-2
-    (λ c. search needs) (λ c. search needs) loop-holds (λ c. search needs) (λ c. search needs) (λ c. search needs)
-    (λ c. search needs) (λ c. search needs) (λ c. search needs) (λ c. search needs) (λ c. search needs)
-    (λ c. search needs) slice-write-words-4 (λ c. search needs) (λ c. search needs) loop-again (λ c. search needs)
-    (λ c. search needs) loop2-holds (λ c. search needs) (λ c. search needs) (λ c. search needs) (λ c. search needs)
-    (λ c. search needs) (λ c. search needs) (λ c. search needs) (λ c. search needs) (λ c. search needs)
-    slice-write-words-6 (λ c. search needs) (λ c. search needs) loop2-again same-length returns)
+    tie.close (tie.spec Inv-loop μ-loop Inv-loop2 μ-loop2 (λ c κs. search needs) (λ c. counted c .address)
+    (λ c. counted c .scaled) (λ c. counted c .inside) (λ c. search needs) (λ c. search needs) slice-write-words-2
+    (λ c. begins (room (c .before .before)) .accounts) (λ c. begins (room (c .before .before)) .totals) loop-holds
+    (λ c. account c .scaled) (λ c. account c .small)
+    (λ c. account (c .before) .first) (λ c. account (c .before) .first-scaled)
+    (λ c. le-trans (account (c .before) .first-inside) (c .before .before .loop .inv .1 .1 .0))
+    (λ c. account (c .before) .scaled) (λ c. account (c .before) .small) (λ c. account (c .before .before) .second)
+    (λ c. account (c .before .before) .second-scaled) slice-write-words-4 (λ c. account (c .before .before) .next)
+    (λ c. nearer (c .before .before .loop-test .taken)) loop-again
+    (λ c. begins (room (c .before .before .before .before)) .settled)
+    (λ c. begins (room (c .before .before .before .before)) .answers) loop2-holds (λ c. worker c .scaled)
+    (λ c. worker c .small) (λ c. worker (c .before) .first) (λ c. worker (c .before) .first-scaled)
+    (λ c. le-trans (worker (c .before) .first-inside) (c .before .before .loop2 .inv .1 .0))
+    (λ c. worker (c .before) .scaled) (λ c. worker (c .before) .small) (λ c. worker (c .before .before) .second)
+    (λ c. worker (c .before .before) .second-scaled) slice-write-words-6 (λ c. worker (c .before .before) .next)
+    (λ c. nearer (c .before .before .loop2-test .taken)) loop2-again same-length returns)
