@@ -1,5 +1,5 @@
 -- No line of more than longestLine bytes means anything: `I 65535 4294967295 -9223372036854775808` is a longest that does.
--- Rests on the definitions of specs/Grammar.
+-- Rests on the definitions of specs/Grammar and of crate commands.
 use Prim.Native.Nat.{ℕ, zero, suc, _+_, _-_, _*_, _^_, _≤_, _<_}
 use mathlib.Core.Path.{_≡_, refl, sym, _∙_, ap}
 use mathlib.Core.Bool.{Bool, true, false}
@@ -14,10 +14,11 @@ use borrow.Author.Tests.{leb-true, leb-false, eqb-false}
 use Rattle.machine.specs.Choice.{if_then_else_}
 use Rattle.machine.proofs.laws.Base.{and-parts, if-elim}
 use Rattle.decimals.specs.Ascii.{space, minusSign, zeroDigit, nineDigit}
-use Rattle.lines.specs.declared.command.Command.{Command}
-use Rattle.lines.specs.declared.command.Command.the-variants.{Open, Insert, Delete, Lookup, Steps, Unread}
+use Rattle.commands.specs.declared.Command.{Command}
+use Rattle.commands.specs.declared.Command.the-variants.{Open, Insert, Delete, Lookup, Steps, Unread}
 use Rattle.numerals.specs.Numerals.{isDigit, digitsAfter, zeroThen, numeral, plus, minus, signedNumeral, upTo, from, in64, greatestTotal, leastTotalSize}
-use Rattle.lines.specs.Grammar.{greatestSmall, greatestAccount, leastSteps, greatestSteps, openLetter, insertLetter, deleteLetter, lookupLetter, stepsLetter, before, partsAt, fieldsOf, letterOf, smallOf, accountOf, totalOf, stepsOf, with2, with3, oneField, threeFields, fourFields, ofFields, commandOf}
+use Rattle.commands.specs.Commands.{greatestSmall, greatestAccount, leastSteps, greatestSteps, openLetter, insertLetter, deleteLetter, lookupLetter, stepsLetter, smallOf, accountOf, totalOf, stepsOf, with2, with3, oneField, threeFields, fourFields}
+use Rattle.lines.specs.Grammar.{before, partsAt, fieldsOf, letterOf, ofFields, commandOf}
 use Rattle.lines.specs.Reading.{longestLine}
 use Rattle.numerals.proofs.NumeralLaws.{some-none, passed}
 

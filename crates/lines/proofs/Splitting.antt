@@ -11,8 +11,9 @@ use lib.Seq.{drop-cons}
 use borrow.Author.Tests.{eq-eqb, ne-eqb}
 use Rattle.machine.specs.Choice.{if_then_else_}
 use Rattle.decimals.specs.Ascii.{space}
-use Rattle.lines.specs.declared.command.Command.the-variants.{Unread}
-use Rattle.lines.specs.Grammar.{before, partsAt, fieldsOf, firstField, letterOf, oneField, ofFields, commandOf}
+use Rattle.commands.specs.declared.Command.the-variants.{Unread}
+use Rattle.commands.specs.Commands.{oneField}
+use Rattle.lines.specs.Grammar.{before, partsAt, fieldsOf, firstField, letterOf, ofFields, commandOf}
 
 -- ---- the first field, byte by byte
 

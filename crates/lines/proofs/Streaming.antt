@@ -12,7 +12,7 @@ use lib.Seq.{take-suc-set}
 use borrow.Author.Tests.{le-leb, lt-ltb, le-ltb, leb-true, leb-false, ltb-true, ltb-false, ne-eqb}
 use Rattle.machine.specs.Choice.{if_then_else_}
 use Rattle.decimals.specs.Ascii.{lineFeed}
-use Rattle.lines.specs.declared.command.Command.the-variants.{Unread}
+use Rattle.commands.specs.declared.Command.the-variants.{Unread}
 use Rattle.lines.specs.declared.reader.Reader.{Reader}
 use Rattle.lines.specs.Grammar.{before, partsAt, linesOf, commandOf}
 use Rattle.lines.specs.Reading.{lineRoom, fresh, pushed, commandIn, isEmpty, commandsRead}

@@ -4,7 +4,8 @@ use Prim.Native.Nat.{ℕ}
 use mathlib.Core.List.{List, [], _∷_, _++_}
 use mathlib.Core.Option.{Option, none, some}
 use Rattle.machine.specs.Script.{Line, Memory, zeros, Response, driver, responseTo}
-use Rattle.lines.specs.Grammar.{linesOf, commandOf, lineOf}
+use Rattle.commands.specs.Commands.{lineOf}
+use Rattle.lines.specs.Grammar.{linesOf, commandOf}
 use Rattle.replies.specs.Printed.{printed, printedUnread}
 
 -- what is printed for a line, and the memory after it

@@ -1,8 +1,8 @@
 // Lines of `totals`, read: what a line means is a definition of specs/, and the functions here equal it.
-// Depends on the machine's script, and on what is printed, for its specs alone.
+// Rests on the commands of a letter and fields, crate commands; on the machine's script, and on what is printed, for
+// its specs alone.
 mod command;
 mod reader;
 
-pub use command::Command;
 pub use command::parse;
 pub use reader::Reader;

@@ -2,8 +2,8 @@
 // Rests on `parse`.
 ghost use mathlib.Core.Path.{_≡_};
 ghost use Rattle.lines.specs.Reading.{fresh, pushed, commandIn, isEmpty};
-use crate::command::Command;
 use crate::command::parse;
+use commands::Command;
 
 // The bytes that are kept of a line, more than longestLine.
 const LINE_ROOM: usize = 64;

@@ -5,7 +5,7 @@ use mathlib.Core.Bool.{Bool, true, false}
 use mathlib.Core.List.{List}
 use Rattle.machine.specs.Choice.{if_then_else_}
 use Rattle.machine.proofs.laws.Base.{if-elim}
-use Rattle.lines.specs.declared.command.Command.{Command}
+use Rattle.commands.specs.declared.Command.{Command}
 use Rattle.replies.specs.declared.Reply.{Reply}
 use Rattle.replies.specs.Printed.{printedReply}
 use Rattle.outputs.specs.Outputs.{Output, emitted, DriverState, listedAs, listed}

@@ -4,7 +4,7 @@ use Prim.Native.Nat.{ℕ}
 use mathlib.Core.Bool.{Bool, true, false}
 use mathlib.Core.List.{List}
 use Rattle.machine.specs.Choice.{if_then_else_}
-use Rattle.lines.specs.declared.command.Command.{Command}
+use Rattle.commands.specs.declared.Command.{Command}
 use Rattle.replies.specs.declared.Reply.{Reply}
 use Rattle.replies.specs.Printed.{printedReply}
 use Rattle.outputs.specs.Outputs.{emitted, DriverState, listed}

@@ -8,7 +8,7 @@ use Rattle.interface.specs.Numbers.{numberOf, kindInsert, kindDelete, kindLooku
 use Rattle.interface.specs.declared.Opened.{Opened}
 use Rattle.interface.specs.declared.Called.{Called}
 use Rattle.interface.specs.declared.Ran.{Ran}
-use Rattle.lines.specs.declared.command.Command.{Command}
+use Rattle.commands.specs.declared.Command.{Command}
 use Rattle.replies.specs.declared.Reply.{Reply}
 use Rattle.opening.specs.Opening.{openWords}
 use Rattle.calls.specs.Calls.{callWords}

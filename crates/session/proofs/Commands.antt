@@ -34,8 +34,8 @@ use Rattle.runs.specs.Runs.{runWords}
 use Rattle.rows.specs.Rows.{rows}
 use Rattle.replies.specs.declared.Reply.{Reply}
 use Rattle.replies.specs.Printed.{printed, printedReply, printedRows, printedEnd}
-use Rattle.lines.specs.declared.command.Command.{Command}
-use Rattle.lines.specs.Grammar.{lineOf}
+use Rattle.commands.specs.declared.Command.{Command}
+use Rattle.commands.specs.Commands.{lineOf}
 use Rattle.lines.specs.Session.{told}
 use Rattle.responses.specs.Responses.{ofOpened, ofCalled, ofRan, replying, responded}
 use Rattle.responses.specs.Answers.{isList}

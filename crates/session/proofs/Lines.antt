@@ -9,9 +9,10 @@ use mir.Syntax.{w64}
 use mir.Val.{SFits}
 use borrow.Author.Tests.{leb-true}
 use Rattle.machine.proofs.laws.Base.{if-elim}
-use Rattle.lines.specs.declared.command.Command.{Command}
+use Rattle.commands.specs.declared.Command.{Command}
 use Rattle.numerals.specs.Numerals.{numeral, signedNumeral, upTo, from, in64}
-use Rattle.lines.specs.Grammar.{fieldsOf, letterOf, accountOf, totalOf, stepsOf, with2, with3, oneField, threeFields, fourFields, ofFields, commandOf}
+use Rattle.commands.specs.Commands.{accountOf, totalOf, stepsOf, with2, with3, oneField, threeFields, fourFields}
+use Rattle.lines.specs.Grammar.{fieldsOf, letterOf, ofFields, commandOf}
 
 -- as the table's calls take them
 abbrev pub Said : Command → Type 0

@@ -28,8 +28,9 @@ use Rattle.replies.specs.declared.Reply.{Reply}
 use Rattle.decimals.specs.Decimals.{digit, digits, decimal, digitCount}
 use Rattle.replies.specs.Printed.{printedLine, printedRow, printedRows, printedEnd, printedAnswer, printed, printedUnread, printedReply}
 use Rattle.decimals.proofs.DecimalLaws.{digit-count-small, digit-count-large, length-decimal}
-use Rattle.lines.specs.declared.command.Command.{Command}
-use Rattle.lines.specs.Grammar.{linesOf, commandOf, lineOf}
+use Rattle.commands.specs.declared.Command.{Command}
+use Rattle.commands.specs.Commands.{lineOf}
+use Rattle.lines.specs.Grammar.{linesOf, commandOf}
 use Rattle.lines.specs.Session.{told}
 use Rattle.layout.specs.Shape.{strange, shapeOf}
 use Rattle.rows.specs.Rows.{rows}

@@ -6,7 +6,8 @@ use mathlib.Core.List.{List, [], _∷_, map}
 use lib.ListN.{replicate, length-replicate}
 use Rattle.interface.specs.Numbers.{bytes}
 use Rattle.machine.specs.Script.{Memory, zeros}
-use Rattle.lines.specs.Grammar.{linesOf, commandOf, lineOf}
+use Rattle.commands.specs.Commands.{lineOf}
+use Rattle.lines.specs.Grammar.{linesOf, commandOf}
 use Rattle.lines.specs.Session.{told, sessionFrom, session}
 use Rattle.lines.proofs.Session.{session-of-01}
 use Rattle.texts.specs.Texts.{wordsOn, textsOn}

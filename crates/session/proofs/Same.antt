@@ -10,8 +10,8 @@ use Rattle.interface.specs.declared.Settings.{Settings}
 use Rattle.machine.specs.Records.{Machine}
 use Rattle.machine.specs.Script.{Memory, zeros, holding, driver}
 use Rattle.layout.specs.Shape.{strange}
-use Rattle.lines.specs.declared.command.Command.{Command}
-use Rattle.lines.specs.Grammar.{lineOf}
+use Rattle.commands.specs.declared.Command.{Command}
+use Rattle.commands.specs.Commands.{lineOf}
 use Rattle.lines.specs.Session.{told}
 use Rattle.texts.specs.Texts.{textOn, wordsOn}
 use Rattle.simulation.proofs.Demand3ForCalls.{Represents}

@@ -7,7 +7,7 @@ use lib.ListN.{length, take, drop, replicate}
 use lib.IntN.{ℤ}
 use Rattle.machine.specs.Script.{driver, refused}
 use Rattle.replies.specs.Printed.{printed}
-use Rattle.lines.specs.declared.command.Command.{Command}
+use Rattle.commands.specs.declared.Command.{Command}
 use Rattle.lines.specs.declared.reader.Reader.{Reader}
 use Rattle.lines.specs.Reading.{fresh}
 use Rattle.lines.specs.Session.{session}

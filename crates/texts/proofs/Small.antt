@@ -33,7 +33,7 @@ use Rattle.calls.specs.Calls.{endedAt}
 use Rattle.updates.specs.Updates.{checkAt, updateAt, operationAt}
 use Rattle.lookups.specs.Lookups.{foundAt, lookedAt, lookupAt}
 use Rattle.runs.specs.Runs.{lastOf, orElse, runIn, longestRun, runWords}
-use Rattle.lines.specs.declared.command.Command.{Command}
+use Rattle.commands.specs.declared.Command.{Command}
 use Rattle.replies.specs.declared.Reply.{Reply}
 use Rattle.responses.specs.Responses.{ofOpened, ofCalled, ofRan, replying, responded}
 use Rattle.texts.proofs.Lengths.{smallAnswer, smallReply}

@@ -23,7 +23,7 @@ use Rattle.machine.proofs.laws.Base.{if-elim, if-true}
 use Rattle.layout.specs.Shape.{strange, shapeOf, word}
 use Rattle.entries.specs.Entries.{rowAt, rowsIn, rowsOf}
 use Rattle.rows.specs.Rows.{rowsFrom, rows, Shown, shown, listingWords}
-use Rattle.lines.specs.declared.command.Command.{Command}
+use Rattle.commands.specs.declared.Command.{Command}
 use Rattle.replies.specs.declared.Reply.{Reply}
 use Rattle.lists.specs.Parts.{overlay}
 use Rattle.printers.specs.Written.{fits}

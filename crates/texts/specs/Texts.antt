@@ -12,7 +12,7 @@ use Rattle.machine.specs.Choice.{if_then_else_}
 use Rattle.machine.specs.Sequential.{Table}
 use Rattle.layout.specs.Shape.{strange, shapeOf}
 use Rattle.rows.specs.Rows.{rows}
-use Rattle.lines.specs.declared.command.Command.{Command}
+use Rattle.commands.specs.declared.Command.{Command}
 use Rattle.replies.specs.declared.Reply.{Reply}
 use Rattle.lines.specs.declared.reader.Reader.{Reader}
 use Rattle.replies.specs.Printed.{printedReply, printedRows, printedEnd}

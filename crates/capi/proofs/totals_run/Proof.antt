@@ -10,7 +10,8 @@ returns : tie.Need-returns
 returns c =
     let at-number = c .before .before in
     let at-run = at-number .before .before .before .before in
-    reported-is ranNumber _ _ _ _ (at-run .run .ensures) (at-number .ran-number .ensures .1) ranReport _ _ (at-number .ran-number .ensures .0)
+    let n = at-number .ran-number .ensures in
+    reported-is ranNumber _ _ _ _ (at-run .run .ensures) (n .1) ranReport _ _ (n .0)
 
 pub totals-run-spec : {M : Type 1} → statement M
 totals-run-spec =

@@ -10,7 +10,8 @@ returns : tie.Need-returns
 returns c =
     let at-number = c .before .before in
     let at-step = at-number .before .before .before .before in
-    reported-is steppedNumber _ _ _ _ (at-step .step .ensures) (at-number .stepped-number .ensures .1) steppedReport _ _ (at-number .stepped-number .ensures .0)
+    let n = at-number .stepped-number .ensures in
+    reported-is steppedNumber _ _ _ _ (at-step .step .ensures) (n .1) steppedReport _ _ (n .0)
 
 pub totals-step-spec : {M : Type 1} → statement M
 totals-step-spec =

@@ -16,4 +16,5 @@ returns-2 c = rw (c .before .before .answer2 .given .1) (refl, c .number .ensure
 
 pub listed-number-spec : {M : Type 1} → statement M
 listed-number-spec =
-    tie.close (tie.spec (λ c. search needs) (λ c κs. search needs) (λ c. search needs) (λ c κs. search needs) (λ c. search needs) returns returns-2)
+    tie.close (tie.spec (λ c. search needs) (λ c κs. search needs) (λ c. search needs) (λ c κs. search needs)
+    (λ c. search needs) returns returns-2)

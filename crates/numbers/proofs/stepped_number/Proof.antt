@@ -20,4 +20,5 @@ returns-3 c = rw (c .before .before .answer2 .given .1) (refl, c .number .ensure
 
 pub stepped-number-spec : {M : Type 1} → statement M
 stepped-number-spec =
-    tie.close (tie.spec (λ c. search needs) (λ c. search needs) (λ c κs. search needs) (λ c. search needs) (λ c κs. search needs) returns (λ c. search needs) returns-2 returns-3)
+    tie.close (tie.spec (λ c. search needs) (λ c. search needs) (λ c κs. search needs) (λ c. search needs)
+    (λ c κs. search needs) returns (λ c. search needs) returns-2 returns-3)

@@ -7,7 +7,7 @@ use lib.Seq.{length-take-le}
 use borrow.Author.Tests.{eq-eqb, ne-eqb}
 use borrow.Author.Needs.{needs}
 use Rattle.machine.specs.Choice.{if_then_else_}
-use Rattle.lines.specs.Grammar.{listLetter, oneField}
+use Rattle.commands.specs.Commands.{listLetter, oneField}
 use Rattle.lines.proofs.Splitting.{alone, followed}
 use Rattle.numerals.proofs.Parts.{part-from}
 use Rattle.lines.proofs.command.parse.Statement.{statement}

@@ -4,9 +4,9 @@ use mathlib.Core.Path.{_∙_}
 use borrow.Author.Tests.{ne-eqb}
 use borrow.Author.Needs.{needs}
 use Rattle.machine.specs.Choice.{if_then_else_}
-use Rattle.lines.specs.Grammar.{openLetter, insertLetter, operationCommand, fourFields}
-use Rattle.lines.proofs.command.four_fields.Statement.{statement}
-use Rattle.lines.proofs.command.four_fields.Tie as tie
+use Rattle.commands.specs.Commands.{openLetter, insertLetter, operationCommand, fourFields}
+use Rattle.commands.proofs.four_fields.Statement.{statement}
+use Rattle.commands.proofs.four_fields.Tie as tie
 
 returns : tie.Need-returns
 unfolding fourFields if_then_else_

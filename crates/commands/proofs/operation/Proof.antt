@@ -9,11 +9,11 @@ use borrow.Author.Tests.{eq-eqb, ne-eqb}
 use borrow.Author.Needs.{needs}
 use Rattle.interface.specs.Numbers.{kindDelete, kindLookup}
 use Rattle.machine.specs.Choice.{if_then_else_}
-use Rattle.lines.specs.Grammar.{greatestAccount, smallOf, accountOf, totalOf, with2, with3, operationCommand}
+use Rattle.commands.specs.Commands.{greatestAccount, smallOf, accountOf, totalOf, with2, with3, operationCommand}
 use Rattle.numerals.proofs.NumeralLaws.{signed-none, signed-some, limited}
-use Rattle.lines.proofs.Pairs.{pair-some, no-operation}
-use Rattle.lines.proofs.command.operation.Statement.{statement}
-use Rattle.lines.proofs.command.operation.Tie as tie
+use Rattle.commands.proofs.Pairs.{pair-some, no-operation}
+use Rattle.commands.proofs.operation.Statement.{statement}
+use Rattle.commands.proofs.operation.Tie as tie
 
 both-read : (c : tie.After-known-told) →
     let p = c .before .before .before in

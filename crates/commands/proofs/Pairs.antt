@@ -1,4 +1,4 @@
--- Two numbers read together, and what a command is where they are none. Rests on the definitions of specs/Grammar.
+-- Two numbers read together, and what a command is where they are none. Rests on the definitions of specs/Commands.
 use Prim.Native.Nat.{ℕ}
 use mathlib.Core.Path.{_≡_, refl}
 use mathlib.Core.List.{List}
@@ -7,11 +7,11 @@ use native.Mathlib.Omega.{arith}
 use lib.Dec.{eqb}
 use Rattle.interface.specs.Numbers.{kindDelete, kindLookup}
 use Rattle.machine.proofs.laws.Base.{if-elim}
-use Rattle.lines.specs.declared.command.Command.{Command}
-use Rattle.lines.specs.declared.command.Command.the-variants.{Insert, Delete, Lookup, Unread}
+use Rattle.commands.specs.declared.Command.{Command}
+use Rattle.commands.specs.declared.Command.the-variants.{Insert, Delete, Lookup, Unread}
 use Rattle.numerals.specs.declared.Pair.the-variants as Pair
 use Rattle.numerals.specs.Numerals.{asPair}
-use Rattle.lines.specs.Grammar.{smallOf, accountOf, totalOf, with2, with3, operationCommand}
+use Rattle.commands.specs.Commands.{smallOf, accountOf, totalOf, with2, with3, operationCommand}
 
 pub pair-some : (o p : Option ℕ) (a b : ℕ) → Pair.Values a b ≡ asPair o p → (o ≡ some a) × (p ≡ some b)
 unfolding asPair

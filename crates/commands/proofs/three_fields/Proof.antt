@@ -4,9 +4,9 @@ use mathlib.Core.Path.{_∙_}
 use borrow.Author.Tests.{ne-eqb}
 use borrow.Author.Needs.{needs}
 use Rattle.machine.specs.Choice.{if_then_else_}
-use Rattle.lines.specs.Grammar.{deleteLetter, lookupLetter, stepsLetter, operationCommand, threeFields}
-use Rattle.lines.proofs.command.three_fields.Statement.{statement}
-use Rattle.lines.proofs.command.three_fields.Tie as tie
+use Rattle.commands.specs.Commands.{deleteLetter, lookupLetter, stepsLetter, operationCommand, threeFields}
+use Rattle.commands.proofs.three_fields.Statement.{statement}
+use Rattle.commands.proofs.three_fields.Tie as tie
 
 returns : tie.Need-returns
 unfolding threeFields operationCommand if_then_else_

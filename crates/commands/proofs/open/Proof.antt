@@ -3,12 +3,12 @@
 use mathlib.Core.Path.{_≡_, sym, _∙_}
 use mathlib.Core.Option.{some}
 use borrow.Author.Needs.{needs}
-use Rattle.lines.specs.declared.command.Command.the-variants.{Open}
-use Rattle.lines.specs.Grammar.{smallOf, with3}
+use Rattle.commands.specs.declared.Command.the-variants.{Open}
+use Rattle.commands.specs.Commands.{smallOf, with3}
 use Rattle.numerals.proofs.NumeralLaws.{number-none, number-some}
-use Rattle.lines.proofs.Pairs.{pair-some, unread3}
-use Rattle.lines.proofs.command.open.Statement.{statement}
-use Rattle.lines.proofs.command.open.Tie as tie
+use Rattle.commands.proofs.Pairs.{pair-some, unread3}
+use Rattle.commands.proofs.open.Statement.{statement}
+use Rattle.commands.proofs.open.Tie as tie
 
 both-read : (c : tie.After-known-told) →
     let p = c .before .before .before in

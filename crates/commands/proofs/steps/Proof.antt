@@ -5,12 +5,12 @@ use mathlib.Core.Option.{some}
 use borrow.Author.Tests.{le-leb, lt-leb}
 use borrow.Author.Needs.{needs}
 use Rattle.machine.specs.Choice.{if_then_else_}
-use Rattle.lines.specs.declared.command.Command.the-variants.{Steps}
+use Rattle.commands.specs.declared.Command.the-variants.{Steps}
 use Rattle.numerals.specs.Numerals.{numeral, upTo, from}
-use Rattle.lines.specs.Grammar.{leastSteps, greatestSteps, smallOf, stepsOf, with2}
-use Rattle.lines.proofs.Pairs.{pair-some, unread2}
-use Rattle.lines.proofs.command.steps.Statement.{statement}
-use Rattle.lines.proofs.command.steps.Tie as tie
+use Rattle.commands.specs.Commands.{leastSteps, greatestSteps, smallOf, stepsOf, with2}
+use Rattle.commands.proofs.Pairs.{pair-some, unread2}
+use Rattle.commands.proofs.steps.Statement.{statement}
+use Rattle.commands.proofs.steps.Tie as tie
 
 both-read : (c : tie.After-known-told) →
     let p = c .before .before .before in

@@ -4,10 +4,10 @@ use mathlib.Core.Path.{_≡_, sym, _∙_}
 use mathlib.Core.Option.{some}
 use borrow.Author.Needs.{needs}
 use Rattle.numerals.specs.Numerals.{asPair}
-use Rattle.lines.specs.Grammar.{smallOf}
+use Rattle.commands.specs.Commands.{smallOf}
 use Rattle.numerals.proofs.NumeralLaws.{number-none, number-some}
-use Rattle.lines.proofs.command.read_pair.Statement.{statement}
-use Rattle.lines.proofs.command.read_pair.Tie as tie
+use Rattle.commands.proofs.read_pair.Statement.{statement}
+use Rattle.commands.proofs.read_pair.Tie as tie
 
 first-read : (c : tie.After-known-told)
     → smallOf (c .before .before .before .before .before .before .args .x .now) ≡ some (c .before .first .given .0 .0)
