@@ -59,11 +59,6 @@ beside_proofs() {
 
 of_program() { for script in compare spent edges; do run "$script" "tests/$script.sh"; done; }
 
-of_libraries() {
-  run interfaces tests/interfaces.sh
-  run benchmark benchmark
-}
-
 echo "== layout: rt fmt --check"
 if rt fmt --check; then passed=$((passed + 1)); else failed=$((failed + 1)); fi
 
@@ -75,9 +70,10 @@ count proofs
 wait
 show second-model source-as-rust
 
-of_libraries &
+run interfaces tests/interfaces.sh &
 of_program
 show compare spent edges
+run benchmark benchmark
 wait
 show interfaces benchmark
 

@@ -75,8 +75,8 @@ shown() {
 # adds the counts of the crate's tests; a run that failed without a count is one failure
 crate() {
   local status a b p=0 f=0
-  cargo test --offline --no-fail-fast --manifest-path bindings/rust/Cargo.toml --target-dir bindings/rust/target \
-    >"$run/log" 2>&1
+  cargo test --release --offline --no-fail-fast --manifest-path bindings/rust/Cargo.toml \
+    --target-dir bindings/rust/target >"$run/log" 2>&1
   status=$?
   while read -r a b; do
     p=$((p + a))
