@@ -1,5 +1,5 @@
 // A command carried out on the words, and its reply, or the listing, printed behind the used bytes of a buffer.
-// Depends on table for the calls, on lines for the commands, and on outputs for what is printed.
+// Depends on table for the calls, on commands for what a line asks, and on outputs for what is printed.
 ghost use mathlib.Core.Path.{_≡_};
 ghost use Rattle.outputs.specs.Outputs.{stateOf};
 ghost use Rattle.responses.specs.Responses.{responded, ofOpened, ofCalled, ofRan};
