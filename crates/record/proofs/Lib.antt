@@ -1,4 +1,4 @@
-pub mod Pairs
 pub mod Runs
 pub mod States
 pub mod Tests
+pub mod WordAddresses

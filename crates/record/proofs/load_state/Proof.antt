@@ -1,5 +1,5 @@
 -- `load_state` loads two arrays at a time. The loops' invariants: the items passed are copied; the measures: the items left.
--- Rests on the laws of one item more, of the whole state, and of the places.
+-- Rests on the laws of one item more, of the whole state, and of the addresses.
 use Prim.Native.Nat.{ℕ, _+_, _≤_, _<_, _-_}
 use mathlib.Core.Path.{_≡_, refl}
 use native.Mathlib.Nat.{le-antisymm, le-trans}
@@ -8,7 +8,7 @@ use native.Mathlib.Omega.{arith}
 use lib.ListN.{length, getD}
 use Rattle.fields.specs.Fields.{recordCount, recordApplied, accountsFrom, totalsFrom, settledFrom, answersFrom, widestRecord}
 use Rattle.record.specs.Loads.{copied}
-use Rattle.record.proofs.Pairs.{Room, Place, Pair, place, begins, nearer, accounts-pair, workers-pair}
+use Rattle.record.proofs.WordAddresses.{Room, Addressed, Pair, addressed, begins, nearer, accounts-pair, workers-pair}
 use Rattle.record.proofs.States.{loading, account-loaded, worker-loaded, state-loaded}
 use Rattle.memory.proofs.Lesser.{count-bound}
 use borrow.Author.Needs.{needs}
@@ -29,19 +29,19 @@ Inv-loop2 words q b n c s₀ accounts totals i settled answers j₀ s j =
 abbrev μ-loop2 : tie.MeasureT-loop2
 μ-loop2 words q b n c s₀ accounts totals i settled answers j₀ s j = n - j
 
--- the record's place
+-- the record inside the words
 room :
     (c : tie.Start Inv-loop μ-loop Inv-loop2 μ-loop2) → let s = c .args in Room (s .q) (s .b) (s .n) (length (s .words .now))
 room c = record { inside = c .pre .0; low = c .good .0 .1; capacity = c .pre .1 .0; workers = c .pre .1 .1 }
 
--- the places of a word before the arrays, of an account and its total, and of a worker's ticket and answer
+-- the addresses of a word before the arrays, of an account and its total, and of a worker's ticket and answer
 counted :
-    (c : tie.Start Inv-loop μ-loop Inv-loop2 μ-loop2) → let s = c .args in Place (length (s .words .now)) (s .q + recordCount)
-counted c = place (room c) recordCount (omega arith)
+    (c : tie.Start Inv-loop μ-loop Inv-loop2 μ-loop2) → let s = c .args in Addressed (length (s .words .now)) (s .q + recordCount)
+counted c = addressed (room c) recordCount (omega arith)
 
 marked :
-    (c : tie.Start Inv-loop μ-loop Inv-loop2 μ-loop2) → let s = c .args in Place (length (s .words .now)) (s .q + recordApplied)
-marked c = place (room c) recordApplied (omega arith)
+    (c : tie.Start Inv-loop μ-loop Inv-loop2 μ-loop2) → let s = c .args in Addressed (length (s .words .now)) (s .q + recordApplied)
+marked c = addressed (room c) recordApplied (omega arith)
 
 account :
     (c : tie.In-loop Inv-loop μ-loop Inv-loop2 μ-loop2) → let s = c .before .before .before .before .before .before .args in
@@ -55,7 +55,7 @@ worker :
     Pair (s .q) (settledFrom (s .q) (s .b)) (answersFrom (s .q) (s .b) (s .n)) (c .before .loop2 .j)
 worker c = workers-pair _ _ _ _ _ (room (c .before .before .before .before .before .before .before .before)) (c .loop2-test .taken)
 
--- a place in the record is inside the words
+-- an address in the record is inside the words
 account-inside :
     (c : tie.In-loop Inv-loop μ-loop Inv-loop2 μ-loop2) → let s = c .before .before .before .before .before .before in
     (k : ℕ) → k < s .args .q + widestRecord → k < length (s .args .words .now)

@@ -1,5 +1,5 @@
 -- `store_state` stores two arrays at a time. The loops' invariants: the items passed are stored; the measures: the items left.
--- Rests on the laws of one item more, of the whole state, and of the places.
+-- Rests on the laws of one item more, of the whole state, and of the addresses.
 use Prim.Native.Nat.{_+_, _≤_, _-_}
 use mathlib.Core.Path.{_≡_, sym, _∙_, ap}
 use native.Mathlib.Nat.{le-antisymm, le-trans}
@@ -11,7 +11,7 @@ use Rattle.memory.specs.Words.{stored}
 use Rattle.storing.specs.Stores.{storedState}
 use Rattle.memory.proofs.Runs.{stored-none}
 use Rattle.bucket.proofs.Sizes.{Sized}
-use Rattle.record.proofs.Pairs.{Room, Place, Pair, place, begins, nearer, accounts-pair, workers-pair}
+use Rattle.record.proofs.WordAddresses.{Room, Addressed, Pair, addressed, begins, nearer, accounts-pair, workers-pair}
 use Rattle.storing.proofs.States.{pair-stored, state-stored}
 use Rattle.memory.proofs.Lesser.{count-bound}
 use Rattle.storing.proofs.Trips.{length-state}
@@ -45,18 +45,18 @@ sized c =
       answers = sym (length-map (c .args .t5 .answers) (λ x. x)) ∙ known .1 .1 .1 .0 .1 .0 .1;
     }
 
--- the record's place
+-- the record inside the words
 room :
     (c : tie.Start Inv-loop μ-loop Inv-loop2 μ-loop2) → let s = c .args in Room (s .q) (s .b) (s .n) (length (s .words .now))
 room c = record { inside = c .pre .0; low = c .good .0 .1; capacity = c .pre .1 .0; workers = c .pre .1 .1 }
 
--- the place of the count
+-- the address of the count
 counted :
     (c : tie.After-least Inv-loop μ-loop Inv-loop2 μ-loop2) → let s = c .before .before .args in
-    Place (length (s .words .now)) (s .q + recordCount)
-counted c = place (room (c .before .before)) recordCount (omega arith)
+    Addressed (length (s .words .now)) (s .q + recordCount)
+counted c = addressed (room (c .before .before)) recordCount (omega arith)
 
--- the places of an account and its total, and of a worker's ticket and answer
+-- the addresses of an account and its total, and of a worker's ticket and answer
 account :
     (c : tie.In-loop Inv-loop μ-loop Inv-loop2 μ-loop2) → let s = c .before .before .before .before .args in
     Pair (s .q) (accountsFrom (s .q)) (totalsFrom (s .q) (s .b)) (c .before .loop .i)
@@ -86,14 +86,14 @@ loop-again c =
     let known = here .before .loop .inv in
     let start = here .before .before .before .before in
     let long = sized start in
-    let place = account here in (
+    let items = account here in (
       rw add-one (here .loop-test .taken),
       (
         known .1 .0,
         (
           simp length-set (known .1 .1 .0),
-          pair-stored _ _ _ _ _ _ _ (known .1 .1 .1) (place .apart) (simp length-set (le-trans (place .second-inside) (start .pre .0)))
-              (rw (long .accounts) (place .small)) (rw (long .totals) (place .small)),
+          pair-stored _ _ _ _ _ _ _ (known .1 .1 .1) (items .apart) (simp length-set (le-trans (items .second-inside) (start .pre .0)))
+              (rw (long .accounts) (items .small)) (rw (long .totals) (items .small)),
         ),
       ),
     )
@@ -112,12 +112,12 @@ loop2-again c =
     let known = here .before .loop2 .inv in
     let first = here .before .before .before in
     let long = sized (first .before .before .before) in
-    let place = worker here in (
+    let items = worker here in (
       rw add-one (here .loop2-test .taken),
       (
         simp length-set (known .1 .0),
-        pair-stored _ _ _ _ _ _ _ (known .1 .1) (place .apart) (le-trans (place .second-inside) (first .loop .inv .1 .1 .0))
-            (rw (long .settled) (place .small)) (rw (long .answers) (place .small)),
+        pair-stored _ _ _ _ _ _ _ (known .1 .1) (items .apart) (le-trans (items .second-inside) (first .loop .inv .1 .1 .0))
+            (rw (long .settled) (items .small)) (rw (long .answers) (items .small)),
       ),
     )
 

@@ -1,5 +1,5 @@
--- The places of a record's words, in numbers alone: that they are inside the words, and their addresses numbers of 64 bits. Of the
--- two words that a loop copies at each step, too, which go by the same item of two arrays. Rests on the fields of a bucket record.
+-- The addresses of a record's words, in numbers alone: they are inside the words, and fit 64 bits. So are those of the two words
+-- that a loop copies at each step, the same item of two arrays. Rests on the fields of a bucket record.
 use Prim.Native.Nat.{ℕ, _+_, _-_, _*_, _^_, _≤_, _<_}
 use native.Mathlib.Omega.{arith}
 use borrow.Author.Needs.{needs}
@@ -16,16 +16,16 @@ pub record Room (q b n size : ℕ) : Type 0 where
   pub workers : n ≤ greatestWorkers
 
 -- a word of it
-pub record Place (size k : ℕ) : Type 0 where
+pub record Addressed (size k : ℕ) : Type 0 where
   pub inside : k < size
   pub address : Fits w64 k
   pub scaled : Fits w64 (k * 8)
 
-pub place : {q b n size : ℕ} → Room q b n size → (o : ℕ) → o < widestRecord → Place size (q + o)
-place {q} {b} {n} {size} r o h = placed (q + o) size q (r .inside) (r .low) (omega arith)
+pub addressed : {q b n size : ℕ} → Room q b n size → (o : ℕ) → o < widestRecord → Addressed size (q + o)
+addressed {q} {b} {n} {size} r o h = bounded (q + o) size q (r .inside) (r .low) (omega arith)
   where
-    placed : (k size q : ℕ) → q + widestRecord ≤ size → size * 8 < 2 ^ 63 → k < q + widestRecord → Place size k
-    placed k size q inside low h = record { inside = omega arith; address = search needs; scaled = search needs }
+    bounded : (k size q : ℕ) → q + widestRecord ≤ size → size * 8 < 2 ^ 63 → k < q + widestRecord → Addressed size k
+    bounded k size q inside low h = record { inside = omega arith; address = search needs; scaled = search needs }
 
 -- where its arrays begin
 pub record Begins (q b n : ℕ) : Type 0 where
