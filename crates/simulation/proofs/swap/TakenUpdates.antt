@@ -2,7 +2,7 @@
 -- Rests on the split in place, and on working copies by account.
 use Prim.Native.Nat.{ℕ, zero, suc, _+_, _-_, _*_, _%_, _^_, _≤_, _<_}
 use native.Mathlib.Omega.{arith}
-use native.Mathlib.Nat.{mod-eq-of-lt, pow-suc}
+use native.Mathlib.Nat.{mod-eq-of-lt, pow-suc, le-refl, le-of-suc-le}
 use mathlib.Core.Path.{_≡_, refl, ap, sym, _∙_, subst}
 use mathlib.Core.Logic.{inl, inr}
 use mathlib.Core.Bool.{Bool, true, false, not}
@@ -342,6 +342,7 @@ module _ {s : Settings} {l₀ : List ℕ} {c₀ : Cells} {w : ℕ} {slots : ℕ 
 
   -- ---- all that are due at a bucket
 
+  -- (bounds by their lemmas: with what a working copy in the middle has in scope, `omega` takes seconds for each)
   module _ (x : Name) (b : Body) (o : Copy) (coherent : Coherent (s .depth) o) (a₀ : ℕ) (there : leafOf o a₀ ≡ kept x) (dues : ℕ)
       (flags : (i : ℕ) → i < s .workers → eqb (bit dues i) 1 ≡ due x b i (slots i)) where
     pub takes-mid :
@@ -349,7 +350,7 @@ module _ {s : Settings} {l₀ : List ℕ} {c₀ : Cells} {w : ℕ} {slots : ℕ 
         → Middle (takenAll l s p dues k) (takeSlots s x b slots k (replaceLeaf x (made x b) o))
     unfolding takenAll takeSlots takeSlot if_then_else_
     takes-mid zero h l mid = mid
-    takes-mid (suc k) h l mid = rw (flags k h) (by (takes-mid k (omega arith) l mid) (slots k) refl)
+    takes-mid (suc k) h l mid = rw (flags k h) (by (takes-mid k (le-of-suc-le h) l mid) (slots k) refl)
       where
         l′ : List ℕ
         l′ = takenAll l s p dues k
@@ -366,6 +367,6 @@ module _ {s : Settings} {l₀ : List ℕ} {c₀ : Cells} {w : ℕ} {slots : ℕ 
           where
             test : (v : Bool) → due x b k (announced u t) ≡ v → Goal v (if v then takeUpdate s k u t c′ else c′)
             test true f = take-mid k h u t e l′ c′ q (made-in x (leafOf c′ (account u))
-                (refined-takeSlots small s (omega arith) coherent a₀ x there b slots k .inside (account u)
+                (refined-takeSlots small s (le-refl (s .depth)) coherent a₀ x there b slots k .inside (account u)
                 (eqb-true (firstBits (x .depth) (account u)) (x .prefix) (and-parts _ (not (settledAt b k t)) f .0))))
             test false f = q
