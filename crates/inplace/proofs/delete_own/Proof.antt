@@ -35,14 +35,14 @@ lower-in-requires : tie.Need-lower-in-requires
 lower-in-requires c κs =
     let first = c .before .before .before in
     let h = found-at (first .before .before .before) in
-    (omega arith, omega arith)
+    (omega arith, h .0)
 
 lower-in-requires-2 : tie.Need-lower-in-requires-2
 lower-in-requires-2 c κs =
     let accounts = c .before .before .before in
     let first = accounts .before .before .before .before in
     let h = found-at (first .before .before .before) in
-    (omega arith, omega arith)
+    (omega arith, h .0)
 
 returns : tie.Need-returns
 returns c =

@@ -49,14 +49,14 @@ raise-in-requires : tie.Need-raise-in-requires
 raise-in-requires c κs =
     let first = c .before .before .before in
     let h = found-before (first .before .before .before) in
-    (omega arith, omega arith)
+    (omega arith, h .0)
 
 raise-in-requires-2 : tie.Need-raise-in-requires-2
 raise-in-requires-2 c κs =
     let accounts = c .before .before .before in
     let first = accounts .before .before .before .before in
     let h = found-before (first .before .before .before) in
-    (omega arith, omega arith)
+    (omega arith, h .0)
 
 returns : tie.Need-returns
 returns c =
