@@ -1,6 +1,6 @@
 -- `run_in` takes steps until an answer, as `runIn` says. The loop's invariant: the steps left have the answer of all; the measure: the
 -- steps left. Rests on the laws of a run, and on the bounds of a worker's words.
-use Prim.Native.Nat.{ℕ, _≤_, _%_, _-_}
+use Prim.Native.Nat.{ℕ, _+_, _-_, _%_, _≤_, _<_}
 use native.Mathlib.Omega.{arith}
 use mathlib.Core.Path.{_≡_, refl, sym, _∙_, ap}
 use mathlib.Core.Logic.{⊎-elim}
@@ -19,6 +19,9 @@ use Rattle.runs.specs.Runs.{runIn}
 use borrow.Author.Needs.{needs}
 use Rattle.runs.proofs.run_in.Statement.{statement}
 use Rattle.runs.proofs.run_in.Tie as tie
+
+one-more : {k n : ℕ} → k < n → k + 1 ≤ n
+one-more h = omega arith
 
 abbrev Inv-loop : tie.InvT-loop
 Inv-loop words₀ x w most g p done₀ words done =
@@ -188,7 +191,7 @@ loop-again c =
     let steps = ap (λ (x : ℕ). x % stepsRange) (get2 .get2 .ensures) in
     ⊎-elim
     (λ o. rw (o .7) (
-      search needs,
+      one-more (more .loop-test .taken),
       (
         search needs,
         run-moved _ _ _ _ _ _ _ place (get .get .ensures) (more .loop-test .taken) _ _
@@ -198,7 +201,7 @@ loop-again c =
     ))
     (λ u. ⊎-elim
     (λ o. rw (o .7) (
-      search needs,
+      one-more (more .loop-test .taken),
       (
         search needs,
         run-moved _ _ _ _ _ _ _ place (get .get .ensures) (more .loop-test .taken) _ _
@@ -207,7 +210,7 @@ loop-again c =
       ),
     ))
     (λ o. rw (o .8) (
-      search needs,
+      one-more (more .loop-test .taken),
       (
         search needs,
         run-moved _ _ _ _ _ _ _ place (get .get .ensures) (more .loop-test .taken) _ _
