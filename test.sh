@@ -2,14 +2,15 @@
 # All tests: the layout of the Rattle files; the proofs with their must-fail edits (rt ci), and beside them what needs
 # no proof, the second model's tests and those of the table's source made Rust; then, two at a time, the program and the
 # interfaces for C and Rust against the model, foreign memory, and the compiled libraries against their source as Rust.
-# What runs beside something else is shown when it has ended. rt tries edits in batches of RT_JOBS and waits for each
-# batch: unless it is set, one more than there are processors, so that none of them idles at a batch's end.
+# What runs beside something else is shown when it has ended. rt proves and tries edits in batches of RT_JOBS and waits
+# for each batch: unless it is set, two for each processor, so that few of them idle at a batch's end. A check takes up
+# to 1 GB of memory.
 # The last line is 'N passed, M failed'; the exit status is 0 only if M is 0.
 set -u
 cd "$(dirname "$0")" || exit 2
 logs=$(mktemp -d) || exit 2
 trap 'kill $(jobs -p) 2>/dev/null; rm -rf "$logs"' EXIT
-export RT_JOBS=${RT_JOBS:-$(($(nproc) + 1))}
+export RT_JOBS=${RT_JOBS:-$(($(nproc) * 2))}
 passed=0
 failed=0
 
