@@ -1,10 +1,10 @@
 // The steps of an update on the words that announce, flip and read, one function a kind; the bucket swap is in crate
 // swaps, the state step of the directory pass in crate marks, the directory swap in crate directory, the check in crate
-// updates. Announcing, the flip and the reads of the toggle and of a slot touch the words of the machine's one cell. The
-// others look elsewhere than the machine does: a directory read at the own account's entry alone, at the directory's
-// number alone for a round of the directory pass; a state read at the state's number alone, while the contents are read
-// by the bucket swap that finds the number unchanged. Replies and meaning are the machine's all the same: step-means of
-// crate simulation (docs/DECISIONS.md, 51).
+// updates. Announcing, the flip and the reads of the toggle and of a slot touch the words of the machine's one cell.
+// The others look elsewhere than the machine does: a directory read at the own account's entry alone, at the
+// directory's number alone for a round of the directory pass; a state read at the state's number alone, while the
+// contents are read by the bucket swap that finds the number unchanged. Replies and meaning are the machine's all the
+// same: step-means of crate simulation (docs/DECISIONS.md, 51).
 ghost use mathlib.Core.Path.{_≡_};
 ghost use Prim.Native.Nat.{_<_};
 ghost use Rattle.fields.specs.Regions.{workerAt};

@@ -1,5 +1,5 @@
--- The bucket swap on the words, for any words. Rests on a round on a bucket's record, and on fresh numbers. The worker's
--- record is at p; the bucket's record is at q.
+-- The bucket swap on the words, for any words. Rests on a round on a bucket's record, and on fresh numbers. The
+-- worker's record is at p; the bucket's record is at q.
 use Prim.Native.Nat.{ℕ, _+_}
 use mathlib.Core.List.{List}
 use lib.Dec.{eqb}

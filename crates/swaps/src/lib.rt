@@ -1,7 +1,7 @@
-// The bucket swap of an update on the words. Where the machine compares the state that was read, it compares the state's
-// number; where that is unchanged it reads the contents of the record, now, and the numbers that the workers have read
-// at this record, for a fresh one. Reply and meaning are the machine's all the same: step-means of crate simulation
-// (docs/DECISIONS.md, 51).
+// The bucket swap of an update on the words. Where the machine compares the state that was read, it compares the
+// state's number; where that is unchanged it reads the contents of the record, now, and the numbers that the workers
+// have read at this record, for a fresh one. Reply and meaning are the machine's all the same: step-means of crate
+// simulation (docs/DECISIONS.md, 51).
 ghost use mathlib.Core.Path.{_≡_};
 ghost use Prim.Native.Nat.{_+_, _≤_, _<_};
 ghost use lib.ListN.{length};
