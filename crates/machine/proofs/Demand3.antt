@@ -4,7 +4,7 @@ use Prim.Native.Nat.{ℕ, zero, suc, _+_, _*_, _≤_, _<_}
 use native.Mathlib.Omega.{arith}
 use native.Mathlib.Decide.{ℕ-discrete}
 use mathlib.Core.Path.{_≡_, refl, sym, ap, _∙_, subst}
-use mathlib.Core.Logic.{inl, inr}
+use mathlib.Core.Logic.{inl, inr, by-cases}
 use mathlib.Core.Bool.{true, false}
 use mathlib.Core.List.{List, [], _∷_, map}
 use mathlib.Core.Option.{Option, none, some}
@@ -20,20 +20,21 @@ use Rattle.machine.specs.Sequential.{Table, firstBits, having, Operation
 use Rattle.machine.specs.Records.{Leaf, Worker, Machine, newBucket, firstCells, opened}
 use Rattle.machine.specs.DirectoryPass.{copyOf, nameOf}
 use Rattle.machine.specs.Steps.{directoryReading, lookupAccess, access, perform, stepReply, done, step}
-use Rattle.machine.specs.Calls.{listing, listingOf}
-use Rattle.machine.specs.History.{machines, Entry, calling, stepping, showing, reopening, next, asked, moves, callsTo, stepsBy, Member, Distinct, serveIf}
-use Rattle.machine.specs.History.{entryAt, stateAt, isCall, isStep, stepsBetween, IsOperation, Ended, answersTo, tableAfter, tableAt}
+use Rattle.machine.specs.Calls.{settings, opening, listing, listingOf}
+use Rattle.machine.specs.History.{machines, Entry, calling, stepping, showing, reopening, OpensNothing, StepsTold, next, asked, moves, callsTo, stepsBy, Member, Distinct, serveIf}
+use Rattle.machine.specs.History.{entryAt, stateAt, isCall, isStep, OpeningsRefused, stepsBetween, IsOperation, Ended, answersTo, tableAfter, tableAt}
 use Rattle.machine.specs.History.{Linearizable, Demand3}
 use Rattle.machine.proofs.laws.Base.{no-both, if-true, and-true, and-parts, none-some, neither-less}
 use Rattle.machine.proofs.laws.Copies.{Coherent, depthAt-le, leafOf-copyOf, partition-of}
 use Rattle.machine.proofs.Listing.{contents-is}
-use Rattle.machine.proofs.Openings.{step-made}
+use Rattle.machine.proofs.Openings.{opening-leaves, opening-range, opening-refused, step-made}
 use Rattle.machine.specs.Tasks.{Task, leaf, tasksOf}
 use Rattle.machine.proofs.invariant.Inv.{leafBody}
 use Rattle.machine.proofs.invariant.Tasks.{Good, opened-good, call-good, step-good, update-under-way, lookup-under-way}
 use Rattle.machine.proofs.moments.Explain.{Parts, status, outcome, serveAll, answersOf}
 use Rattle.machine.proofs.laws.Serving.{member-dec, member-answers}
 use Rattle.machine.proofs.list.Advance.{Advance, advance, answerIn, answerTo, accepted-step, ExplainedEntry, idle-status}
+use Rattle.machine.proofs.list.Refusals.{calls-at, stepped-at, ends-once-at}
 use Rattle.machine.proofs.list.WorkerHistory.{WorkerChange, begins, moves-on, ends, no-change, step-within, at-next, lastCall, From, under-way, OperationStatus, unanswered, answered-at, operation-status, ended-last, count-step, count-le, last-here, last-before}
 
 -- ---- lists
@@ -84,28 +85,29 @@ same-answer e = cc
 
 -- ---- from a good machine whose workers are idle
 
-module _ (s : Settings) (range : inRange (s .workers) (s .capacity) (s .depth) ≡ true) (m : Machine) (t : Table) (es : List Entry)
-    (good : Good s m) (idle : (j : ℕ) → m .workers j .operation ≡ none) (parts : Parts (m .cells) t) where
+module _ (s : Settings) (range : inRange (s .workers) (s .capacity) (s .depth) ≡ true) (lent : ℕ) (m : Machine) (t : Table) (es : List Entry)
+    (refused : OpeningsRefused s (machines s lent) m t es) (good : Good s m) (idle : (j : ℕ) → m .workers j .operation ≡ none)
+    (unused : (j : ℕ) → m .workers j .last ≡ 0) (parts : Parts (m .cells) t) where
   abbrev at : ℕ → Machine
-  at i = stateAt s (machines s) m t es i
+  at i = stateAt s (machines s lent) m t es i
 
   abbrev entry : ℕ → Entry
   entry i = entryAt es i
 
   abbrev lastCallAt : ℕ → ℕ → ℕ
-  lastCallAt i j = lastCall s m t es i j
+  lastCallAt i j = lastCall s lent m t es i j
 
-  next-good : (x : Machine) (e : Entry) → Good s x → Good s (next (machines s) x e)
+  next-good : (x : Machine) (e : Entry) → OpensNothing (machines s lent) x e → Good s x → Good s (next (machines s lent) x e)
   unfolding next
-  next-good x (calling j kind a v) g = call-good s range x j kind a v g
-  next-good x (stepping j) g = step-good s range x j g
-  next-good x (showing a b) g = g
-  next-good x (reopening n b M lent r e) g = g
+  next-good x (calling j kind a v) h g = call-good s range x j kind a v g
+  next-good x (stepping j) h g = step-good s range x j g
+  next-good x (showing a b) h g = g
+  next-good x (reopening n b M) h g = rw (opening-refused x (opening n b M lent) (h .1)) g
 
   good-at : (i : ℕ) → Good s (at i)
   unfolding stateAt
   good-at zero = good
-  good-at (suc i) = next-good (at i) (entry i) (good-at i)
+  good-at (suc i) = next-good (at i) (entry i) (refused i) (good-at i)
 
   -- the plain table before an index, and that the machine holds it
   record PlainTable (i : ℕ) : Type 0 where
@@ -116,13 +118,13 @@ module _ (s : Settings) (range : inRange (s .workers) (s .capacity) (s .depth) �
   unfolding stateAt
   plainTable zero = record { table = t; holds = parts }
   plainTable (suc i) =
-      let a = advance s range (at i) (plainTable i .table) (good-at i) (plainTable i .holds) (entry i) .explained in
+      let a = advance s range lent (at i) (plainTable i .table) (good-at i) (plainTable i .holds) (entry i) (refused i) .explained in
       record { table = serveAll s (tasksOf s (at i)) (plainTable i .table) (a .effects); holds = a .parts }
 
-  entered : (i : ℕ) → Advance s (at i) (entry i) (plainTable i .table)
-  entered i = advance s range (at i) (plainTable i .table) (good-at i) (plainTable i .holds) (entry i)
+  entered : (i : ℕ) → Advance s lent (at i) (entry i) (plainTable i .table)
+  entered i = advance s range lent (at i) (plainTable i .table) (good-at i) (plainTable i .holds) (entry i) (refused i)
 
-  abbrev adv : (i : ℕ) → ExplainedEntry s (at i) (entry i) (plainTable i .table)
+  abbrev adv : (i : ℕ) → ExplainedEntry s lent (at i) (entry i) (plainTable i .table)
   adv i = entered i .explained
 
   -- the choice of moments
@@ -136,14 +138,14 @@ module _ (s : Settings) (range : inRange (s .workers) (s .capacity) (s .depth) �
   -- ---- who takes effect at an index
 
   effect-within : (i j : ℕ) → Member j (adv i .effects) → i < length es
-  effect-within i j h = let x = entered i .moving j h in step-within s m t es i (x .0) (x .1)
+  effect-within i j h = let x = entered i .moving j h in step-within s lent m t es i (x .0) (x .1)
 
   -- the operation that takes effect, and the call it came from
   effect-from :
-      (i j : ℕ) → Member j (adv i .effects) → (o : Operation) × (at i .workers j .operation ≡ some o) × From s m t es (lastCallAt i j) i j o
+      (i j : ℕ) → Member j (adv i .effects) → (o : Operation) × (at i .workers j .operation ≡ some o) × From s lent m t es (lastCallAt i j) i j o
   effect-from i j h =
       let x = adv i .waiting j h .2 in
-      (x .0, x .1, under-way s m t es idle i j (x .0) (omega (arith, effect-within i j h)) (x .1))
+      (x .0, x .1, under-way s lent m t es refused idle i j (x .0) (omega (arith, effect-within i j h)) (x .1))
 
   effect-asked : (i j : ℕ) → Member j (adv i .effects) → asked (entry (lastCallAt i j)) ≡ tasksOf s (at i) j .operation
   effect-asked i j h = let x = effect-from i j h in x .2 .called .operation ∙ sym (x .1)
@@ -153,22 +155,22 @@ module _ (s : Settings) (range : inRange (s .workers) (s .capacity) (s .depth) �
   moment-of i c h = member-map (lastCallAt i) c (adv i .effects) h
 
   -- one index has one call, to one worker
-  one-worker : (c i j : ℕ) → isCall s (machines s) m t es c i ≡ true → isCall s (machines s) m t es c j ≡ true → i ≡ j
+  one-worker : (c i j : ℕ) → isCall s (machines s lent) m t es c i ≡ true → isCall s (machines s lent) m t es c j ≡ true → i ≡ j
   unfolding callsTo
   one-worker c i j = go (entry c)
     where
-      go : (e : Entry) → callsTo (machines s) (at c) e i ≡ true → callsTo (machines s) (at c) e j ≡ true → i ≡ j
+      go : (e : Entry) → callsTo (machines s lent) (at c) e i ≡ true → callsTo (machines s lent) (at c) e j ≡ true → i ≡ j
       go (calling k kind a v) p q = sym (eqb-true k i (and-parts _ _ p .0)) ∙ eqb-true k j (and-parts _ _ q .0)
       go (stepping k) p q = absurd (no-both p refl)
       go (showing x y) p q = absurd (no-both p refl)
-      go (reopening n b M lent r e) p q = absurd (no-both p refl)
+      go (reopening n b M) p q = absurd (no-both p refl)
 
   call-one :
-      (p i j : ℕ) {o q : Operation} → From s m t es (lastCallAt p i) p i o → From s m t es (lastCallAt p j) p j q
+      (p i j : ℕ) {o q : Operation} → From s lent m t es (lastCallAt p i) p i o → From s lent m t es (lastCallAt p j) p j q
       → lastCallAt p i ≡ lastCallAt p j → i ≡ j
   call-one p i j u v e =
       one-worker (lastCallAt p i) i j (u .called .accepted)
-      (subst (λ (x : ℕ). isCall s (machines s) m t es x j ≡ true) (sym e) (v .called .accepted))
+      (subst (λ (x : ℕ). isCall s (machines s lent) m t es x j ≡ true) (sym e) (v .called .accepted))
 
   -- the plain table of the claim is the one of the points
   table-is : (i : ℕ) → tableAt s es t moments i ≡ plainTable i .table
@@ -205,7 +207,7 @@ module _ (s : Settings) (range : inRange (s .workers) (s .capacity) (s .depth) �
 
   -- with the answer that the entry at index i gives worker j, or else its status afterwards
   abbrev ending : ℕ → ℕ → Option Answer → Option Answer
-  ending i j a = outcome a (next (machines s) (at i) (entry i) .cells) j (tasksOf s (next (machines s) (at i) (entry i)) j)
+  ending i j a = outcome a (next (machines s lent) (at i) (entry i) .cells) j (tasksOf s (next (machines s lent) (at i) (entry i)) j)
 
   -- after an entry that gives worker j no answer
   gained-status :
@@ -222,7 +224,7 @@ module _ (s : Settings) (range : inRange (s .workers) (s .capacity) (s .depth) �
   module _ (i j : ℕ) (o : Operation) (l : i < length es) (jn : j < s .workers) where
     -- the call has just been made
     moment-new :
-        isCall s (machines s) m t es i j ≡ true → at i .workers j .operation ≡ none → answerTo s (at i) (entry i) j ≡ none
+        isCall s (machines s lent) m t es i j ≡ true → at i .workers j .operation ≡ none → answerTo s (at i) (entry i) j ≡ none
         → MomentStatus i (suc i) j
     moment-new c b a = record {
       before = λ e k p h. let x = moment-of k i h in omega (arith, effect-from k (x .0) (x .1) .2 .before, x .2);
@@ -235,8 +237,8 @@ module _ (s : Settings) (range : inRange (s .workers) (s .capacity) (s .depth) �
         → MomentStatus (lastCallAt i j) (suc i) j
     moment-on e a st = go (member-dec j (adv i .effects))
       where
-        u : From s m t es (lastCallAt i j) i j o
-        u = under-way s m t es idle i j o (omega arith) e
+        u : From s lent m t es (lastCallAt i j) i j o
+        u = under-way s lent m t es refused idle i j o (omega arith) e
 
         other :
             (Member j (adv i .effects) → ⊥) → (k : ℕ) → k < suc i → Dec (k ≡ i) → statusHere i j ≡ none
@@ -271,21 +273,21 @@ module _ (s : Settings) (range : inRange (s .workers) (s .capacity) (s .depth) �
       (i j : ℕ) (o : Operation) → i ≤ length es → j < s .workers → at i .workers j .operation ≡ some o → MomentStatus (lastCallAt i j) i j
   unfolding stateAt
   moment-status zero j o l jn e = absurd (none-some (idle j) e)
-  moment-status (suc i) j o l jn e = go (moment-status i j o (omega arith) jn) (at-next s m t es i j)
+  moment-status (suc i) j o l jn e = go (moment-status i j o (omega arith) jn) (at-next s lent m t es refused idle i j)
     where
       same :
-          isCall s (machines s) m t es i j ≡ false → at i .workers j .operation ≡ some o → answerTo s (at i) (entry i) j ≡ none
+          isCall s (machines s lent) m t es i j ≡ false → at i .workers j .operation ≡ some o → answerTo s (at i) (entry i) j ≡ none
           → MomentStatus (lastCallAt i j) i j
           → MomentStatus (lastCallAt (suc i) j) (suc i) j
       same f q a st =
-          subst (λ (c : ℕ). MomentStatus c (suc i) j) (sym (last-before s m t es i j f)) (moment-on i j o (omega arith) jn q a st)
+          subst (λ (c : ℕ). MomentStatus c (suc i) j) (sym (last-before s lent m t es i j f)) (moment-on i j o (omega arith) jn q a st)
 
       go :
           (at i .workers j .operation ≡ some o → MomentStatus (lastCallAt i j) i j)
-          → WorkerChange s (at i) (entry i) j (at (suc i) .workers j)
+          → WorkerChange s lent (at i) (entry i) j (at (suc i) .workers j)
           → MomentStatus (lastCallAt (suc i) j) (suc i) j
       go h (begins c b q z a) =
-          subst (λ (c : ℕ). MomentStatus c (suc i) j) (sym (last-here s m t es i j c)) (moment-new i j o (omega arith) jn c b a)
+          subst (λ (c : ℕ). MomentStatus c (suc i) j) (sym (last-here s lent m t es i j c)) (moment-new i j o (omega arith) jn c b a)
       go h (moves-on c st q z a) = same c (sym q ∙ e) a (h (sym q ∙ e))
       go h (ends x a r c st q z) = absurd (none-some q e)
       go h (no-change c st q a) = let p = ap (λ (w : Worker). w .operation) (sym q) ∙ e in same c p a (h p)
@@ -310,9 +312,9 @@ module _ (s : Settings) (range : inRange (s .workers) (s .capacity) (s .depth) �
   once-at i k c p q = neither-less i k (λ l. earlier i k c l p q) (λ l. earlier k i c l q p)
 
   -- the step that ends an operation gives the answer that the plain table gave
-  module _ (c i j : ℕ) (o : Operation) (r : Completion) (e : Ended s (machines s) m t es c i j o r) where
-    last : (at i .workers j .operation ≡ some o) × (lastCallAt i j ≡ c) × From s m t es c i j o
-    last = ended-last s m t es idle c i j o r e
+  module _ (c i j : ℕ) (o : Operation) (r : Completion) (e : Ended s (machines s lent) m t es c i j o r) where
+    last : (at i .workers j .operation ≡ some o) × (lastCallAt i j ≡ c) × From s lent m t es c i j o
+    last = ended-last s lent m t es refused idle c i j o r e
 
     known : j < s .workers
     known = accepted-step s (at i) j (ap moves (e .answered)) .worker
@@ -343,19 +345,19 @@ module _ (s : Settings) (range : inRange (s .workers) (s .capacity) (s .depth) �
             (x .0, omega (arith, x .1), x .2)
 
     -- it comes with the operation's own steps
-    steps-at : r .steps ≡ suc (stepsBetween s (machines s) m t es j c i)
+    steps-at : r .steps ≡ suc (stepsBetween s (machines s lent) m t es j c i)
     unfolding stepsIn
-    steps-at = go (at-next s m t es i j)
+    steps-at = go (at-next s lent m t es refused idle i j)
       where
-        go : WorkerChange s (at i) (entry i) j (at (suc i) .workers j) → r .steps ≡ suc (stepsBetween s (machines s) m t es j c i)
+        go : WorkerChange s lent (at i) (entry i) j (at (suc i) .workers j) → r .steps ≡ suc (stepsBetween s (machines s lent) m t es j c i)
         go (begins f b q z a) = absurd (none-some a given)
         go (moves-on f st q z a) = absurd (none-some a given)
         go (no-change f st q a) = absurd (none-some a given)
         go (ends a x q f st z y) = ap stepsIn (sym (e .answered) ∙ q) ∙ ap suc (last .2 .steps)
 
-    ended-step : isStep s (machines s) m t es i j ≡ true
+    ended-step : isStep s (machines s lent) m t es i j ≡ true
     unfolding stepsBy
-    ended-step = ap (λ (x : Entry). stepsBy (machines s) (at i) x j) (e .entry) ∙ and-true (eq-eqb j j refl) (ap moves (e .answered))
+    ended-step = ap (λ (x : Entry). stepsBy (machines s lent) (at i) x j) (e .entry) ∙ and-true (eq-eqb j j refl) (ap moves (e .answered))
 
   -- ---- listings
 
@@ -390,30 +392,30 @@ module _ (s : Settings) (range : inRange (s .workers) (s .capacity) (s .depth) �
   -- ---- step bounds
 
   -- a step of worker j at an index, and then
-  step-worker : (i j : ℕ) → isStep s (machines s) m t es i j ≡ true → j < s .workers
+  step-worker : (i j : ℕ) → isStep s (machines s lent) m t es i j ≡ true → j < s .workers
   unfolding stepsBy
   step-worker i j = go (entry i)
     where
-      go : (e : Entry) → stepsBy (machines s) (at i) e j ≡ true → j < s .workers
+      go : (e : Entry) → stepsBy (machines s lent) (at i) e j ≡ true → j < s .workers
       go (stepping k) h = let z = and-parts _ _ h in rw (← eqb-true k j (z .0)) (accepted-step s (at i) k (z .1) .worker)
       go (calling k kind a v) h = absurd (no-both h refl)
       go (showing x y) h = absurd (no-both h refl)
-      go (reopening n b M lent r e) h = absurd (no-both h refl)
+      go (reopening n b M) h = absurd (no-both h refl)
 
   update-bound :
-      (c i j : ℕ) (u : Update) → IsOperation s (machines s) m t es c j (update u) → c < i → i < length es
-      → isStep s (machines s) m t es i j ≡ true
-      → stepsBetween s (machines s) m t es j c i ≡ 12 * s .workers + 32
-      → (k : ℕ) × (k ≤ i) × ((r : Completion) × Ended s (machines s) m t es c k j (update u) r)
-  update-bound c i j u h l b st n = go (operation-status s m t es idle c j (update u) h (suc i) (omega arith) b)
+      (c i j : ℕ) (u : Update) → IsOperation s (machines s lent) m t es c j (update u) → c < i → i < length es
+      → isStep s (machines s lent) m t es i j ≡ true
+      → stepsBetween s (machines s lent) m t es j c i ≡ 12 * s .workers + 32
+      → (k : ℕ) × (k ≤ i) × ((r : Completion) × Ended s (machines s lent) m t es c k j (update u) r)
+  update-bound c i j u h l b st n = go (operation-status s lent m t es refused idle c j (update u) h (suc i) (omega arith) b)
     where
       go :
-          OperationStatus s m t es idle c (suc i) j (update u) → (k : ℕ) × (k ≤ i)
-          × ((r : Completion) × Ended s (machines s) m t es c k j (update u) r)
+          OperationStatus s lent m t es refused idle c (suc i) j (update u) → (k : ℕ) × (k ≤ i)
+          × ((r : Completion) × Ended s (machines s lent) m t es c k j (update u) r)
       go (answered-at k r p e q z) = (k, omega arith, (r, e))
       go (unanswered q v) =
           let few = update-under-way s range (at (suc i)) j u (step-worker i j st) (good-at (suc i)) q in
-          absurd (omega (arith, few, v .steps, count-step s m t es j c i l st))
+          absurd (omega (arith, few, v .steps, count-step s lent m t es j c i l st))
 
   -- a lookup's first step gives no answer
   first-step : (x : Machine) (j a : ℕ) → j < s .workers → x .workers j .operation ≡ some (lookup a) → x .workers j .steps ≡ 0
@@ -422,38 +424,62 @@ module _ (s : Settings) (range : inRange (s .workers) (s .capacity) (s .depth) �
   first-step x j a l e z = ap (λ (r : Machine × Stepped). r .1) (step-made s x j l e) ∙ rw z refl
 
   lookup-bound :
-      (c i j a : ℕ) → IsOperation s (machines s) m t es c j (lookup a) → c < i → i < length es → isStep s (machines s) m t es i j ≡ true
-      → stepsBetween s (machines s) m t es j c i ≡ 1
-      → (r : Completion) × Ended s (machines s) m t es c i j (lookup a) r
-  lookup-bound c i j a h l b st n = go (operation-status s m t es idle c j (lookup a) h (suc i) (omega arith) b)
+      (c i j a : ℕ) → IsOperation s (machines s lent) m t es c j (lookup a) → c < i → i < length es → isStep s (machines s lent) m t es i j ≡ true
+      → stepsBetween s (machines s lent) m t es j c i ≡ 1
+      → (r : Completion) × Ended s (machines s lent) m t es c i j (lookup a) r
+  lookup-bound c i j a h l b st n = go (operation-status s lent m t es refused idle c j (lookup a) h (suc i) (omega arith) b)
     where
-      early : (k : ℕ) (r : Completion) → k < i → Ended s (machines s) m t es c k j (lookup a) r → ⊥
+      early : (k : ℕ) (r : Completion) → k < i → Ended s (machines s lent) m t es c k j (lookup a) r → ⊥
       early k r p e =
-          let q = ended-last s m t es idle c k j (lookup a) r e in
+          let q = ended-last s lent m t es refused idle c k j (lookup a) r e in
           let n′ : at k .workers j .steps ≡ 0 =
           omega (
             arith,
             q .2 .steps,
-            count-step s m t es j c k (e .later) (ended-step c k j (lookup a) r e),
-            count-le s m t es j c (suc k) i p,
+            count-step s lent m t es j c k (e .later) (ended-step c k j (lookup a) r e),
+            count-le s lent m t es j c (suc k) i p,
           ) in
           let w : Stepped.Moved ≡ Stepped.Answered r = sym (first-step (at k) j a (known c k j (lookup a) r e) (q .0) n′) ∙ e .answered in
           let y : _≡_ {A = ℕ} 0 1 = cc in omega arith
 
-      same : (k : ℕ) (r : Completion) → Ended s (machines s) m t es c k j (lookup a) r → k < suc i → Dec (k ≡ i)
-          → (r : Completion) × Ended s (machines s) m t es c i j (lookup a) r
-      same k r e p (yes q) = (r, subst (λ (x : ℕ). Ended s (machines s) m t es c x j (lookup a) r) q e)
+      same : (k : ℕ) (r : Completion) → Ended s (machines s lent) m t es c k j (lookup a) r → k < suc i → Dec (k ≡ i)
+          → (r : Completion) × Ended s (machines s lent) m t es c i j (lookup a) r
+      same k r e p (yes q) = (r, subst (λ (x : ℕ). Ended s (machines s lent) m t es c x j (lookup a) r) q e)
       same k r e p (no d) = absurd (early k r (omega arith) e)
 
-      go : OperationStatus s m t es idle c (suc i) j (lookup a) → (r : Completion) × Ended s (machines s) m t es c i j (lookup a) r
+      go : OperationStatus s lent m t es refused idle c (suc i) j (lookup a) → (r : Completion) × Ended s (machines s lent) m t es c i j (lookup a) r
       go (answered-at k r p e q z) = same k r e p (ℕ-discrete k i)
       go (unanswered q v) =
           let few = lookup-under-way s range (at (suc i)) j a (step-worker i j st) (good-at (suc i)) q in
-          absurd (omega (arith, few, v .steps, count-step s m t es j c i l st))
+          absurd (omega (arith, few, v .steps, count-step s lent m t es j c i l st))
+
+  -- a told step count: a lookup's is 2, an update's at most 12n+33
+  told : (c i j : ℕ) (o : Operation) (r : Completion) → Ended s (machines s lent) m t es c i j o r → StepsTold s o (r .steps)
+  told c i j o r e = by o (ended-last s lent m t es refused idle c i j o r e) e
+    where
+      by : (o : Operation) → (at i .workers j .operation ≡ some o) × (lastCallAt i j ≡ c) × From s lent m t es c i j o
+          → Ended s (machines s lent) m t es c i j o r → StepsTold s o (r .steps)
+      by (update u) l e =
+          omega (
+            arith,
+            steps-at c i j (update u) r e,
+            l .2 .steps,
+            update-under-way s range (at i) j u (known c i j (update u) r e) (good-at i) (l .0),
+          )
+      by (lookup a) l e =
+          let few = lookup-under-way s range (at i) j a (known c i j (lookup a) r e) (good-at i) (l .0) in
+          by-cases (ℕ-discrete (at i .workers j .steps) 0) (λ z. absurd (not-first z))
+          (λ d. omega (arith, steps-at c i j (lookup a) r e, l .2 .steps, few))
+        where
+          not-first : at i .workers j .steps ≡ 0 → ⊥
+          not-first z =
+              let w : Stepped.Moved ≡ Stepped.Answered r =
+              sym (first-step (at i) j a (known c i j (lookup a) r e) (l .0) z) ∙ e .answered in
+              let y : _≡_ {A = ℕ} 0 1 = cc in omega arith
 
   -- ---- the theorem, from any such machine
 
-  pub linearizable : Linearizable s (machines s) m t es
+  pub linearizable : Linearizable s (machines s lent) m t es
   linearizable = record {
     moments = moments;
     at-steps = λ i c h. let x = moment-of i c h in (effect-within i (x .0) (x .1), entered i .moving (x .0) (x .1));
@@ -468,6 +494,10 @@ module _ (s : Settings) (range : inRange (s .workers) (s .capacity) (s .depth) �
     lookup-steps = lookup-bound;
     update-steps = update-bound;
     step-counts = steps-at;
+    told-steps = told;
+    ends-once = ends-once-at s lent m t es refused idle;
+    calls = λ i j kind a v l e. calls-at s lent m t es refused idle unused i j kind a v;
+    steps = λ i j l e. stepped-at s lent m t es refused idle i j;
   }
 
 -- ---- demand 3
@@ -481,5 +511,12 @@ opened-idle : (j : ℕ) → opened .workers j .operation ≡ none
 unfolding opened
 opened-idle j = refl
 
+opened-unused : (j : ℕ) → opened .workers j .last ≡ 0
+unfolding opened
+opened-unused j = refl
+
 pub demand3 : Demand3
-demand3 s range es = linearizable s range opened [] es (opened-good s range) opened-idle opened-parts
+demand3 n b M lent s m e =
+    let q = opening-leaves n b M lent e in
+    let range = opening-range n b M lent e .0 in
+    rw (q .0, q .1) (λ es refused. linearizable (settings n b M) range lent opened [] es refused (opened-good (settings n b M) range) opened-idle opened-unused opened-parts)

@@ -21,10 +21,10 @@ use Rattle.machine.specs.Choice.{if_then_else_}
 use Rattle.machine.specs.Sequential.{Table, Operation, update, lookup}
 use Rattle.machine.specs.Records.{Cells, Worker, Machine}
 use Rattle.machine.specs.Steps.{Effect, step, done, stepReply}
-use Rattle.machine.specs.Calls.{call, callOf, begun, operationOf, spent, ticketFor}
-use Rattle.machine.specs.History.{machines, Entry, calling, stepping, showing, reopening, next, accepts, moves, stepsBy, Member}
+use Rattle.machine.specs.Calls.{opening, call, callOf, begun, operationOf, spent, ticketFor}
+use Rattle.machine.specs.History.{machines, Entry, calling, stepping, showing, reopening, OpensNothing, next, accepts, moves, stepsBy, Member}
 use Rattle.machine.proofs.laws.Base.{no-both, if-elim, if-same, and-true, assign-at, assign-other}
-use Rattle.machine.proofs.Openings.{call-stranger, call-busy, idle-call, call-refused, step-stranger, step-idle, step-made, step-refused}
+use Rattle.machine.proofs.Openings.{opening-refused, call-stranger, call-busy, idle-call, call-refused, step-stranger, step-idle, step-made, step-refused}
 use Rattle.machine.proofs.invariant.Counter.{counter-start}
 use Rattle.machine.specs.Tasks.{counterOf, taskOf, tasksOf}
 use Rattle.machine.proofs.invariant.StepTransitions.{effectOf}
@@ -95,17 +95,17 @@ abbrev pub answerTo : Settings → Machine → Entry → ℕ → Option Answer
 answerTo s m (calling i kind a v) j = none
 answerTo s m (stepping i) j = if eqb j i then answerIn (step s m i .1) else none
 answerTo s m (showing x y) j = none
-answerTo s m (reopening n b M lent r e) j = none
+answerTo s m (reopening n b M) j = none
 
 -- who takes effect at entry e of machine m with the plain table t, and what holds afterwards
-abbrev pub ExplainedEntry : Settings → Machine → Entry → Table → Type 0
-ExplainedEntry s m e t =
-    Explained s (m .cells) (next (machines s) m e .cells) (tasksOf s m) (tasksOf s (next (machines s) m e)) (answerTo s m e) t
+abbrev pub ExplainedEntry : Settings → ℕ → Machine → Entry → Table → Type 0
+ExplainedEntry s lent m e t =
+    Explained s (m .cells) (next (machines s lent) m e .cells) (tasksOf s m) (tasksOf s (next (machines s lent) m e)) (answerTo s m e) t
 
-pub record Advance (s : Settings) (m : Machine) (e : Entry) (t : Table) : Type 0 where
-  pub explained : ExplainedEntry s m e t
+pub record Advance (s : Settings) (lent : ℕ) (m : Machine) (e : Entry) (t : Table) : Type 0 where
+  pub explained : ExplainedEntry s lent m e t
   -- only an accepted step has any effects
-  pub moving : (j : ℕ) → Member j (explained .effects) → (w : ℕ) × (stepsBy (machines s) m e w ≡ true)
+  pub moving : (j : ℕ) → Member j (explained .effects) → (w : ℕ) × (stepsBy (machines s lent) m e w ≡ true)
 
 -- ---- the entries one by one
 
@@ -128,12 +128,12 @@ pub begun-other : (m : Machine) (j i : ℕ) (o : Operation) → i ≢ j → begu
 unfolding begun
 begun-other m j i o d = assign-other (m .workers) j _ i d
 
-module _ (s : Settings) (range : inRange (s .workers) (s .capacity) (s .depth) ≡ true) (m : Machine) (t : Table)
+module _ (s : Settings) (range : inRange (s .workers) (s .capacity) (s .depth) ≡ true) (lent : ℕ) (m : Machine) (t : Table)
     (good : Good s m) (parts : Parts (m .cells) t) where
   -- nothing takes effect where every worker is as before
   no-effect :
-      (e : Entry) (m′ : Machine) → next (machines s) m e ≡ m′ → m′ .cells ≡ m .cells
-      → ((j : ℕ) → outcome (answerTo s m e j) (m′ .cells) j (tasksOf s m′ j) ≡ status (m .cells) j (tasksOf s m j)) → Advance s m e t
+      (e : Entry) (m′ : Machine) → next (machines s lent) m e ≡ m′ → m′ .cells ≡ m .cells
+      → ((j : ℕ) → outcome (answerTo s m e j) (m′ .cells) j (tasksOf s m′ j) ≡ status (m .cells) j (tasksOf s m j)) → Advance s lent m e t
   unfolding serveAll answersOf
   no-effect e m′ n q o = record {
     explained = record {
@@ -148,7 +148,7 @@ module _ (s : Settings) (range : inRange (s .workers) (s .capacity) (s .depth) �
   }
 
   -- an entry that changes nothing
-  refused-entry : (e : Entry) → next (machines s) m e ≡ m → ((j : ℕ) → answerTo s m e j ≡ none) → Advance s m e t
+  refused-entry : (e : Entry) → next (machines s lent) m e ≡ m → ((j : ℕ) → answerTo s m e j ≡ none) → Advance s lent m e t
   refused-entry e n a = no-effect e m n refl (λ j. rw (a j) refl)
 
   -- a call: the worker was idle, and its operation waits
@@ -163,7 +163,7 @@ module _ (s : Settings) (range : inRange (s .workers) (s .capacity) (s .depth) �
       by (lookup a) = refl
       by (update u) = rw (counter-start (s .workers)) refl
 
-  called-entry : (j kind a : ℕ) (v : ℤ) → CallParts s m j kind a v → Advance s m (calling j kind a v) t
+  called-entry : (j kind a : ℕ) (v : ℤ) → CallParts s m j kind a v → Advance s lent m (calling j kind a v) t
   unfolding next begun
   called-entry j kind a v c =
       no-effect (calling j kind a v) (begun m j (c .operation)) (ap (λ (x : Machine × Called). x .0) (c .is)) refl
@@ -174,7 +174,7 @@ module _ (s : Settings) (range : inRange (s .workers) (s .capacity) (s .depth) �
       by i (no d) = ap (λ (w : Worker). status (m .cells) i (taskOf (s .workers) w)) (begun-other m j i (c .operation) d)
 
   -- a step: as it is explained
-  stepped-entry : (w : ℕ) → moves (step s m w .1) ≡ true → Advance s m (stepping w) t
+  stepped-entry : (w : ℕ) → moves (step s m w .1) ≡ true → Advance s lent m (stepping w) t
   unfolding next stepsBy
   stepped-entry w h =
       let c = accepted-step s m w h in
@@ -189,18 +189,18 @@ module _ (s : Settings) (range : inRange (s .workers) (s .capacity) (s .depth) �
       To : Option Answer → Type 0
       To o = Explained s (m .cells) (step s m w .0 .cells) (tasksOf s m) (tasksOf s (step s m w .0)) (replyTo w o) t
 
-  pub advance : (e : Entry) → Advance s m e t
+  pub advance : (e : Entry) → OpensNothing (machines s lent) m e → Advance s lent m e t
   unfolding next
-  advance (showing x y) = refused-entry (showing x y) refl (λ j. refl)
-  advance (reopening n b M lent r e) = refused-entry (reopening n b M lent r e) refl (λ j. refl)
-  advance (calling j kind a v) = by (call s m j kind a v .1) refl
+  advance (showing x y) h = refused-entry (showing x y) refl (λ j. refl)
+  advance (reopening n b M) h = refused-entry (reopening n b M) (opening-refused m (opening n b M lent) (h .1)) (λ j. refl)
+  advance (calling j kind a v) h = by (call s m j kind a v .1) refl
     where
-      by : (r : Called) → call s m j kind a v .1 ≡ r → Advance s m (calling j kind a v) t
+      by : (r : Called) → call s m j kind a v .1 ≡ r → Advance s lent m (calling j kind a v) t
       by Called.Accepted e = called-entry j kind a v (accepted-call s m j kind a v (ap accepts e))
       by (Called.Refused r) e = refused-entry (calling j kind a v) (call-refused s m j kind a v e) (λ i. refl)
-  advance (stepping w) = by (step s m w .1) refl
+  advance (stepping w) h = by (step s m w .1) refl
     where
-      by : (r : Stepped) → step s m w .1 ≡ r → Advance s m (stepping w) t
+      by : (r : Stepped) → step s m w .1 ≡ r → Advance s lent m (stepping w) t
       by Stepped.Moved e = stepped-entry w (ap moves e)
       by (Stepped.Answered c) e = stepped-entry w (ap moves e)
       by (Stepped.Refused r) e = refused-entry (stepping w) (step-refused s m w e) (λ i. rw e (if-same (eqb i w) none))
