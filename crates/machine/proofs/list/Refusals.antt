@@ -1,21 +1,19 @@
 -- What a list says of refusals: a worker is busy, and has made so many updates, exactly as the machine keeps it, so that each call and
 -- each step is refused for its reason alone; and an operation ends once. Rests on one worker along a list.
-use Prim.Native.Nat.{ℕ, zero, suc, _≤_, _<_}
+use Prim.Native.Nat.{ℕ, zero, suc, _<_}
 use native.Mathlib.Omega.{arith}
 use native.Mathlib.Decide.{ℕ-discrete, decLt}
-use mathlib.Core.Path.{_≡_, refl, sym, ap, _∙_, subst}
-use mathlib.Core.Logic.{_≢_, by-cases}
+use mathlib.Core.Path.{_≡_, refl, sym, ap, _∙_}
+use mathlib.Core.Logic.{by-cases}
 use mathlib.Core.Bool.{Bool, true, false}
 use mathlib.Core.List.{List}
 use mathlib.Core.Option.{Option, none, some}
 use lib.Dec.{leb, ltb, eqb}
 use lib.IntN.{ℤ}
-use lib.ListN.{length}
 use borrow.Author.Tests.{eq-eqb, ne-eqb, le-leb, lt-leb}
 use Rattle.interface.specs.Limits.{greatestTicket}
 use Rattle.interface.specs.declared.Settings.{Settings}
 use Rattle.interface.specs.declared.Answer.{Answer}
-use Rattle.interface.specs.declared.Refusal.{Refusal}
 use Rattle.interface.specs.declared.Stepped.{Stepped}
 use Rattle.interface.specs.declared.Completion.{Completion}
 use Rattle.interface.specs.declared.Called.{Called}
@@ -25,11 +23,11 @@ use Rattle.machine.specs.Records.{Reads, Worker, Machine}
 use Rattle.machine.specs.Steps.{access, perform, counted, stepReply, done, stepOf, step}
 use Rattle.machine.specs.Calls.{opening, operationOf, spent, ticketFor, begun, callOf, call}
 use Rattle.machine.specs.History.{machines, Entry, calling, stepping, showing, reopening, OpensNothing, next, asked, accepts}
-use Rattle.machine.specs.History.{moves, isAnswer, callsTo, endsBy, isUpdate, freeReply, callReply, stepRefusal, refusalIn, entryAt}
+use Rattle.machine.specs.History.{isAnswer, callsTo, endsBy, isUpdate, idleReply, callReply, stepRefusal, refusalIn, entryAt}
 use Rattle.machine.specs.History.{stateAt, isCall, isEnd, OpeningsRefused, underWay, updatesMade, Ended}
 use Rattle.machine.proofs.laws.Base.{no-both, none-some, if-elim, if-true, if-false, if-ap, and-true, and-parts, and-left-false, and-right-false, assign-at, assign-elim, neither-less}
 use Rattle.machine.proofs.Openings.{opening-refused, call-stranger, call-busy, idle-call, call-refused, step-stranger, step-idle, step-made}
-use Rattle.machine.proofs.list.Advance.{accepted-step, accepted-call, answerIn, answerTo, begun-other}
+use Rattle.machine.proofs.list.Advance.{accepted-call, answerIn, answerTo, begun-other}
 use Rattle.machine.proofs.list.WorkerHistory.{WorkerChange, begins, moves-on, ends, no-change, at-next, stays-idle, ended-last}
 
 -- ---- replies, by what the machine keeps of the worker
@@ -42,11 +40,11 @@ module _ (s : Settings) (m : Machine) (j : ℕ) where
   call-reply :
       (kind a : ℕ) (v : ℤ)
       → call s m j kind a v .1 ≡ callReply s j (busy (m .workers j .operation)) (m .workers j .last) (operationOf kind a v)
-  unfolding callReply freeReply callOf spent if_then_else_
+  unfolding callReply idleReply callOf spent if_then_else_
   call-reply kind a v = by-cases (decLt j (s .workers)) (λ l. by l (m .workers j .operation) refl)
       (λ l. rw (call-stranger s m j kind a v (omega arith), le-leb (s .workers) j (omega arith)) refl)
     where
-      free : (o : Option Operation) → callOf m j none o .1 ≡ freeReply (m .workers j .last) o
+      free : (o : Option Operation) → callOf m j none o .1 ≡ idleReply (m .workers j .last) o
       free none = refl
       free (some (lookup a)) = refl
       free (some (update u)) = if-ap (λ (x : Machine × Called). x .1) (leb greatestTicket (m .workers j .last)) _ _
