@@ -21,10 +21,10 @@ use Rattle.machine.specs.Choice.{if_then_else_}
 use Rattle.machine.specs.Sequential.{Table, having}
 use Rattle.machine.specs.Records.{Machine, newBucket, firstCells, opened}
 use Rattle.fields.specs.Regions.{wordsNeeded}
-use Rattle.machine.specs.Calls.{Opening, opens, refuses, opening, call, contents, listingOf, listing, lists, declines}
+use Rattle.machine.specs.Calls.{settings, Opening, opens, refuses, opening, call, contents, listingOf, listing, lists, declines}
 use Rattle.machine.specs.History.{calling, next}
 use Rattle.machine.specs.Script as Script
-use Rattle.machine.proofs.Openings.{settings, opening-settings, opening-short, opening-opens}
+use Rattle.machine.proofs.Openings.{opening-settings, opening-short, opening-opens}
 use Rattle.machine.proofs.invariant.Tasks.{opened-good}
 use Rattle.layout.specs.Shape.{strange, shapeOf}
 use Rattle.lists.specs.Parts.{overlay}
@@ -42,9 +42,9 @@ use Rattle.responses.specs.Answers.{isList}
 use Rattle.texts.specs.Texts.{rowsText, listingText, textOn, wordsOn}
 use Rattle.simulation.proofs.OpeningMeans.{strange-never, shape-is, opened-means}
 use Rattle.simulation.proofs.RowsMean.{rows-are}
-use Rattle.simulation.proofs.Demand3ForCalls.{openedAs, open-alike, call-alike, represents-next}
+use Rattle.simulation.proofs.Represents.{openedAs, open-alike, call-alike, represents-next}
 use Rattle.session.proofs.Same.{Opened, Meant, Same, Alike}
-use Rattle.session.proofs.Lengths.{length-call, length-run, length-opened}
+use Rattle.simulation.proofs.lengths.CallLengths.{length-call, length-run, length-opened}
 use Rattle.session.proofs.Lines.{Said}
 use Rattle.session.proofs.Steps.{run-alike}
 
@@ -125,7 +125,7 @@ module _ (l : List ℕ) (count : length l ≡ 8_192) (w kind a : ℕ) (v : ℤ) 
     call-represents : Opened (callWords l w kind a v .0) s (call s m w kind a v .0)
     unfolding next
     call-represents =
-        record { range = h .range; represents = represents-next s (h .range) l m (h .represents) (calling w kind a v) (narrow, fits) }
+        record { range = h .range; represents = represents-next s (h .range) l m (h .represents) (calling w kind a v) (narrow, fits) tt }
 
     call-replied :
         Replied (replying ofCalled (callWords l w kind a v)) (Script.callResponse s (call s m w kind a v .0) (call s m w kind a v .1))

@@ -1,7 +1,5 @@
 -- The laws of whole sessions.
 -- They rest on the definitions of specs/, on the meaning of words and on the driver's texts.
-pub mod Lengths
-pub mod StepLengths
 pub mod Lines
 pub mod Steps
 pub mod Commands

@@ -14,7 +14,7 @@ use Rattle.commands.specs.declared.Command.{Command}
 use Rattle.commands.specs.Commands.{lineOf}
 use Rattle.lines.specs.Session.{told}
 use Rattle.texts.specs.Texts.{textOn, wordsOn}
-use Rattle.simulation.proofs.Demand3ForCalls.{Represents}
+use Rattle.simulation.proofs.Represents.{Represents}
 
 -- an opened table: settings in their ranges, and words that mean its machine
 pub record Opened (l : List ℕ) (s : Settings) (m : Machine) : Type 0 where

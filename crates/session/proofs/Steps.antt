@@ -18,7 +18,7 @@ use Rattle.turns.specs.Turns.{stepWords}
 use Rattle.runs.specs.Runs.{runWords}
 use Rattle.responses.specs.Responses.{ofRan}
 use Rattle.simulation.specs.Runs.{goesOn, iterated, bySteps}
-use Rattle.simulation.proofs.Demand3ForCalls.{Represents, step-alike, represents-next}
+use Rattle.simulation.proofs.Represents.{Represents, step-alike, represents-next}
 use Rattle.simulation.proofs.runs.RunIterates.{run-iterates}
 
 -- what a run on words left and replied is what the script's steps left and replied
@@ -61,7 +61,7 @@ module _ (s : Settings) (range : inRange (s .workers) (s .capacity) (s .depth) �
 
   represents-step : (l : List ℕ) (m : Machine) → Represents s l m → Represents s (stepWords l w .0) (step s m w .0)
   unfolding next
-  represents-step l m h = represents-next s range l m h (stepping w) tt
+  represents-step l m h = represents-next s range l m h (stepping w) tt tt
 
   no-steps : (k : ℕ) (l : List ℕ) (m : Machine) → Represents s l m → AsSteps s (iterated l w k 0) (Script.steps s w k 0 m)
   unfolding iterated Script.steps ofRan printedReply

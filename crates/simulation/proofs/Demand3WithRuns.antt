@@ -13,13 +13,15 @@ use Rattle.interface.specs.declared.Settings.{Settings}
 use Rattle.machine.specs.Records.{Machine, opened}
 use Rattle.fields.specs.Regions.{wordsNeeded}
 use Rattle.machine.specs.Steps.{step}
-use Rattle.machine.specs.History.{machines, Entry, stepping, next, entryAt, stateAt}
+use Rattle.machine.specs.Calls.{settings}
+use Rattle.machine.specs.History.{Entry, stepping, next, entryAt, stateAt}
 use Rattle.turns.specs.Turns.{stepWords}
 use Rattle.opening.specs.Opening.{openWords}
-use Rattle.simulation.specs.Demand3ForCalls.{AllTyped, lentWords}
-use Rattle.simulation.specs.Runs.{afterSteps, stepsTaken, Request, plain, running, TypedRequest, TypedRequests, left, leftByAll}
+use Rattle.simulation.specs.LentWords.{lentWords}
+use Rattle.simulation.specs.Runs.{afterSteps, stepsTaken, Request, plain, running, left, leftByAll}
 use Rattle.simulation.specs.Runs.{entriesOf, spread, requestAt, LinearizableAsSteps, Demand3WithRuns}
-use Rattle.simulation.proofs.Demand3ForCalls.{Represents, represents-next, represents-at, accepted, demand3-on-words}
+use Rattle.simulation.proofs.Represents.{Represents, represents-at, Start, started}
+use Rattle.simulation.proofs.Demand3ForCalls.{demand3-on-words}
 use Rattle.simulation.proofs.runs.RunIterates.{run-iterates}
 use Rattle.simulation.proofs.runs.RunSteps.{run-as-steps}
 
@@ -66,25 +68,6 @@ entries-stand (r ∷ qs) l (suc i) k h q =
     ap (entryAt (entriesOf l r ++ spread (left l r) qs)) e ∙ getD-append-add (entriesOf l r) (spread (left l r) qs) (length before + k) _
     ∙ entries-stand qs (left l r) i k (omega arith) q
 
-typed-append : (xs ys : List Entry) → AllTyped xs → AllTyped ys → AllTyped (xs ++ ys)
-typed-append [] ys t u = u
-typed-append (x ∷ xs) ys t u = (t .0, typed-append xs ys (t .1) u)
-
-typed-steps : (w n : ℕ) → AllTyped (replicate n (stepping w))
-typed-steps w zero = tt
-typed-steps w (suc n) = (tt, typed-steps w n)
-
-typed-entries : (q : Request) (l : List ℕ) → TypedRequest q → AllTyped (entriesOf l q)
-unfolding entriesOf
-typed-entries (plain e) l t = (t, tt)
-typed-entries (running w most) l t = typed-steps w (stepsTaken l w most)
-
-spread-typed : (qs : List Request) (l : List ℕ) → TypedRequests qs → AllTyped (spread l qs)
-unfolding spread
-spread-typed [] l t = tt
-spread-typed (q ∷ qs) l t =
-    typed-append (entriesOf l q) (spread (left l q) qs) (typed-entries q l (t .0)) (spread-typed qs (left l q) (t .1))
-
 -- ---- on words that mean a machine
 
 module _ (s : Settings) (range : inRange (s .workers) (s .capacity) (s .depth) ≡ true) where
@@ -92,64 +75,61 @@ module _ (s : Settings) (range : inRange (s .workers) (s .capacity) (s .depth) �
   abbrev Meaningful : List ℕ → Type 0
   Meaningful l = (m : Machine) × Represents s l m
 
-  -- so do the words that steps and requests leave
-  after-steps : (w n : ℕ) (l : List ℕ) → Meaningful l → Meaningful (afterSteps l w n)
-  unfolding afterSteps next
-  after-steps w zero l h = h
-  after-steps w (suc n) l h =
-      after-steps w n (stepWords l w .0) (step s (h .0) w .0, represents-next s range l (h .0) (h .1) (stepping w) tt)
-
-  after-request : (q : Request) (l : List ℕ) → TypedRequest q → Meaningful l → Meaningful (left l q)
-  unfolding left
-  after-request (plain e) l t h = (next (machines s) (h .0) e, represents-next s range l (h .0) (h .1) e t)
-  after-request (running w most) l t h =
-      subst⁻¹ Meaningful (run-as-steps s range l (h .0) (h .1) w most .words) (after-steps w (stepsTaken l w most) l h)
-
   -- a request leaves what its entries leave
   request-left : (q : Request) (l : List ℕ) → Meaningful l → leftByEntries l (entriesOf l q) ≡ left l q
   unfolding left leftByEntries entriesOf
   request-left (plain e) l h = refl
   request-left (running w most) l h = steps-left s w (stepsTaken l w most) l ∙ sym (run-as-steps s range l (h .0) (h .1) w most .words)
 
-  -- so do the words before each request, which are those before its entries
-  before-request : (qs : List Request) (l : List ℕ) → TypedRequests qs → Meaningful l → (i : ℕ) → Meaningful (leftByAll l (take i qs))
-  unfolding leftByAll
-  before-request qs l t h zero = h
-  before-request [] l t h (suc i) = h
-  before-request (q ∷ qs) l t h (suc i) = before-request qs (left l q) (t .1) (after-request q l (t .0) h) i
+  -- the words mean some machine all along the list of entries
+  abbrev AlwaysMeaningful : List Request → List ℕ → Type 0
+  AlwaysMeaningful qs l = (i : ℕ) → Meaningful (stateAt s lentWords l [] (spread l qs) i)
 
+  first-meaningful : (qs : List Request) (l : List ℕ) → AlwaysMeaningful qs l → Meaningful l
+  unfolding stateAt
+  first-meaningful qs l h = h 0
+
+  -- the words i entries after the first request
+  state-after :
+      (q : Request) (qs : List Request) (l : List ℕ) → Meaningful l → (i : ℕ)
+      → stateAt s lentWords (left l q) [] (spread (left l q) qs) i
+      ≡ stateAt s lentWords l [] (spread l (q ∷ qs)) (length (entriesOf l q) + i)
+  unfolding spread
+  state-after q qs l h i =
+      ap (λ (k : List ℕ). stateAt s lentWords k [] (spread (left l q) qs) i) (sym (request-left q l h))
+      ∙ sym (state-append s l (entriesOf l q) (spread (left l q) qs) i)
+
+  later-meaningful : (q : Request) (qs : List Request) (l : List ℕ) → AlwaysMeaningful (q ∷ qs) l → AlwaysMeaningful qs (left l q)
+  later-meaningful q qs l h i = subst⁻¹ Meaningful (state-after q qs l (first-meaningful (q ∷ qs) l h) i) (h (length (entriesOf l q) + i))
+
+  -- the words before each request are those before its entries
   words-stand :
-      (qs : List Request) (l : List ℕ) → TypedRequests qs → Meaningful l → (i : ℕ)
+      (qs : List Request) (l : List ℕ) → AlwaysMeaningful qs l → (i : ℕ)
       → leftByAll l (take i qs) ≡ stateAt s lentWords l [] (spread l qs) (length (spread l (take i qs)))
   unfolding leftByAll spread stateAt
-  words-stand qs l t h zero = refl
-  words-stand [] l t h (suc i) = refl
-  words-stand (q ∷ qs) l t h (suc i) =
-      words-stand qs (left l q) (t .1) (after-request q l (t .0) h) i
-      ∙ ap (λ (k : List ℕ). stateAt s lentWords k [] (spread (left l q) qs) (length (spread (left l q) (take i qs))))
-      (sym (request-left q l h))
-      ∙ sym (state-append s l (entriesOf l q) (spread (left l q) qs) (length (spread (left l q) (take i qs))))
+  words-stand qs l h zero = refl
+  words-stand [] l h (suc i) = refl
+  words-stand (q ∷ qs) l h (suc i) =
+      words-stand qs (left l q) (later-meaningful q qs l h) i
+      ∙ state-after q qs l (first-meaningful (q ∷ qs) l h) (length (spread (left l q) (take i qs)))
       ∙ ap (stateAt s lentWords l [] (entriesOf l q ++ spread (left l q) qs))
       (sym (length-append (entriesOf l q) (spread (left l q) (take i qs))))
 
-  module _ (l : List ℕ) (enough : wordsNeeded s ≤ length l) where
-    abbrev opening : List ℕ
-    opening = openWords l (s .workers) (s .capacity) (s .depth) .0
-
-    opening-represents : Meaningful opening
-    unfolding stateAt
-    opening-represents =
-        subst⁻¹ Meaningful (ap (λ r. r .0) (accepted s range l enough [] tt)) (opened, represents-at s range l enough [] tt 0)
-
-    as-steps : (qs : List Request) → TypedRequests qs → LinearizableAsSteps s opening qs
-    as-steps qs typed = record {
-      words = words-stand qs opening typed opening-represents;
-      entries = entries-stand qs opening;
-      iterates = λ i w most. let x = before-request qs opening typed opening-represents i in run-iterates s range _ (x .0) (x .1) w most;
-      runs = λ i w most. let x = before-request qs opening typed opening-represents i in run-as-steps s range _ (x .0) (x .1) w most;
-      linearizable = demand3-on-words s range l enough (spread opening qs) (spread-typed qs opening typed);
-    }
-
 -- Demand 3 for lists with runs.
 pub demand3-with-runs : Demand3WithRuns
-demand3-with-runs s range l enough qs typed = as-steps s range l enough qs typed
+demand3-with-runs l n b M qs f =
+    let s = settings n b M in
+    let k = openWords l n b M .0 in
+    let g = started l n b M (f .accepted) in
+    let h : AlwaysMeaningful s (g .range) qs k =
+    λ i. (_, represents-at s (g .range) k (spread k qs) (g .represents) (f .typed) (f .refused) i) in
+    let words = words-stand s (g .range) qs k h in
+    let before : (i : ℕ) → (m : Machine) × Represents s (leftByAll k (take i qs)) m =
+    λ i. subst⁻¹ (λ (x : List ℕ). (m : Machine) × Represents s x m) (words i) (h _) in
+    record {
+      words = words;
+      entries = entries-stand qs k;
+      iterates = λ i w most. run-iterates s (g .range) _ (before i .0) (before i .1) w most;
+      runs = λ i w most. run-as-steps s (g .range) _ (before i .0) (before i .1) w most;
+      linearizable = demand3-on-words l n b M (spread k qs) f;
+    }

@@ -5,9 +5,12 @@ pub mod own
 pub mod cells
 pub mod swap
 pub mod runs
+pub mod lengths
 pub mod OpeningMeans
 pub mod CallMeans
 pub mod StepMeans
 pub mod RowsMean
+pub mod Represents
+pub mod Demand2
 pub mod Demand3ForCalls
 pub mod Demand3WithRuns

@@ -1,4 +1,6 @@
 pub mod Buckets
 pub mod Meaning
-pub mod Demand3ForCalls
+pub mod LentWords
 pub mod Runs
+pub mod Demand2
+pub mod Demand3ForCalls

@@ -2,19 +2,17 @@
 -- Rests on the definitions that the calls' contracts equal, and on the statement of demand 3.
 use Prim.Native.Nat.{ℕ, zero, suc, _+_, _≤_, _<_}
 use mathlib.Core.Path.{_≡_}
-use mathlib.Core.Bool.{true}
 use mathlib.Core.List.{List, [], _∷_, _++_}
 use lib.ListN.{length, getD, take, replicate}
-use Rattle.interface.specs.Limits.{inRange}
 use Rattle.interface.specs.declared.Settings.{Settings}
 use Rattle.interface.specs.declared.Stepped.{Stepped}
 use Rattle.interface.specs.declared.Ran.{Ran}
-use Rattle.fields.specs.Regions.{wordsNeeded}
+use Rattle.machine.specs.Calls.{settings}
 use Rattle.machine.specs.History.{Entry, stepping, showing, next, entryAt, stateAt, Linearizable}
 use Rattle.turns.specs.Turns.{stepWords}
 use Rattle.runs.specs.Runs.{runWords}
 use Rattle.opening.specs.Opening.{openWords}
-use Rattle.simulation.specs.Demand3ForCalls.{Typed, lentWords}
+use Rattle.simulation.specs.LentWords.{lentWords, FromOpening}
 
 -- ---- one run
 
@@ -86,14 +84,6 @@ pub data Request : Type 0 where
   plain : Entry → Request
   running : ℕ → ℕ → Request
 
-abbrev pub TypedRequest : Request → Type 0
-TypedRequest (plain e) = Typed e
-TypedRequest (running w most) = Unit {0}
-
-abbrev pub TypedRequests : List Request → Type 0
-TypedRequests [] = Unit {0}
-TypedRequests (q ∷ qs) = TypedRequest q × TypedRequests qs
-
 -- the words that a request leaves
 unfoldable pub left : List ℕ → Request → List ℕ
 left l (plain e) = next lentWords l e
@@ -143,8 +133,8 @@ module _ (s : Settings) (l : List ℕ) (qs : List Request) where
     -- demand 3 for the list of entries
     pub linearizable : Linearizable s lentWords l [] (spread l qs)
 
+-- for every list with runs: its runs replaced by their steps, it is a list from an accepted opening
 abbrev pub Demand3WithRuns : Type 0
 Demand3WithRuns =
-    (s : Settings) → inRange (s .workers) (s .capacity) (s .depth) ≡ true
-    → (l : List ℕ) → wordsNeeded s ≤ length l → (qs : List Request) → TypedRequests qs
-    → LinearizableAsSteps s (openWords l (s .workers) (s .capacity) (s .depth) .0) qs
+    (l : List ℕ) (n b M : ℕ) (qs : List Request) → FromOpening l n b M (spread (openWords l n b M .0) qs)
+    → LinearizableAsSteps (settings n b M) (openWords l n b M .0) qs

@@ -37,7 +37,7 @@ use Rattle.runs.specs.Runs.{lastOf, orElse, runIn, longestRun, runWords}
 use Rattle.simulation.specs.Runs.{goesOn, iterated, checkedOnly, bySteps}
 use Rattle.simulation.proofs.frames.Entering.{is-idle, is-busy, idle-enters}
 use Rattle.simulation.proofs.OpeningMeans.{shape-is, strange-never}
-use Rattle.simulation.proofs.Demand3ForCalls.{Represents, step-alike, represents-next}
+use Rattle.simulation.proofs.Represents.{Represents, step-alike, represents-next}
 
 -- ---- a step of a worker whose operation is under way
 
@@ -143,7 +143,7 @@ module _ (s : Settings) (range : inRange (s .workers) (s .capacity) (s .depth) �
       busy-next : stepWords l w .1 ≡ Stepped.Moved → Busy s (stepWords l w .0) (step s m w .0) w
       unfolding next
       busy-next e = record {
-        represents = represents-next s range l m (b .represents) (stepping w) tt;
+        represents = represents-next s range l m (b .represents) (stepping w) tt tt;
         known = b .known;
         operation = b .operation;
         asked = moved-worker s m w (b .known) (b .asked) (sym (step-alike s range l m (b .represents) w .1) ∙ e) .0;

@@ -13,7 +13,7 @@ use Rattle.machine.specs.Records.{Machine}
 use Rattle.turns.specs.Turns.{stepWords}
 use Rattle.runs.specs.Runs.{runWords}
 use Rattle.simulation.specs.Runs.{goesOn, iterated, bySteps, afterSteps, replyAt, counting, stepsTaken, ranAs, RunAsSteps}
-use Rattle.simulation.proofs.Demand3ForCalls.{Represents}
+use Rattle.simulation.proofs.Represents.{Represents}
 use Rattle.simulation.proofs.runs.RunIterates.{run-iterates}
 
 -- ---- for any words

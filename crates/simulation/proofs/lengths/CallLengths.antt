@@ -1,4 +1,4 @@
--- Opening, a call and a run keep the number of words, whatever the words are. Rests on the lengths of steps.
+-- Opening, a call, a step and a run keep the number of words, whatever the words are. Rests on the lengths of steps.
 use Prim.Native.Nat.{ℕ, zero, suc, _+_, _-_, _%_, _≤_, _<_}
 use native.Mathlib.Omega.{arith}
 use mathlib.Core.Path.{_≡_, refl, sym, _∙_}
@@ -7,9 +7,11 @@ use mathlib.Core.Option.{Option, none, some}
 use lib.Dec.{leb, eqb}
 use lib.ListN.{length, set, length-set, length-append, length-replicate}
 use lib.IntN.{ℤ}
-use borrow.Author.Tests.{leb-false}
+use borrow.Author.Tests.{leb-true, leb-false}
 use Rattle.interface.specs.Numbers.{kindNone, kindLookup}
+use Rattle.interface.specs.Limits.{built}
 use Rattle.interface.specs.declared.Settings.{Settings}
+use Rattle.interface.specs.declared.Built.{Built}
 use Rattle.interface.specs.declared.Answer.{Answer}
 use Rattle.interface.specs.declared.Ran.{Ran}
 use Rattle.machine.specs.Plan.{Phase, announce, readDirectory, flipToggle, readState, readToggle, swapState, checkState, copyDirectory, swapDirectory, readSlot, resizeFor, phase}
@@ -33,12 +35,13 @@ use Rattle.marks.specs.StateStep.{marks, stateStepAt}
 use Rattle.taking.specs.Taking.{takenAll}
 use Rattle.directory.specs.Directory.{resolvedAt, nothingToSplit, redirectedAt}
 use Rattle.directory.proofs.DirectoryLaws.{whole-else}
-use Rattle.session.proofs.StepLengths.{length-announced, length-round, length-taken}
+use Rattle.simulation.proofs.lengths.StepLengths.{length-announced, length-round, length-taken}
 use Rattle.calls.specs.Calls.{endedAt}
 use Rattle.updates.specs.Updates.{checkAt, updateAt, operationAt}
 use Rattle.lookups.specs.Lookups.{lookupAt}
 use Rattle.calls.specs.Calls.{begunAt, callIn, callWords}
-use Rattle.opening.specs.Opening.{freshWords}
+use Rattle.opening.specs.Opening.{freshWords, openedWords, openWords}
+use Rattle.turns.specs.Turns.{stepIn, stepWords}
 use Rattle.runs.specs.Runs.{orElse, runIn, longestRun, runWords}
 use Rattle.updates.proofs.UpdateLaws.{slot-below}
 use Rattle.opening.proofs.FreshWords.{fresh-parts}
@@ -173,6 +176,16 @@ length-call l w kind a v =
     if-elim (LongAfter l) (leb (shapeOf l .workers) w) _ _ (λ b. refl)
     (λ b. length-call-in l (shapeOf l) w (fits-of l t) (leb-false _ _ b) kind a v))
 
+pub length-step : (l : List ℕ) (w : ℕ) → length (stepWords l w .0) ≡ length l
+unfolding stepWords stepIn
+length-step l w =
+    if-elim (LongAfter l) (strange l) _ _ (λ t. refl)
+    (λ t.
+    if-elim (LongAfter l) (leb (shapeOf l .workers) w) _ _ (λ b. refl)
+    (λ b.
+    if-elim (LongAfter l) (eqb (word l (workerAt (shapeOf l .workers) w + workerKind)) kindNone) _ _ (λ z. refl)
+    (λ z. length-operation l (shapeOf l) w (fits-of l t) (leb-false _ _ b) _)))
+
 pub length-run : (l : List ℕ) (w most : ℕ) → length (runWords l w most .0) ≡ length l
 unfolding runWords
 length-run l w most =
@@ -191,3 +204,12 @@ length-fresh s = let h = fresh-parts s in simp (length-append, length-replicate)
 
 pub length-opened : (l : List ℕ) (s : Settings) → wordsNeeded s ≤ length l → length (overlay l 0 (freshWords s)) ≡ length l
 length-opened l s h = let e = length-fresh s in length-overlay l 0 (freshWords s) (omega arith)
+
+pub length-open : (l : List ℕ) (n b M : ℕ) → length (openWords l n b M .0) ≡ length l
+unfolding openWords openedWords
+length-open l n b M = go (built n b M)
+  where
+    go : (x : Built) → LongAfter l (openedWords l x)
+    go (Built.Refused r) = refl
+    go (Built.Settings s) =
+        if-elim (LongAfter l) (leb (wordsNeeded s) (length l)) _ _ (λ e. length-opened l s (leb-true _ _ e)) (λ e. refl)

@@ -1,0 +1,3 @@
+-- Every step and every call keeps the number of words, whatever the words are.
+pub mod StepLengths
+pub mod CallLengths
