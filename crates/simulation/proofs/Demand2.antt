@@ -109,9 +109,9 @@ demand2 l n b M es f =
     let replies = alike-at (settings n b M) (g .range) (openWords l n b M .0) es (g .represents) (f .typed) (f .refused) in
     record {
       means = λ i h. r i .means;
-      replies = λ i h. replies i;
-      recognised = λ i h e.
-          no-both (ap isStrange (ap refusalOf (sym (replies i)) ∙ e)) (recognised (settings n b M) _ _ (entryAt es i));
+      replies = λ i e h t. replies i e t;
+      recognised = λ i e h t q.
+          no-both (ap isStrange (ap refusalOf (sym (replies i e t)) ∙ q)) (recognised (settings n b M) _ _ e);
       listings = λ i accounts totals h.
           shown-on _ accounts totals
           ∙ ap (shownAs accounts totals) (sym (listing-alike (settings n b M) (g .range) _ _ (r i) (length accounts) (length totals)));

@@ -49,7 +49,7 @@ use Rattle.simulation.proofs.OpeningMeans.{shape-is, strange-never, ope
 use Rattle.simulation.proofs.RowsMean.{rows-are}
 use Rattle.simulation.proofs.lengths.CallLengths.{length-call, length-step, length-open}
 
-typed-at : (es : List Entry) → AllTyped es → (i : ℕ) → Typed (entryAt es i)
+pub typed-at : (es : List Entry) → AllTyped es → (i : ℕ) → Typed (entryAt es i)
 unfolding entryAt
 typed-at [] t i = tt
 typed-at (e ∷ es) t zero = t .0
@@ -231,12 +231,12 @@ module _ (s : Settings) (range : inRange (s .workers) (s .capacity) (s .depth) �
         subst (λ (k : ℕ). Represents s (wordsAt s l es (suc i)) (next (machines s k) (machineAt s l es i) (entryAt es i))) (length-at i)
         (represents-next (wordsAt s l es i) (machineAt s l es i) (represents-at i) (entryAt es i) (typed-at es typed i) (refused i))
 
-    -- and every entry is answered alike
+    -- and an entry is answered alike
     pub alike-at :
-        (i : ℕ) → reply lentWords (wordsAt s l es i) (entryAt es i) ≡ reply (machines s (length l)) (machineAt s l es i) (entryAt es i)
-    alike-at i =
-        subst (λ (k : ℕ). reply lentWords (wordsAt s l es i) (entryAt es i) ≡ reply (machines s k) (machineAt s l es i) (entryAt es i))
-        (length-at i) (alike (wordsAt s l es i) (machineAt s l es i) (represents-at i) (entryAt es i) (typed-at es typed i))
+        (i : ℕ) (e : Entry) → Typed e → reply lentWords (wordsAt s l es i) e ≡ reply (machines s (length l)) (machineAt s l es i) e
+    alike-at i e t =
+        subst (λ (k : ℕ). reply lentWords (wordsAt s l es i) e ≡ reply (machines s k) (machineAt s l es i) e) (length-at i)
+        (alike (wordsAt s l es i) (machineAt s l es i) (represents-at i) e t)
 
     -- and every opening refused
     pub refused-at : OpeningsRefused s (machines s (length l)) opened [] es

@@ -13,12 +13,12 @@ use Rattle.interface.specs.declared.Called.{Called}
 use Rattle.interface.specs.declared.Ran.{Ran}
 use Rattle.machine.specs.Records.{Machine, opened}
 use Rattle.machine.specs.Calls.{settings, lists, declines, listing}
-use Rattle.machine.specs.History.{Entry, machines, Replied, toCall, toStep, toListing, toOpening, reply, refusalIn, entryAt, stateAt}
+use Rattle.machine.specs.History.{Entry, machines, Replied, toCall, toStep, toListing, toOpening, reply, refusalIn, stateAt}
 use Rattle.opening.specs.Opening.{openWords}
 use Rattle.runs.specs.Runs.{runWords}
 use Rattle.rows.specs.Rows.{listingWords}
 use Rattle.simulation.specs.Meaning.{Meaning}
-use Rattle.simulation.specs.LentWords.{lentWords, shownAs, FromOpening}
+use Rattle.simulation.specs.LentWords.{lentWords, shownAs, Typed, FromOpening}
 use Rattle.simulation.specs.Runs.{bySteps}
 
 -- the refusal in a reply, if it is one
@@ -43,20 +43,21 @@ module _ (s : Settings) (l : List ℕ) (es : List Entry) where
     -- "each step does exactly what the published wait-free procedures do at that step": at every point of the list, its
     -- end included, the words mean the machine after the same entries
     pub means : (i : ℕ) → i ≤ length es → Meaning s (wordsAt i) (machineAt i)
-    -- and each entry is replied as the machine replies
+    -- a call, a step, a listing or an opening made there is replied as the machine replies
     pub replies :
-        (i : ℕ) → i < length es
-        → reply lentWords (wordsAt i) (entryAt es i) ≡ reply (machines s (length l)) (machineAt i) (entryAt es i)
+        (i : ℕ) (e : Entry) → i ≤ length es → Typed e
+        → reply lentWords (wordsAt i) e ≡ reply (machines s (length l)) (machineAt i) e
     -- "8 never occurs on the whole of a memory that opening and later calls left"
     pub recognised :
-        (i : ℕ) → i < length es → refusalOf (reply lentWords (wordsAt i) (entryAt es i)) ≡ some Refusal.Strange → ⊥
-    -- "the listing shows exactly the accounts in the current buckets": at every point what it writes into two lists, and
-    -- answers, is the machine's
+        (i : ℕ) (e : Entry) → i ≤ length es → Typed e
+        → refusalOf (reply lentWords (wordsAt i) e) ≡ some Refusal.Strange → ⊥
+    -- "the listing shows exactly the accounts in the current buckets": what it writes into two lists there, and answers,
+    -- is the machine's
     pub listings :
         (i : ℕ) (accounts : List ℕ) (totals : List ℤ) → i ≤ length es
         → listingWords (wordsAt i) accounts totals
         ≡ shownAs accounts totals (listing (machineAt i) (length accounts) (length totals))
-    -- at every point a run is its steps, "up to k .., ending early at an answer"
+    -- a run made there is its steps, "up to k .., ending early at an answer"
     pub runs : (i w most : ℕ) → i ≤ length es → runWords (wordsAt i) w most ≡ bySteps (wordsAt i) w most
 
 abbrev pub Demand2 : Type 0
