@@ -392,6 +392,17 @@ slots-read-again =
     ∷ S 1 99 ⟶ answered Added 15 ∷ [])
     refl
 
+-- The n slots of a directory round read in another order: worker 1's insert, announced between worker 0's reads of slot 0 and of
+-- slot 1, would be missing. (In a bucket round no reply shows the order: a worker whose bit is seen flipped has announced, and
+-- announces nothing else before a swap there has made this round's swap fail.)
+unfoldable pub slots-in-worker-order : Case
+unfolding computing
+slots-in-worker-order =
+    driverCase (
+    two-holding-5-6 ++ I 0 2_147_483_648 (pos 1) ⟶ ok ∷ S 0 17 ⟶ moved 17 ∷ I 1 2_147_483_649 (pos 2) ⟶ ok ∷ S 1 1 ⟶ moved 1
+    ∷ S 0 4 ⟶ moved 4 ∷ T ⟶ listed ((5, pos 50) ∷ (6, pos 60) ∷ (2_147_483_648, pos 1) ∷ (2_147_483_649, pos 2) ∷ []) ∷ [])
+    refl
+
 -- A directory pass that has a state step for its own worker only: worker 1's bucket would not be split.
 abbrev pub two-splits : List Exchange
 two-splits =
@@ -512,8 +523,9 @@ cases =
     ∷ effect-at-swap ∷ effect-at-directory-swap ∷ superseded-lookup
     ∷ full-on-the-copy ∷ worker-order ∷ not-flipped ∷ late-bucket-swap ∷ second-bucket-round ∷ state-before-toggle ∷ own-answer
     ∷ delete-held-back
-    ∷ late-directory-swap ∷ unchanged-swap ∷ every-update-of-the-bucket ∷ slots-read-again ∷ a-step-per-worker ∷ shallow-half
-    ∷ settled-in-both-halves ∷ settled-makes-nothing ∷ settled-by-a-later-ticket ∷ split-while-full ∷ doubled-directory ∷ fourth-check ∷ []
+    ∷ late-directory-swap ∷ unchanged-swap ∷ every-update-of-the-bucket ∷ slots-read-again ∷ slots-in-worker-order ∷ a-step-per-worker
+    ∷ shallow-half ∷ settled-in-both-halves ∷ settled-makes-nothing ∷ settled-by-a-later-ticket ∷ split-while-full ∷ doubled-directory
+    ∷ fourth-check ∷ []
 
 abbrev pub table : List Row
 table = caseRows cases
