@@ -33,6 +33,8 @@ pub enum Fault {
     DoubledInRow,
     /// A bucket pass does not compare toggle bit and applied bit.
     ToggleIgnored,
+    /// The slots are read from the last worker's to the first's.
+    SlotsBackwards,
     /// Announcing carries out the update on its bucket if that is not full.
     AnnounceApplies,
     /// Every update is answered crowded at its first check.
@@ -43,7 +45,7 @@ pub enum Fault {
 
 impl Fault {
     /// All faults, without `None`.
-    pub const ALL: [Fault; 17] = [
+    pub const ALL: [Fault; 18] = [
         Fault::OnePass,
         Fault::OneBucketRound,
         Fault::OneDirectoryRound,
@@ -58,6 +60,7 @@ impl Fault {
         Fault::DirectorySwapBlind,
         Fault::DoubledInRow,
         Fault::ToggleIgnored,
+        Fault::SlotsBackwards,
         Fault::AnnounceApplies,
         Fault::AlwaysCrowded,
         Fault::AlwaysAdded,
@@ -80,6 +83,7 @@ impl Fault {
             Fault::DirectorySwapBlind => "directory-swap-blind",
             Fault::DoubledInRow => "doubled-in-row",
             Fault::ToggleIgnored => "toggle-ignored",
+            Fault::SlotsBackwards => "slots-backwards",
             Fault::AnnounceApplies => "announce-applies",
             Fault::AlwaysCrowded => "always-crowded",
             Fault::AlwaysAdded => "always-added",

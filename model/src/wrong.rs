@@ -29,6 +29,7 @@ impl Fault {
             Fault::DirectorySwapBlind => &DirectorySwapBlind,
             Fault::DoubledInRow => &DoubledInRow,
             Fault::ToggleIgnored => &ToggleIgnored,
+            Fault::SlotsBackwards => &SlotsBackwards,
             Fault::AnnounceApplies => &AnnounceApplies,
             Fault::AlwaysCrowded => &AlwaysCrowded,
             Fault::AlwaysAdded => &AlwaysAdded,
@@ -228,6 +229,23 @@ impl Steps for ToggleIgnored {
         let mut copy = True.bucket_copy(settings, &flipped);
         copy.applied.clone_from(&task.toggle);
         copy
+    }
+}
+
+struct SlotsBackwards;
+
+impl Steps for SlotsBackwards {
+    /// Stands before the slots read so far, which are those of the workers above.
+    fn read_slot(&self, machine: &Machine, task: &mut Task, i: usize) -> StepKind {
+        let kind = True.read_slot(machine, task, machine.settings.workers - 1 - i);
+        task.slots.rotate_right(1);
+        kind
+    }
+
+    fn resize_slot(&self, machine: &Machine, task: &mut Task, i: usize) -> StepKind {
+        let kind = True.resize_slot(machine, task, machine.settings.workers - 1 - i);
+        task.slots.rotate_right(1);
+        kind
     }
 }
 
