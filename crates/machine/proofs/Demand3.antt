@@ -21,9 +21,10 @@ use Rattle.machine.specs.Records.{Leaf, Worker, Machine, newBucket, firs
 use Rattle.machine.specs.DirectoryPass.{copyOf, nameOf}
 use Rattle.machine.specs.Steps.{directoryReading, lookupAccess, access, perform, stepReply, done, step}
 use Rattle.machine.specs.Calls.{settings, opening, listing, listingOf}
-use Rattle.machine.specs.History.{machines, Entry, calling, stepping, showing, reopening, OpensNothing, StepsTold, next, asked, moves, callsTo, stepsBy, Member, Distinct, serveIf}
-use Rattle.machine.specs.History.{entryAt, stateAt, isCall, isStep, OpeningsRefused, stepsBetween, IsOperation, Ended, answersTo, tableAfter, tableAt}
-use Rattle.machine.specs.History.{Linearizable, Demand3}
+use Rattle.machine.specs.Systems.{machines, Entry, calling, stepping, showing, reopening, OpensNothing, next, asked, moves, callsTo}
+use Rattle.machine.specs.Systems.{stepsBy}
+use Rattle.machine.specs.History.{StepsTold, Member, Distinct, serveIf, entryAt, stateAt, isCall, isStep, OpeningsRefused}
+use Rattle.machine.specs.History.{stepsBetween, IsOperation, Ended, answersTo, tableAfter, tableAt, Linearizable, Demand3}
 use Rattle.machine.proofs.laws.Base.{no-both, if-true, and-true, and-parts, none-some, neither-less}
 use Rattle.machine.proofs.laws.Copies.{Coherent, depthAt-le, leafOf-copyOf, partition-of}
 use Rattle.machine.proofs.Listing.{contents-is}

@@ -18,9 +18,10 @@ use Rattle.machine.specs.Computing.{computing}
 use Rattle.machine.specs.Records.{Machine, opened}
 use Rattle.machine.specs.Steps.{step}
 use Rattle.machine.specs.Calls.{settings, call, lists, listing, listingOf}
-use Rattle.machine.specs.History.{System, Entry, calling, stepping, reopening, machines, openedBy, next, OpensNothing}
-use Rattle.machine.specs.History.{callsTo, stepsBy, endsBy, idleReply, callReply, stepRefusal, refusalIn, entryAt, stateAt}
-use Rattle.machine.specs.History.{underWay, updatesMade, tableAfter, tableAt, Linearizable, AlwaysLinearizable}
+use Rattle.machine.specs.Systems.{System, Entry, calling, stepping, reopening, machines, openedBy, next, OpensNothing, callsTo}
+use Rattle.machine.specs.Systems.{stepsBy, endsBy}
+use Rattle.machine.specs.History.{idleReply, callReply, stepRefusal, refusalIn, entryAt, stateAt, underWay, updatesMade, tableAfter}
+use Rattle.machine.specs.History.{tableAt, Linearizable, AlwaysLinearizable}
 use Rattle.machine.proofs.laws.Base.{no-both}
 
 -- one worker, buckets of 2, depth 0, and so many words lent

@@ -22,7 +22,7 @@ use Rattle.machine.specs.Sequential.{Table, having}
 use Rattle.machine.specs.Records.{Machine, newBucket, firstCells, opened}
 use Rattle.fields.specs.Regions.{wordsNeeded}
 use Rattle.machine.specs.Calls.{settings, Opening, opens, refuses, opening, call, contents, listingOf, listing, lists, declines}
-use Rattle.machine.specs.History.{calling, next}
+use Rattle.machine.specs.Systems.{calling, next}
 use Rattle.machine.specs.Script as Script
 use Rattle.machine.proofs.Openings.{opening-settings, opening-short, opening-opens}
 use Rattle.machine.proofs.invariant.Tasks.{opened-good}

@@ -11,7 +11,7 @@ use Rattle.interface.specs.declared.Stepped.{Stepped}
 use Rattle.interface.specs.declared.Ran.{Ran}
 use Rattle.machine.specs.Records.{Machine}
 use Rattle.machine.specs.Steps.{step}
-use Rattle.machine.specs.History.{stepping, next}
+use Rattle.machine.specs.Systems.{stepping, next}
 use Rattle.machine.specs.Script as Script
 use Rattle.replies.specs.Printed.{printed, printedReply}
 use Rattle.turns.specs.Turns.{stepWords}

@@ -1,37 +1,34 @@
 -- Demand 2: along every list from an accepted opening the words mean the machine, and reply as it does. Rests on one entry's meaning and
 -- on a run as its steps.
 use Prim.Native.Nat.{ℕ}
-use native.Mathlib.Omega.{arith}
 use mathlib.Core.Path.{_≡_, refl, ap, sym, _∙_}
 use mathlib.Core.Bool.{Bool, true, false, _||_}
-use mathlib.Core.List.{List}
 use mathlib.Core.Option.{Option, none, some}
 use lib.Dec.{leb, ltb}
 use lib.ListN.{length}
 use lib.IntN.{ℤ}
 use borrow.Author.Tests.{leb-true, leb-false}
-use Rattle.interface.specs.Limits.{inRange, built}
+use Rattle.interface.specs.Limits.{inRange}
 use Rattle.interface.specs.declared.Settings.{Settings}
 use Rattle.interface.specs.declared.Answer.{Answer}
 use Rattle.interface.specs.declared.Refusal.{Refusal}
-use Rattle.interface.specs.declared.Built.{Built}
 use Rattle.interface.specs.declared.Called.{Called}
 use Rattle.interface.specs.declared.Stepped.{Stepped}
-use Rattle.interface.specs.declared.Opened.{Opened}
 use Rattle.fields.specs.Regions.{wordsNeeded}
 use Rattle.machine.specs.Sequential.{Table, Operation}
-use Rattle.machine.specs.Records.{Machine, opened}
+use Rattle.machine.specs.Records.{Machine}
 use Rattle.machine.specs.Steps.{access, perform, stepReply, done, stepOf, step}
-use Rattle.machine.specs.Calls.{settings, Opening, opens, refuses, openingOf, opening, operationOf, spent, callOf, call, Listing, lists}
+use Rattle.machine.specs.Calls.{settings, opening, operationOf, spent, callOf, call, Listing}
 use Rattle.machine.specs.Calls.{contents, listingOf, listing}
-use Rattle.machine.specs.History.{openedBy, machines, Entry, calling, stepping, showing, reopening, Replied, toCall, toStep, toListing}
-use Rattle.machine.specs.History.{toOpening, reply, refusalIn, entryAt}
+use Rattle.machine.specs.Systems.{openedBy, machines, Entry, calling, stepping, showing, reopening, toCall, toListing}
+use Rattle.machine.specs.Systems.{toOpening, reply}
+use Rattle.machine.specs.History.{refusalIn}
 use Rattle.machine.proofs.laws.Base.{no-both, if-elim}
-use Rattle.machine.proofs.Openings.{opening-settings, opening-short, opening-opens, step-stranger, step-idle, done-never}
+use Rattle.machine.proofs.Openings.{opening-settings, opening-short, opening-opens}
 use Rattle.opening.specs.Opening.{openWords}
-use Rattle.simulation.specs.LentWords.{shownAs, FromOpening}
-use Rattle.simulation.specs.Demand2.{refusalOf, wordsAt, machineAt, Simulates, Demand2}
-use Rattle.simulation.proofs.Represents.{shown-on, Represents, listing-alike, represents-at, alike-at, Start, started}
+use Rattle.simulation.specs.LentWords.{shownAs}
+use Rattle.simulation.specs.Demand2.{refusalOf, Demand2}
+use Rattle.simulation.proofs.Represents.{shown-on, listing-alike, represents-at, alike-at, started}
 use Rattle.simulation.proofs.runs.RunIterates.{run-iterates}
 
 -- ---- 8 is a matter of the memory: the machine never gives it

@@ -1,18 +1,18 @@
 -- Demand 3 for the calls: the words reply as the machine does, so that the machine's claim is theirs. Rests on demand 2's simulation and on
 -- demand 3 on the machine.
-use Prim.Native.Nat.{ℕ}
 use mathlib.Core.Path.{sym}
-use mathlib.Core.List.{List, []}
+use mathlib.Core.List.{[]}
 use lib.ListN.{length}
 use Rattle.machine.specs.Records.{opened}
 use Rattle.machine.specs.Calls.{settings}
-use Rattle.machine.specs.History.{Entry, machines, entryAt, OpensNothing, OpeningsRefused}
+use Rattle.machine.specs.Systems.{machines}
+use Rattle.machine.specs.History.{entryAt}
 use Rattle.machine.proofs.list.Transfer.{transfer}
 use Rattle.machine.proofs.Demand3.{demand3}
 use Rattle.opening.specs.Opening.{openWords}
-use Rattle.simulation.specs.LentWords.{lentWords, FromOpening}
+use Rattle.simulation.specs.LentWords.{lentWords}
 use Rattle.simulation.specs.Demand3ForCalls.{Demand3OnWords}
-use Rattle.simulation.proofs.Represents.{typed-at, listing-alike, represents-at, alike-at, refused-at, Start, started}
+use Rattle.simulation.proofs.Represents.{typed-at, listing-alike, represents-at, alike-at, refused-at, started}
 
 pub demand3-on-words : Demand3OnWords
 demand3-on-words l n b M es f =

@@ -1,6 +1,6 @@
 -- Lists with runs: each is the list with its runs replaced by their steps, and demand 3 holds of that.
 -- Rests on a run as steps and on demand 3 for the calls.
-use Prim.Native.Nat.{ℕ, zero, suc, _+_, _≤_, _<_}
+use Prim.Native.Nat.{ℕ, zero, suc, _+_, _<_}
 use native.Mathlib.Omega.{arith}
 use native.Mathlib.Nat.{zero-add, suc-add}
 use mathlib.Core.Path.{_≡_, refl, ap, sym, _∙_, subst⁻¹}
@@ -10,17 +10,16 @@ use lib.ListN.{length, take, replicate, length-append, List·getD-append}
 use lib.Seq.{getD-append-add}
 use Rattle.interface.specs.Limits.{inRange}
 use Rattle.interface.specs.declared.Settings.{Settings}
-use Rattle.machine.specs.Records.{Machine, opened}
-use Rattle.fields.specs.Regions.{wordsNeeded}
-use Rattle.machine.specs.Steps.{step}
+use Rattle.machine.specs.Records.{Machine}
 use Rattle.machine.specs.Calls.{settings}
-use Rattle.machine.specs.History.{Entry, stepping, next, entryAt, stateAt}
+use Rattle.machine.specs.Systems.{Entry, stepping, next}
+use Rattle.machine.specs.History.{entryAt, stateAt}
 use Rattle.turns.specs.Turns.{stepWords}
 use Rattle.opening.specs.Opening.{openWords}
 use Rattle.simulation.specs.LentWords.{lentWords}
 use Rattle.simulation.specs.Runs.{afterSteps, stepsTaken, Request, plain, running, left, leftByAll}
-use Rattle.simulation.specs.Runs.{entriesOf, spread, requestAt, LinearizableAsSteps, Demand3WithRuns}
-use Rattle.simulation.proofs.Represents.{Represents, represents-at, Start, started}
+use Rattle.simulation.specs.Runs.{entriesOf, spread, requestAt, Demand3WithRuns}
+use Rattle.simulation.proofs.Represents.{Represents, represents-at, started}
 use Rattle.simulation.proofs.Demand3ForCalls.{demand3-on-words}
 use Rattle.simulation.proofs.runs.RunIterates.{run-iterates}
 use Rattle.simulation.proofs.runs.RunSteps.{run-as-steps}

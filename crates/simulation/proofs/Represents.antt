@@ -1,9 +1,9 @@
 -- The calls on words that mean a machine are answered as the machine answers them, and leave words that mean the next machine; so along
 -- every list from an accepted opening. Rests on the meaning of opening, of a call, of a step and of the listing.
-use Prim.Native.Nat.{ℕ, zero, suc, _^_, _≤_, _<_}
+use Prim.Native.Nat.{ℕ, zero, suc, _^_, _<_}
 use native.Mathlib.Omega.{arith}
 use native.Mathlib.Decide.{decLt}
-use mathlib.Core.Path.{_≡_, refl, ap, sym, _∙_, subst, subst⁻¹}
+use mathlib.Core.Path.{_≡_, refl, ap, sym, _∙_, subst}
 use mathlib.Core.Bool.{Bool, true, false, _||_}
 use mathlib.Core.List.{List, [], _∷_}
 use lib.Dec.{ltb, leb}
@@ -25,8 +25,9 @@ use Rattle.machine.specs.Records.{Machine, newBucket, firstCells, opened}
 use Rattle.fields.specs.Regions.{wordsNeeded, startOf, worker}
 use Rattle.machine.specs.Steps.{step}
 use Rattle.machine.specs.Calls.{settings, Opening, opens, refuses, openingOf, opening, call, lists, declines, listingOf, listing}
-use Rattle.machine.specs.History.{openedBy, machines, Entry, calling, stepping, showing, reopening, toCall, toStep, toListing, toOpening, reply}
-use Rattle.machine.specs.History.{next, OpensNothing, entryAt, stateAt, OpeningsRefused}
+use Rattle.machine.specs.Systems.{openedBy, machines, Entry, calling, stepping, showing, reopening, toCall, toStep, toListing, toOpening}
+use Rattle.machine.specs.Systems.{reply, next, OpensNothing}
+use Rattle.machine.specs.History.{entryAt, stateAt, OpeningsRefused}
 use Rattle.machine.proofs.laws.Base.{if-ap}
 use Rattle.machine.proofs.Openings.{opening-opens, opening-range, opening-refused, call-stranger, step-stranger}
 use Rattle.machine.proofs.invariant.Tasks.{Good, opened-good, call-good, step-good}

@@ -1,6 +1,6 @@
 -- Demand 2: along every list from an accepted opening the words mean the machine after the same entries, and each call on
 -- them replies as the machine does. Rests on what words mean, on the lent words as a system, and on a run as steps.
-use Prim.Native.Nat.{ℕ, _≤_, _<_}
+use Prim.Native.Nat.{ℕ, _≤_}
 use mathlib.Core.Path.{_≡_}
 use mathlib.Core.List.{List, []}
 use mathlib.Core.Option.{Option, none, some}
@@ -10,10 +10,10 @@ use Rattle.interface.specs.declared.Settings.{Settings}
 use Rattle.interface.specs.declared.Refusal.{Refusal}
 use Rattle.interface.specs.declared.Opened.{Opened}
 use Rattle.interface.specs.declared.Called.{Called}
-use Rattle.interface.specs.declared.Ran.{Ran}
 use Rattle.machine.specs.Records.{Machine, opened}
 use Rattle.machine.specs.Calls.{settings, lists, declines, listing}
-use Rattle.machine.specs.History.{Entry, machines, Replied, toCall, toStep, toListing, toOpening, reply, refusalIn, stateAt}
+use Rattle.machine.specs.Systems.{Entry, machines, Replied, toCall, toStep, toListing, toOpening, reply}
+use Rattle.machine.specs.History.{refusalIn, stateAt}
 use Rattle.opening.specs.Opening.{openWords}
 use Rattle.runs.specs.Runs.{runWords}
 use Rattle.rows.specs.Rows.{listingWords}

@@ -3,7 +3,8 @@
 use Prim.Native.Nat.{ℕ}
 use mathlib.Core.List.{List, []}
 use Rattle.machine.specs.Calls.{settings}
-use Rattle.machine.specs.History.{Entry, Linearizable}
+use Rattle.machine.specs.Systems.{Entry}
+use Rattle.machine.specs.History.{Linearizable}
 use Rattle.opening.specs.Opening.{openWords}
 use Rattle.simulation.specs.LentWords.{lentWords, FromOpening}
 

@@ -12,7 +12,8 @@ use Rattle.interface.specs.declared.Opened.{Opened}
 use Rattle.interface.specs.declared.Listed.{Listed}
 use Rattle.machine.specs.Choice.{if_then_else_}
 use Rattle.machine.specs.Calls.{settings, Listing, lists, declines, listingOf}
-use Rattle.machine.specs.History.{System, Entry, calling, stepping, showing, reopening, OpeningsRefused}
+use Rattle.machine.specs.Systems.{System, Entry, calling, stepping, showing, reopening}
+use Rattle.machine.specs.History.{OpeningsRefused}
 use Rattle.lists.specs.Parts.{overlay}
 use Rattle.layout.specs.Shape.{strange, shapeOf}
 use Rattle.turns.specs.Turns.{stepWords}

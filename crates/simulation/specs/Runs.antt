@@ -1,6 +1,6 @@
 -- A run as steps: what `run` is by `step` alone, and lists of entries with runs, each run replaced by its steps.
 -- Rests on the definitions that the calls' contracts equal, and on the statement of demand 3.
-use Prim.Native.Nat.{ℕ, zero, suc, _+_, _≤_, _<_}
+use Prim.Native.Nat.{ℕ, zero, suc, _+_, _<_}
 use mathlib.Core.Path.{_≡_}
 use mathlib.Core.List.{List, [], _∷_, _++_}
 use lib.ListN.{length, getD, take, replicate}
@@ -8,7 +8,8 @@ use Rattle.interface.specs.declared.Settings.{Settings}
 use Rattle.interface.specs.declared.Stepped.{Stepped}
 use Rattle.interface.specs.declared.Ran.{Ran}
 use Rattle.machine.specs.Calls.{settings}
-use Rattle.machine.specs.History.{Entry, stepping, showing, next, entryAt, stateAt, Linearizable}
+use Rattle.machine.specs.Systems.{Entry, stepping, showing, next}
+use Rattle.machine.specs.History.{entryAt, stateAt, Linearizable}
 use Rattle.turns.specs.Turns.{stepWords}
 use Rattle.runs.specs.Runs.{runWords}
 use Rattle.opening.specs.Opening.{openWords}

@@ -22,7 +22,9 @@ use Rattle.machine.specs.Sequential.{Table, Operation, update, lookup}
 use Rattle.machine.specs.Records.{Cells, Worker, Machine}
 use Rattle.machine.specs.Steps.{Effect, step, done, stepReply}
 use Rattle.machine.specs.Calls.{opening, call, callOf, begun, operationOf, spent, ticketFor}
-use Rattle.machine.specs.History.{machines, Entry, calling, stepping, showing, reopening, OpensNothing, next, accepts, moves, stepsBy, Member}
+use Rattle.machine.specs.Systems.{machines, Entry, calling, stepping, showing, reopening, OpensNothing, next, accepts, moves}
+use Rattle.machine.specs.Systems.{stepsBy}
+use Rattle.machine.specs.History.{Member}
 use Rattle.machine.proofs.laws.Base.{no-both, if-elim, if-same, and-true, assign-at, assign-other}
 use Rattle.machine.proofs.Openings.{opening-refused, call-stranger, call-busy, idle-call, call-refused, step-stranger, step-idle, step-made, step-refused}
 use Rattle.machine.proofs.invariant.Counter.{counter-start}

@@ -22,9 +22,10 @@ use Rattle.machine.specs.Sequential.{Table, Operation, update, lookup}
 use Rattle.machine.specs.Records.{Reads, Worker, Machine}
 use Rattle.machine.specs.Steps.{access, perform, counted, stepReply, done, stepOf, step}
 use Rattle.machine.specs.Calls.{opening, operationOf, spent, ticketFor, begun, callOf, call}
-use Rattle.machine.specs.History.{machines, Entry, calling, stepping, showing, reopening, OpensNothing, next, asked, accepts}
-use Rattle.machine.specs.History.{isAnswer, callsTo, endsBy, isUpdate, idleReply, callReply, stepRefusal, refusalIn, entryAt}
-use Rattle.machine.specs.History.{stateAt, isCall, isEnd, OpeningsRefused, underWay, updatesMade, Ended}
+use Rattle.machine.specs.Systems.{machines, Entry, calling, stepping, showing, reopening, OpensNothing, next, asked, accepts}
+use Rattle.machine.specs.Systems.{isAnswer, callsTo, endsBy, isUpdate}
+use Rattle.machine.specs.History.{idleReply, callReply, stepRefusal, refusalIn, entryAt, stateAt, isCall, isEnd, OpeningsRefused}
+use Rattle.machine.specs.History.{underWay, updatesMade, Ended}
 use Rattle.machine.proofs.laws.Base.{no-both, none-some, if-elim, if-true, if-false, if-ap, and-true, and-parts, and-left-false, and-right-false, assign-at, assign-elim, neither-less}
 use Rattle.machine.proofs.Openings.{opening-refused, call-stranger, call-busy, idle-call, call-refused, step-stranger, step-idle, step-made}
 use Rattle.machine.proofs.list.Advance.{accepted-call, answerIn, answerTo, begun-other}

@@ -21,8 +21,9 @@ use Rattle.machine.specs.Sequential.{Table, Operation}
 use Rattle.machine.specs.Records.{Cells, Worker, Machine}
 use Rattle.machine.specs.Steps.{Effect, step, done, counted, stepReply}
 use Rattle.machine.specs.Calls.{opening, call, begun}
-use Rattle.machine.specs.History.{machines, Entry, calling, stepping, showing, reopening, OpensNothing, next, asked, accepts, moves, callsTo, stepsBy, entryAt}
-use Rattle.machine.specs.History.{stateAt, isCall, isStep, OpeningsRefused, stepsBetween, IsOperation, Ended}
+use Rattle.machine.specs.Systems.{machines, Entry, calling, stepping, showing, reopening, OpensNothing, next, asked, accepts, moves}
+use Rattle.machine.specs.Systems.{callsTo, stepsBy}
+use Rattle.machine.specs.History.{entryAt, stateAt, isCall, isStep, OpeningsRefused, stepsBetween, IsOperation, Ended}
 use Rattle.machine.proofs.laws.Base.{no-both, if-elim, if-true, if-false, and-true, and-left-false, and-right-false, assign-at, assign-other, neither-less, none-some}
 use Rattle.machine.proofs.Openings.{opening-refused, call-refused, step-refused}
 use Rattle.machine.proofs.invariant.StepTransitions.{effectOf}

@@ -22,7 +22,7 @@ use Rattle.machine.specs.Choice.{if_then_else_}
 use Rattle.machine.specs.Sequential.{Operation, update, lookup}
 use Rattle.machine.specs.Records.{Cells, Machine}
 use Rattle.machine.specs.Steps.{Effect, access, perform, counted, stepReply, done, step}
-use Rattle.machine.specs.History.{stepping, next}
+use Rattle.machine.specs.Systems.{stepping, next}
 use Rattle.machine.proofs.laws.Base.{lt-elim, if-eq, if-ne, assign-at}
 use Rattle.machine.proofs.Openings.{step-made, done-never}
 use Rattle.machine.proofs.invariant.Tasks.{update-under-way, lookup-under-way}
