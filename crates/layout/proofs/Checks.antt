@@ -1,11 +1,12 @@
--- Words that pass the checks behind 8 fit, and the first two checks of a call in their order. Rests on the header's definitions.
-use Prim.Native.Nat.{ℕ, _+_, _-_, _/_, _≤_, _<_}
+-- Words that pass the checks behind 8 fit, zeros never pass, and the first two checks of a call in their order. Rests on the header's
+-- definitions.
+use Prim.Native.Nat.{ℕ, zero, suc, _+_, _/_, _≤_, _<_}
 use native.Mathlib.Omega.{arith}
-use mathlib.Core.Path.{_≡_, refl, sym, _∙_}
-use mathlib.Core.Bool.{Bool, true, false, not, _||_}
-use mathlib.Core.List.{List}
+use mathlib.Core.Path.{_≡_, refl, ap, sym, _∙_}
+use mathlib.Core.Bool.{Bool, true, false, not, _||_, or-true}
+use mathlib.Core.List.{List, []}
 use lib.Dec.{ltb, leb, eqb}
-use lib.ListN.{length}
+use lib.ListN.{length, replicate}
 use borrow.Author.Tests.{ltb-false, le-leb, lt-leb}
 use Rattle.interface.specs.declared.Settings.{Settings}
 use Rattle.fields.specs.Fields.{headerSettings, headerNeeded, markUnit, mark, widestRecord}
@@ -34,6 +35,22 @@ fits-of l e =
       depth = omega arith;
       room = h;
     }
+
+-- ---- zeros
+
+-- words that begin with a zero, whatever their number, have no mark
+zero-strange : (l : List ℕ) → word l headerSettings ≡ 0 → strange l ≡ true
+unfolding strange
+zero-strange l e = ap test e ∙ simp or-true
+  where
+    test : ℕ → Bool
+    test x =
+        ltb (length l) leastWords || not (eqb (x / markUnit) mark) || ltb (length l) (word l headerNeeded)
+        || ltb (length l) (directoryStart (settingsOf x .workers) + widestRecord)
+
+pub zeros-strange : (k : ℕ) → strange (replicate k 0) ≡ true
+zeros-strange zero = zero-strange [] refl
+zeros-strange (suc k) = zero-strange (replicate (suc k) 0) refl
 
 -- ---- the first two checks of a step, a run and a call
 

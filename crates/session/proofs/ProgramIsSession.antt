@@ -12,7 +12,7 @@ use Rattle.lines.specs.Session.{told, sessionFrom, session}
 use Rattle.lines.proofs.Session.{session-of-01}
 use Rattle.texts.specs.Texts.{wordsOn, textsOn}
 use Rattle.texts.proofs.Parts.{commands-answered}
-use Rattle.simulation.proofs.OpeningMeans.{zeros-strange}
+use Rattle.layout.proofs.Checks.{zeros-strange}
 use Rattle.session.proofs.Same.{Same}
 use Rattle.session.specs.Program.{printedFor, ProgramIsSession}
 use Rattle.session.proofs.Lines.{said}

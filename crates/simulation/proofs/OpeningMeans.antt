@@ -1,13 +1,12 @@
--- Opening: its words mean the fresh machine; words that mean a machine are never strange, and zeros always are.
+-- Opening: its words mean the fresh machine; words that mean a machine are never strange.
 -- Rests on the layout and on the laws of runs of words.
 use Prim.Native.Nat.{ℕ, zero, suc, _+_, _-_, _*_, _/_, _%_, _^_, _≤_, _<_}
 use native.Mathlib.Omega.{arith}
 use native.Mathlib.Nat.{add-zero, zero-add, add-assoc, suc-mul, mul-le-mul-right, mul-le-mul}
 use lib.Pow.{pow-pos}
-use mathlib.Core.Path.{_≡_, refl, ap, sym, _∙_, subst}
-use mathlib.Core.Bool.{Bool, true, false, not, _||_, or-true}
+use mathlib.Core.Path.{_≡_, ap, sym, _∙_, subst}
+use mathlib.Core.Bool.{true, false}
 use mathlib.Core.List.{List, [], _∷_, _++_}
-use lib.Dec.{ltb, eqb}
 use lib.ListN.{length, getD, replicate, length-append, length-replicate, getD-replicate, List·getD-append}
 use lib.Seq.{getD-append-add}
 use borrow.Author.Tests.{eq-eqb, le-ltb}
@@ -47,20 +46,6 @@ rest-of x k r h e = omega arith
 
 product : (a b c d : ℕ) → a ≤ c → b ≤ d → a * b ≤ c * d
 product a b c d h k = mul-le-mul h k
-
--- words that begin with a zero, whatever their number, have no mark
-pub zero-strange : (l : List ℕ) → word l headerSettings ≡ 0 → strange l ≡ true
-unfolding strange
-zero-strange l e = ap test e ∙ simp or-true
-  where
-    test : ℕ → Bool
-    test x =
-        ltb (length l) leastWords || not (eqb (x / markUnit) mark) || ltb (length l) (word l headerNeeded)
-        || ltb (length l) (directoryStart (settingsOf x .workers) + widestRecord)
-
-pub zeros-strange : (k : ℕ) → strange (replicate k 0) ≡ true
-zeros-strange zero = zero-strange [] refl
-zeros-strange (suc k) = zero-strange (replicate (suc k) 0) refl
 
 module _ (s : Settings) (range : inRange (s .workers) (s .capacity) (s .depth) ≡ true) where
   limits : Range (s .workers) (s .capacity) (s .depth)
