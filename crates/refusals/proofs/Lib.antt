@@ -1,0 +1,4 @@
+-- The laws of checks in their order; on top demand 1, for the library's calls and for the C functions.
+pub mod Checking
+pub mod Demand1
+pub mod Demand1ForC
