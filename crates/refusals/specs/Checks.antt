@@ -12,6 +12,7 @@ use Rattle.interface.specs.Limits.{inRange, greatestTicket}
 use Rattle.interface.specs.Numbers.{kindNone, kindInsert, kindDelete, kindLookup}
 use Rattle.interface.specs.declared.Refusal.{Refusal}
 use Rattle.machine.specs.Choice.{if_then_else_}
+use Rattle.machine.specs.Calls.{settings}
 use Rattle.fields.specs.Fields.{workerKind, workerTicket}
 use Rattle.fields.specs.Regions.{workerAt, wordsNeeded}
 use Rattle.layout.specs.Shape.{word, strange, shapeOf}
@@ -29,7 +30,7 @@ check1 n b M = (not (inRange n b M), Refusal.Settings)
 
 -- "short: fewer words lent than needed"
 abbrev pub check2 : List ℕ → ℕ → ℕ → ℕ → Check
-check2 l n b M = (ltb (length l) (wordsNeeded (record { workers = n; capacity = b; depth = M })), Refusal.Short)
+check2 l n b M = (ltb (length l) (wordsNeeded (settings n b M)), Refusal.Short)
 
 -- "stranger: worker number is n or more (workers count from 0)"
 abbrev pub check3 : List ℕ → ℕ → Check
@@ -48,16 +49,16 @@ abbrev pub check5 : List ℕ → ℕ → Check
 check5 l w = (eqb (ownWord l w workerKind) kindNone, Refusal.Idle)
 
 -- "insert or delete"
-abbrev pub isUpdate : ℕ → Bool
-isUpdate kind = eqb kind kindInsert || eqb kind kindDelete
+abbrev pub isUpdateKind : ℕ → Bool
+isUpdateKind kind = eqb kind kindInsert || eqb kind kindDelete
 
 -- "kind: not 1 insert, 2 delete, 3 lookup"
 abbrev pub check6 : ℕ → Check
-check6 kind = (not (isUpdate kind || eqb kind kindLookup), Refusal.Kind)
+check6 kind = (not (isUpdateKind kind || eqb kind kindLookup), Refusal.Kind)
 
 -- "spent: insert or delete by a worker that has made 65,535 of them"
 abbrev pub check7 : List ℕ → ℕ → ℕ → Check
-check7 l w kind = (isUpdate kind && leb greatestTicket (ownWord l w workerTicket), Refusal.Spent)
+check7 l w kind = (isUpdateKind kind && leb greatestTicket (ownWord l w workerTicket), Refusal.Spent)
 
 -- "strange: memory fails the checks listed in docs/"
 abbrev pub check8 : List ℕ → Check
