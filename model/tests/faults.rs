@@ -1,5 +1,6 @@
-//! Each wrong machine is caught by the external statement, but for one that only a listing tells
-//! apart; each stored order is judged well on the true machine and gives the stored output.
+//! Each wrong machine is caught by the external statement, but for one, which the output of its
+//! stored order tells apart; each stored order is judged well on the true machine and gives the
+//! stored output.
 
 use model::explain::UNDECIDED;
 use model::fault::Fault;
@@ -18,8 +19,8 @@ use std::path::PathBuf;
 /// statement; their stored orders do.
 const NOT_BY_SEARCH: [Fault; 2] = [Fault::OneDirectoryRound, Fault::AnnounceApplies];
 
-/// The wrong machine of which the external statement holds: its listings too have their moments.
-/// Its stored order tells it apart by the output.
+/// The wrong machine of which no order is known that the external statement rejects: where it
+/// misses an update, a later moment is found for it. Its stored order tells it apart by the output.
 const NOT_BY_STATEMENT: [Fault; 1] = [Fault::SlotsBackwards];
 const SEED: u64 = 1;
 const BUDGET: u64 = 100_000;
@@ -150,12 +151,12 @@ fn an_announcement_that_applies_changes_two_cells_at_once() {
 }
 
 #[test]
-fn slots_read_backwards_show_in_a_listing_alone() {
+fn slots_read_backwards_show_in_a_listing() {
     for fault in NOT_BY_STATEMENT {
         let order = lines(fault.name());
         // Worker 1 announces between worker 0's two reads of slots, and is taken.
         assert!(output(fault.name(), Fault::None).ends_with("2147483649 90\nend 4\n"));
-        // Its slot was read before: it is not taken, and has its moment later.
+        // Read backwards, its slot comes too early: it is not taken, and has its moment later.
         assert!(output(fault.name(), fault).ends_with("2147483648 80\nend 3\n"));
         assert!(verdict(By::External, fault, &order).is_ok());
         let (_, failure) = search(By::External, fault, SEED, BUDGET);
