@@ -7,3 +7,4 @@ pub mod Copies
 pub mod Splitting
 pub mod Resolve
 pub mod Serving
+pub mod PlanBounds

@@ -1,13 +1,12 @@
 -- Laws of a step of an update: the phases of its plan, and each case of a check. Rests on the definition of such a step, and on the
 -- machine's plan.
 use Prim.Native.Nat.{ℕ, zero, suc, _+_, _≤_, _<_, _%_}
-use native.Mathlib.Omega.{arith}
 use mathlib.Core.Path.{_≡_, refl, sym, _∙_, ap, subst}
 use mathlib.Core.Logic.{_≢_}
 use mathlib.Core.Bool.{Bool, true, false}
-use mathlib.Core.List.{List, [], _∷_, _++_}
+use mathlib.Core.List.{List}
 use mathlib.Core.Option.{none, some}
-use lib.ListN.{length, getD, set}
+use lib.ListN.{length, set}
 use borrow.Author.Tests.{le-leb, lt-leb, eq-eqb, ne-eqb}
 use Rattle.interface.specs.Numbers.{kindNone, answerNumber, kindLookup}
 use Rattle.interface.specs.declared.Settings.{Settings}
@@ -16,8 +15,9 @@ use Rattle.interface.specs.declared.Answer.the-variants.{None, Crowded}
 use Rattle.interface.specs.declared.Stepped.{Stepped}
 use Rattle.fields.specs.Fields.{workerKind, workerTicket, workerSteps, widestRecord, stepsRange}
 use Rattle.machine.specs.Choice.{if_then_else_}
-use Rattle.machine.specs.Plan.{Phase, announce, readDirectory, flipToggle, readState, readToggle, swapState, checkState, copyDirectory, swapDirectory, readSlot, resizeFor, each, bucketRound, bucketPass, check, directoryRound, directoryPass, pass, plan, phase}
+use Rattle.machine.specs.Plan.{Phase, phase}
 use Rattle.machine.proofs.laws.Base.{if-true, if-false}
+use Rattle.machine.proofs.laws.PlanBounds.{Below, phase-below}
 use Rattle.phases.specs.declared.Phase as Code
 use Rattle.layout.specs.Shape.{word, Fits}
 use Rattle.layout.specs.Addresses.{heldBy}
@@ -31,58 +31,13 @@ use Rattle.lookups.specs.Lookups.{lookupAt}
 
 -- ---- the workers that a phase names are below n
 
-Below : ℕ → Phase → Type 0
-Below n (readSlot j) = j < n
-Below n (resizeFor j) = j < n
-Below n announce = Unit {0}
-Below n readDirectory = Unit {0}
-Below n flipToggle = Unit {0}
-Below n readState = Unit {0}
-Below n readToggle = Unit {0}
-Below n swapState = Unit {0}
-Below n checkState = Unit {0}
-Below n copyDirectory = Unit {0}
-Below n swapDirectory = Unit {0}
-
-module _ (n : ℕ) where
-  data All : List Phase → Type 0 where
-    nil : All []
-    cons : {x : Phase} {l : List Phase} → Below n x → All l → All (x ∷ l)
-
-  all-at : {l : List Phase} (i : ℕ) → All l → Below n (getD l i checkState)
-  unfolding Below
-  all-at i nil = tt
-  all-at zero (cons h a) = h
-  all-at (suc i) (cons h a) = all-at i a
-
-  all-append : {l m : List Phase} → All l → All m → All (l ++ m)
-  all-append nil b = b
-  all-append (cons h a) b = cons h (all-append a b)
-
-  all-each : (f : ℕ → Phase) → ((j : ℕ) → j < n → Below n (f j)) → (k : ℕ) → k ≤ n → All (each f k)
-  unfolding each
-  all-each f h zero m = nil
-  all-each f h (suc k) m = all-append (all-each f h k (omega arith)) (cons (h k (omega arith)) nil)
-
-  all-plan : All (plan n)
-  unfolding plan pass bucketPass bucketRound check directoryPass directoryRound Below
-  all-plan =
-      let slots = all-each readSlot (λ j h. h) n (omega arith) in
-      let sizes = all-each resizeFor (λ j h. h) n (omega arith) in
-      let bucket : All (bucketRound n) = cons tt (cons tt (all-append slots (cons tt nil))) in
-      let directory : All (directoryRound n) = cons tt (all-append (all-append slots sizes) (cons tt nil)) in
-      let twice : All check = cons tt (cons tt nil) in
-      let one : All (pass n) =
-      cons tt (all-append (all-append (all-append (cons tt (all-append bucket bucket)) twice) (all-append directory directory)) twice) in
-      cons tt (all-append one one)
-
 pub slot-below : (n k j : ℕ) (r : Code.Phase) → r ≡ Code.Phase.ReadSlot j → planned r ≡ phase n k → j < n
-unfolding phase planned Below
-slot-below n k j r h e = subst (λ (x : Phase). Below n x) (sym e ∙ ap planned h) (all-at n k (all-plan n))
+unfolding planned
+slot-below n k j r h e = subst (Below n) (sym e ∙ ap planned h) (phase-below n k)
 
 pub state-below : (n k j : ℕ) (r : Code.Phase) → r ≡ Code.Phase.StateStep j → planned r ≡ phase n k → j < n
-unfolding phase planned Below
-state-below n k j r h e = subst (λ (x : Phase). Below n x) (sym e ∙ ap planned h) (all-at n k (all-plan n))
+unfolding planned
+state-below n k j r h e = subst (Below n) (sym e ∙ ap planned h) (phase-below n k)
 
 -- ---- a step of an update
 

@@ -1,7 +1,7 @@
 -- Opening, a call, a step and a run keep the number of words, whatever the words are. Rests on the lengths of steps.
 use Prim.Native.Nat.{ℕ, zero, suc, _+_, _-_, _%_, _≤_, _<_}
 use native.Mathlib.Omega.{arith}
-use mathlib.Core.Path.{_≡_, refl, sym, _∙_}
+use mathlib.Core.Path.{_≡_, refl, sym, _∙_, subst⁻¹}
 use mathlib.Core.List.{List}
 use mathlib.Core.Option.{Option, none, some}
 use lib.Dec.{leb, eqb}
@@ -18,6 +18,7 @@ use Rattle.machine.specs.Plan.{Phase, announce, readDirectory, flipToggle, read
 use Rattle.fields.specs.Fields.{headerNumber, slotSize, workerKind, workerSteps, stepsRange, workerState, workerDirectory, recordNumber, widestRecord}
 use Rattle.fields.specs.Regions.{slotAt, workerAt, readAt, wordsNeeded}
 use Rattle.machine.proofs.laws.Base.{if-elim}
+use Rattle.machine.proofs.laws.PlanBounds.{Below, phase-below}
 use Rattle.rules.specs.Rules.{bit}
 use Rattle.lists.specs.Parts.{part, overlay}
 use Rattle.lists.proofs.PartLaws.{length-part, length-overlay}
@@ -27,8 +28,6 @@ use Rattle.layout.specs.Addresses.{heldBy, markedAt, bucketReadAt}
 use Rattle.layout.proofs.Checks.{fits-of}
 use Rattle.layout.proofs.Positions.{fits-kept, placed, held-inside}
 use Rattle.spares.proofs.PoolLaws.{whole-kept}
-use Rattle.phases.specs.declared.Phase as Code
-use Rattle.phases.specs.Phases.{planned}
 use Rattle.engine.specs.Engine.{slotReadAt, flippedAt, stateReadAt, toggleReadAt, directoryReadAt}
 use Rattle.swaps.specs.BucketSwap.{swappedAt}
 use Rattle.marks.specs.StateStep.{marks, stateStepAt}
@@ -43,7 +42,6 @@ use Rattle.calls.specs.Calls.{begunAt, callIn, callWords}
 use Rattle.opening.specs.Opening.{freshWords, openedWords, openWords}
 use Rattle.turns.specs.Turns.{stepIn, stepWords}
 use Rattle.runs.specs.Runs.{orElse, runIn, longestRun, runWords}
-use Rattle.updates.proofs.UpdateLaws.{slot-below}
 use Rattle.opening.proofs.FreshWords.{fresh-parts}
 
 -- as many words as before
@@ -111,14 +109,14 @@ module _ (l : List ℕ) (s : Settings) (w : ℕ) (f : Fits l s) (known : w < s .
   length-check k (some x) = length-ended k _
 
   length-update : (k n : ℕ) (x : Phase) → n ≡ s .workers → x ≡ phase n k → LongAfter l (updateAt l s p w k x)
-  unfolding updateAt bucketReadAt flippedAt stateReadAt toggleReadAt directoryReadAt stateStepAt planned
+  unfolding updateAt bucketReadAt flippedAt stateReadAt toggleReadAt directoryReadAt stateStepAt
   length-update k n announce g e = length-announced l s f w known
   length-update k n readDirectory g e = simp length-set
   length-update k n flipToggle g e = simp length-set
   length-update k n readState g e = simp length-set
   length-update k n readToggle g e = simp length-set
   length-update k n (readSlot j) g e =
-      let h : j < n = slot-below n k j (Code.Phase.ReadSlot j) refl e in length-slot-read j (omega arith)
+      let h : j < n = subst⁻¹ (Below n) e (phase-below n k) in length-slot-read j (omega arith)
   length-update k n swapState g e = length-swapped (heldBy l p) (held-inside f p)
   length-update k n checkState g e = length-check k _
   length-update k n copyDirectory g e = simp length-set
