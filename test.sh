@@ -1,7 +1,8 @@
 #!/usr/bin/env bash
 # All tests: the layout of the Rattle files; the proofs with their must-fail edits (rt ci), and beside them what needs
-# no proof, the second model's tests and those of the table's source made Rust; then, two at a time, the program and the
-# interfaces for C and Rust against the model, foreign memory, and the compiled libraries against their source as Rust.
+# none of these, the second model's tests, those of the table's source made Rust, and wrong definitions on a copy without
+# code; then, two at a time, the program and the interfaces for C and Rust against the model, foreign memory, and the
+# compiled libraries against their source as Rust.
 # What runs beside something else is shown when it has ended. rt proves and tries edits in batches of RT_JOBS and waits
 # for each batch: unless it is set, two for each processor, so that few of them idle at a batch's end. A check takes up
 # to 1 GB of memory.
@@ -52,10 +53,11 @@ crate() { cargo test --release --offline --no-fail-fast --manifest-path "$1/Carg
 
 benchmark() { tests/built.sh capi leaves && crate bench; }
 
-# what needs no proof
+# what needs no crate proved before
 beside_proofs() {
   run second-model crate model
   run source-as-rust crate tests/same
+  run definitions env RT_JOBS="$(nproc)" tests/definitions.sh --gate
 }
 
 of_program() { for script in compare spent edges; do run "$script" "tests/$script.sh"; done; }
@@ -69,7 +71,7 @@ rt ci 2>&1 | tee "$logs/proofs"
 echo "${PIPESTATUS[0]}" >"$logs/proofs.status"
 count proofs
 wait
-show second-model source-as-rust
+show second-model source-as-rust definitions
 
 run interfaces tests/interfaces.sh &
 of_program
