@@ -28,7 +28,7 @@ use Rattle.machine.specs.History.{stepsBetween, IsOperation, Ended, answ
 use Rattle.machine.proofs.laws.Base.{no-both, if-true, and-true, and-parts, none-some, neither-less}
 use Rattle.machine.proofs.laws.Copies.{Coherent, depthAt-le, leafOf-copyOf, partition-of}
 use Rattle.machine.proofs.Listing.{contents-is}
-use Rattle.machine.proofs.Openings.{opening-leaves, opening-range, opening-refused, step-made}
+use Rattle.machine.proofs.Openings.{opening-leaves, opening-refused, step-made}
 use Rattle.machine.specs.Tasks.{Task, leaf, tasksOf}
 use Rattle.machine.proofs.invariant.Inv.{leafBody}
 use Rattle.machine.proofs.invariant.Tasks.{Good, opened-good, call-good, step-good, update-under-way, lookup-under-way}
@@ -518,6 +518,7 @@ opened-unused j = refl
 
 pub demand3 : Demand3
 demand3 n b M lent s m e =
-    let q = opening-leaves n b M lent e in
-    let range = opening-range n b M lent e .0 in
-    rw (q .0, q .1) (λ es refused. linearizable (settings n b M) range lent opened [] es refused (opened-good (settings n b M) range) opened-idle opened-unused opened-parts)
+    let a = opening-leaves n b M lent e in
+    rw (a .with-settings, a .leaves) (λ es refused.
+    linearizable (settings n b M) (a .range) lent opened [] es refused (opened-good (settings n b M) (a .range)) opened-idle opened-unused
+    opened-parts)

@@ -29,7 +29,7 @@ use Rattle.machine.specs.Systems.{openedBy, machines, Entry, calling, stepping,
 use Rattle.machine.specs.Systems.{reply, next, OpensNothing}
 use Rattle.machine.specs.History.{entryAt, stateAt, OpeningsRefused}
 use Rattle.machine.proofs.laws.Base.{if-ap}
-use Rattle.machine.proofs.Openings.{opening-opens, opening-range, opening-refused, call-stranger, step-stranger}
+use Rattle.machine.proofs.Openings.{opening-opens, opening-leaves, opening-refused, call-stranger, step-stranger}
 use Rattle.machine.proofs.invariant.Tasks.{Good, opened-good, call-good, step-good}
 use Rattle.machine.proofs.moments.Explain.{Parts, serveAll}
 use Rattle.machine.proofs.list.Advance.{advance}
@@ -262,15 +262,15 @@ started l n b M e = go (opening n b M (length l)) refl
         let w : openWords l n b M .1 ≡ Opened.Refused r = ap (λ r. r .1) (open-alike l n b M ∙ ap (openedAs l) q) in
         absurd (let z : _≡_ {A = ℕ} 0 1 = cc in omega arith)
     go (opens s m) q =
-        let r = opening-range n b M (length l) q in
-        let f = opening-opens n b M (length l) (r .0) (r .1) in
+        let r = opening-leaves n b M (length l) q in
+        let f = opening-opens n b M (length l) (r .range) (r .enough) in
         let w : openWords l n b M .0 ≡ overlay l 0 (freshWords (settings n b M)) =
         ap (λ r. r .0) (open-alike l n b M ∙ ap (openedAs l) f) in
         record {
-          range = r .0;
+          range = r .range;
           represents = rw w (record {
-            means = opened-means (settings n b M) (r .0) l (r .1);
-            good = opened-good (settings n b M) (r .0);
+            means = opened-means (settings n b M) (r .range) l (r .enough);
+            good = opened-good (settings n b M) (r .range);
             table = [];
             parts = record { ascending = tt; part = λ a. refl };
           });
