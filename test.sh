@@ -9,6 +9,7 @@
 # The last line is 'N passed, M failed'; the exit status is 0 only if M is 0.
 set -u
 cd "$(dirname "$0")" || exit 2
+. tests/scratch.sh
 logs=$(mktemp -d) || exit 2
 trap 'kill $(jobs -p) 2>/dev/null; rm -rf "$logs"' EXIT
 export RT_JOBS=${RT_JOBS:-$(($(nproc) * 2))}

@@ -11,9 +11,7 @@ set -u
 cd "$(dirname "$0")/.." || exit 2
 edits=tests/definitions
 gate=(directory_read_keeps_the_depth number_that_alternates taken_into_a_full_bucket)
-# a check writes and removes a thousand small files: in memory, where there is room for them, it takes half the time
-memory=$(df --output=avail /dev/shm 2>/dev/null | tail -n 1)
-[ -n "${TMPDIR:-}" ] || [ "${memory:-0}" -lt 500000 ] || export TMPDIR=/dev/shm
+. tests/scratch.sh
 export RT_JOBS=${RT_JOBS:-$(($(nproc) * 2))}
 . tests/counts.sh
 copy=$run/copy
