@@ -1,8 +1,8 @@
 #!/usr/bin/env bash
 # All tests: the layout of the Rattle files; the proofs with their must-fail edits (rt ci), and beside them what needs
-# none of these, the second model's tests, those of the table's source made Rust, and wrong definitions on a copy without
-# code; then, two at a time, the program and the interfaces for C and Rust against the model, foreign memory, and the
-# compiled libraries against their source as Rust.
+# none of these, the second model's tests, those of the table's source made Rust, and wrong definitions on a copy
+# without code; then, two at a time, the program and the interfaces for C and Rust against the model, foreign memory,
+# and the compiled libraries against their source as Rust.
 # What runs beside something else is shown when it has ended. rt proves and tries edits in batches of RT_JOBS and waits
 # for each batch: unless it is set, two for each processor, so that few of them idle at a batch's end. A check takes up
 # to 1 GB of memory.
