@@ -86,9 +86,9 @@ same-answer e = cc
 
 -- ---- from a good machine whose workers are idle
 
-module _ (s : Settings) (range : inRange (s .workers) (s .capacity) (s .depth) ≡ true) (lent : ℕ) (m : Machine) (t : Table) (es : List Entry)
-    (refused : OpeningsRefused s (machines s lent) m t es) (good : Good s m) (idle : (j : ℕ) → m .workers j .operation ≡ none)
-    (unused : (j : ℕ) → m .workers j .last ≡ 0) (parts : Parts (m .cells) t) where
+module _ (s : Settings) (range : inRange (s .workers) (s .capacity) (s .depth) ≡ true) (lent : ℕ) (m : Machine) (t : Table)
+    (es : List Entry) (refused : OpeningsRefused s (machines s lent) m t es) (good : Good s m)
+    (idle : (j : ℕ) → m .workers j .operation ≡ none) (unused : (j : ℕ) → m .workers j .last ≡ 0) (parts : Parts (m .cells) t) where
   abbrev at : ℕ → Machine
   at i = stateAt s (machines s lent) m t es i
 
@@ -143,7 +143,8 @@ module _ (s : Settings) (range : inRange (s .workers) (s .capacity) (s .depth) �
 
   -- the operation that takes effect, and the call it came from
   effect-from :
-      (i j : ℕ) → Member j (adv i .effects) → (o : Operation) × (at i .workers j .operation ≡ some o) × From s lent m t es (lastCallAt i j) i j o
+      (i j : ℕ) → Member j (adv i .effects)
+      → (o : Operation) × (at i .workers j .operation ≡ some o) × From s lent m t es (lastCallAt i j) i j o
   effect-from i j h =
       let x = adv i .waiting j h .2 in
       (x .0, x .1, under-way s lent m t es refused idle i j (x .0) (omega (arith, effect-within i j h)) (x .1))
@@ -425,7 +426,8 @@ module _ (s : Settings) (range : inRange (s .workers) (s .capacity) (s .depth) �
   first-step x j a l e z = ap (λ (r : Machine × Stepped). r .1) (step-made s x j l e) ∙ rw z refl
 
   lookup-bound :
-      (c i j a : ℕ) → IsOperation s (machines s lent) m t es c j (lookup a) → c < i → i < length es → isStep s (machines s lent) m t es i j ≡ true
+      (c i j a : ℕ) → IsOperation s (machines s lent) m t es c j (lookup a) → c < i → i < length es
+      → isStep s (machines s lent) m t es i j ≡ true
       → stepsBetween s (machines s lent) m t es j c i ≡ 1
       → (r : Completion) × Ended s (machines s lent) m t es c i j (lookup a) r
   lookup-bound c i j a h l b st n = go (operation-status s lent m t es refused idle c j (lookup a) h (suc i) (omega arith) b)
@@ -448,7 +450,9 @@ module _ (s : Settings) (range : inRange (s .workers) (s .capacity) (s .depth) �
       same k r e p (yes q) = (r, subst (λ (x : ℕ). Ended s (machines s lent) m t es c x j (lookup a) r) q e)
       same k r e p (no d) = absurd (early k r (omega arith) e)
 
-      go : OperationStatus s lent m t es refused idle c (suc i) j (lookup a) → (r : Completion) × Ended s (machines s lent) m t es c i j (lookup a) r
+      go :
+          OperationStatus s lent m t es refused idle c (suc i) j (lookup a)
+          → (r : Completion) × Ended s (machines s lent) m t es c i j (lookup a) r
       go (answered-at k r p e q z) = same k r e p (ℕ-discrete k i)
       go (unanswered q v) =
           let few = lookup-under-way s range (at (suc i)) j a (step-worker i j st) (good-at (suc i)) q in

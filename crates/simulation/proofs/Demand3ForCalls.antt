@@ -20,7 +20,8 @@ demand3-on-words l n b M es f =
     let k = openWords l n b M .0 in
     let r = represents-at (settings n b M) (g .range) k es (g .represents) (f .typed) (f .refused) in
     transfer (settings n b M) (machines (settings n b M) (length k)) lentWords opened k [] es
-    (λ i. sym (alike-at (settings n b M) (g .range) k es (g .represents) (f .typed) (f .refused) i (entryAt es i) (typed-at es (f .typed) i)))
+    (λ i.
+    sym (alike-at (settings n b M) (g .range) k es (g .represents) (f .typed) (f .refused) i (entryAt es i) (typed-at es (f .typed) i)))
     (λ i x y h. listing-alike (settings n b M) (g .range) _ _ (r i) x y)
     (demand3 n b M (length k) (settings n b M) opened (g .opens) es
     (refused-at (settings n b M) (g .range) k es (g .represents) (f .typed) (f .refused)))

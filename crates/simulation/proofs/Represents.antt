@@ -165,7 +165,8 @@ module _ (s : Settings) (range : inRange (s .workers) (s .capacity) (s .depth) �
 
     -- a refused opening leaves the words and the machine
     words-kept : (n b M : ℕ) → OpensNothing lentWords l (reopening n b M) → openWords l n b M .0 ≡ l
-    words-kept n b M h = ap (λ r. r .0) (open-alike l n b M) ∙ go (opening n b M (length l)) (ap (λ r. r .1) (sym (open-alike l n b M)) ∙ h .1)
+    words-kept n b M h =
+        ap (λ r. r .0) (open-alike l n b M) ∙ go (opening n b M (length l)) (ap (λ r. r .1) (sym (open-alike l n b M)) ∙ h .1)
       where
         go : (o : Opening) {r : Refusal} → openedAs l o .1 ≡ Opened.Refused r → openedAs l o .0 ≡ l
         go (opens k f) e = absurd (let z : _≡_ {A = ℕ} 0 1 = cc in omega arith)

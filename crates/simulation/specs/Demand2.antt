@@ -1,5 +1,5 @@
--- Demand 2: along every list from an accepted opening the words mean the machine after the same entries, and each call on
--- them replies as the machine does. Rests on what words mean, on the lent words as a system, and on a run as steps.
+-- Demand 2: along every list from an accepted opening the words mean the machine after the same entries, and each call
+-- on them replies as the machine does. Rests on what words mean, on the lent words as a system, and on a run as steps.
 use Prim.Native.Nat.{ℕ, _≤_}
 use mathlib.Core.Path.{_≡_}
 use mathlib.Core.List.{List, []}
@@ -51,8 +51,8 @@ module _ (s : Settings) (l : List ℕ) (es : List Entry) where
     pub recognised :
         (i : ℕ) (e : Entry) → i ≤ length es → Typed e
         → refusalOf (reply lentWords (wordsAt i) e) ≡ some Refusal.Strange → ⊥
-    -- "the listing shows exactly the accounts in the current buckets": what it writes into two lists there, and answers,
-    -- is the machine's
+    -- "the listing shows exactly the accounts in the current buckets": what it writes into two lists there, and
+    -- answers, is the machine's
     pub listings :
         (i : ℕ) (accounts : List ℕ) (totals : List ℤ) → i ≤ length es
         → listingWords (wordsAt i) accounts totals

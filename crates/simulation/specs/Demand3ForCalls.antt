@@ -1,5 +1,5 @@
--- Demand 3 for the calls: every list from an accepted opening of lent words is linearizable. Rests on the lent words as a
--- system, and on the statement of demand 3.
+-- Demand 3 for the calls: every list from an accepted opening of lent words is linearizable. Rests on the lent words as
+-- a system, and on the statement of demand 3.
 use Prim.Native.Nat.{ℕ}
 use mathlib.Core.List.{List, []}
 use Rattle.machine.specs.Calls.{settings}

@@ -121,7 +121,9 @@ module _ (s : Settings) (lent : ℕ) (m : Machine) (j : ℕ) where
   TicketAfter : Entry → Machine → Type 0
   TicketAfter e m′ = m′ .workers j .last ≡ (if takes e then suc (m .workers j .last) else m .workers j .last)
 
-  untouched : (e : Entry) (m′ : Machine) → callsTo (machines s lent) m e j ≡ false → m′ .workers j .last ≡ m .workers j .last → TicketAfter e m′
+  untouched :
+      (e : Entry) (m′ : Machine) → callsTo (machines s lent) m e j ≡ false → m′ .workers j .last ≡ m .workers j .last
+      → TicketAfter e m′
   unfolding TicketAfter
   untouched e m′ f h = h ∙ sym (if-false _ _ (and-left-false _ f))
 
@@ -133,7 +135,8 @@ module _ (s : Settings) (lent : ℕ) (m : Machine) (j : ℕ) where
       e = calling i kind a v
 
       by : (r : Called) → call s m i kind a v .1 ≡ r → Dec (j ≡ i) → TicketAfter e (call s m i kind a v .0)
-      by (Called.Refused r) q d = untouched e (call s m i kind a v .0) (ap (λ (x : Called). eqb i j and accepts x) q ∙ and-right-false (eqb i j))
+      by (Called.Refused r) q d = untouched e (call s m i kind a v .0)
+          (ap (λ (x : Called). eqb i j and accepts x) q ∙ and-right-false (eqb i j))
           (ap (λ (x : Machine). x .workers j .last) (call-refused s m i kind a v q))
       by Called.Accepted q (no d) =
           let c = accepted-call s m i kind a v (ap accepts q) in
@@ -201,7 +204,8 @@ module _ (s : Settings) (lent : ℕ) (m : Machine) (t : Table) (es : List Entry)
   made-is unused zero j = sym (unused j)
   made-is unused (suc i) j =
       sym (next-last s lent _ j (entryAt es i) (refused i)
-      ∙ ap (λ (k : ℕ). if takes s lent (stateAt s (machines s lent) m t es i) j (entryAt es i) then suc k else k) (sym (made-is unused i j)))
+      ∙ ap (λ (k : ℕ). if takes s lent (stateAt s (machines s lent) m t es i) j (entryAt es i) then suc k else k)
+      (sym (made-is unused i j)))
 
   pub calls-at :
       ((j : ℕ) → m .workers j .last ≡ 0) → (i j kind a : ℕ) (v : ℤ)
@@ -221,14 +225,19 @@ module _ (s : Settings) (lent : ℕ) (m : Machine) (t : Table) (es : List Entry)
       → i ≡ k
   ends-once-at c i k j o q r e f = neither-less i k (λ l. earlier i k q r e f l) (λ l. earlier k i r q f e l)
     where
-      earlier : (i k : ℕ) (q r : Completion) → Ended s (machines s lent) m t es c i j o q → Ended s (machines s lent) m t es c k j o r → i < k → ⊥
+      earlier :
+          (i k : ℕ) (q r : Completion) → Ended s (machines s lent) m t es c i j o q
+          → Ended s (machines s lent) m t es c k j o r
+          → i < k → ⊥
       earlier i k q r e f l = none-some
           (stays-idle s lent m t es refused idle (suc i) k j l (left (at-next s lent m t es refused idle i j))
           (λ p a b. f .latest p (omega (arith, e .later)) b))
           (ended-last s lent m t es refused idle c k j o r f .0)
         where
           given : answerTo s (stateAt s (machines s lent) m t es i) (entryAt es i) j ≡ some (q .answer)
-          given = ap (λ (x : Entry). answerTo s (stateAt s (machines s lent) m t es i) x j) (e .entry) ∙ if-true _ _ (eq-eqb j j refl) ∙ ap answerIn (e .answered)
+          given =
+              ap (λ (x : Entry). answerTo s (stateAt s (machines s lent) m t es i) x j) (e .entry)
+              ∙ if-true _ _ (eq-eqb j j refl) ∙ ap answerIn (e .answered)
 
           left : Change i j → worker (suc i) j .operation ≡ none
           left (begins c b x z a) = absurd (none-some a given)

@@ -35,7 +35,8 @@ use Rattle.machine.proofs.list.Advance.{StepParts, accepted-step, accep
 pub data WorkerChange (s : Settings) (lent : ℕ) (m : Machine) (e : Entry) (j : ℕ) (w′ : Worker) : Type 0 where
   -- an accepted call to it
   begins :
-      callsTo (machines s lent) m e j ≡ true → m .workers j .operation ≡ none → w′ .operation ≡ asked e → w′ .steps ≡ 0 → answerTo s m e j ≡ none
+      callsTo (machines s lent) m e j ≡ true → m .workers j .operation ≡ none → w′ .operation ≡ asked e → w′ .steps ≡ 0
+      → answerTo s m e j ≡ none
       → WorkerChange s lent m e j w′
   -- an accepted step of it without an answer
   moves-on :
@@ -163,7 +164,9 @@ module _ (s : Settings) (lent : ℕ) (m : Machine) (t : Table) (es : List Entry)
   pub step-within : (i j : ℕ) → isStep s (machines s lent) m t es i j ≡ true → i < length es
   unfolding stepsBy entryAt
   step-within i j h = by-cases (decLt i (length es)) (λ l. l)
-      (λ l. absurd (no-both h (ap (λ (e : Entry). stepsBy (machines s lent) (at i) e j) (List·getD-eq-default es (showing 0 0) (omega arith)))))
+      (λ l.
+      absurd (no-both h
+      (ap (λ (e : Entry). stepsBy (machines s lent) (at i) e j) (List·getD-eq-default es (showing 0 0) (omega arith)))))
 
   -- the index of worker j's last accepted call before index i
   pub lastCall : ℕ → ℕ → ℕ
@@ -227,7 +230,8 @@ module _ (s : Settings) (lent : ℕ) (m : Machine) (t : Table) (es : List Entry)
   }
 
   from-next :
-      (c i j : ℕ) (o : Operation) → isCall s (machines s lent) m t es i j ≡ false → worker (suc i) j .steps ≡ count j c (suc i) → From c i j o
+      (c i j : ℕ) (o : Operation) → isCall s (machines s lent) m t es i j ≡ false → worker (suc i) j .steps ≡ count j c (suc i)
+      → From c i j o
       → From c (suc i) j o
   from-next c i j o f q u = record {
     called = u .called;
@@ -248,7 +252,8 @@ module _ (s : Settings) (lent : ℕ) (m : Machine) (t : Table) (es : List Entry)
     under-way (suc i) j o l e = go (under-way i j o (omega arith)) (at-next i j)
       where
         same :
-            isCall s (machines s lent) m t es i j ≡ false → worker (suc i) j .steps ≡ count j (lastCall i j) (suc i) → From (lastCall i j) i j o
+            isCall s (machines s lent) m t es i j ≡ false → worker (suc i) j .steps ≡ count j (lastCall i j) (suc i)
+            → From (lastCall i j) i j o
             → From (lastCall (suc i) j) (suc i) j o
         same f q u = subst (λ (c : ℕ). From c (suc i) j o) (sym (last-before i j f)) (from-next (lastCall i j) i j o f q u)
 
@@ -303,14 +308,17 @@ module _ (s : Settings) (lent : ℕ) (m : Machine) (t : Table) (es : List Entry)
         (λ d. operation-status-next c i j o (omega arith) (operation-status c j o h i (omega arith) (omega arith)))
 
     -- a worker without operation stays so until it is called
-    pub stays-idle : (k i j : ℕ) → k ≤ i → worker k j .operation ≡ none → ((p : ℕ) → k ≤ p → p < i → isCall s (machines s lent) m t es p j ≡ false)
+    pub stays-idle :
+        (k i j : ℕ) → k ≤ i → worker k j .operation ≡ none
+        → ((p : ℕ) → k ≤ p → p < i → isCall s (machines s lent) m t es p j ≡ false)
         → worker i j .operation ≡ none
     stays-idle k zero j l e h = subst (λ (p : ℕ). worker p j .operation ≡ none) (omega arith) e
     stays-idle k (suc i) j l e h = by-cases (ℕ-discrete k (suc i)) (λ x. subst (λ (p : ℕ). worker p j .operation ≡ none) x e)
         (λ d. next-idle (h i (omega arith) (omega arith)) (stays-idle k i j (omega arith) e (λ p a b. h p a (omega arith))) (at-next i j))
       where
         next-idle :
-            isCall s (machines s lent) m t es i j ≡ false → worker i j .operation ≡ none → WorkerChange s lent (at i) (entry i) j (worker (suc i) j)
+            isCall s (machines s lent) m t es i j ≡ false → worker i j .operation ≡ none
+            → WorkerChange s lent (at i) (entry i) j (worker (suc i) j)
             → worker (suc i) j .operation ≡ none
         next-idle f q (begins c b x z a) = absurd (no-both c f)
         next-idle f q (moves-on c st x z a) = x ∙ q
