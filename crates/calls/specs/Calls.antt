@@ -55,7 +55,9 @@ callWords l w kind a v =
 
 -- ---- the end of an operation
 
--- the operation of the worker at p ended, after k own steps before this one
-unfoldable pub endedAt : List ℕ → ℕ → ℕ → Answer → List ℕ × Stepped
-endedAt l p k a =
-    (set (set l (p + workerKind) kindNone) (p + workerSteps) 0, Stepped.Answered (record { answer = a; steps = k + 1 }))
+-- the operation of the worker at p ended, after k own steps before this one, at check c, 0 where it is no update
+unfoldable pub endedAt : List ℕ → ℕ → ℕ → ℕ → Answer → List ℕ × Stepped
+endedAt l p k c a = (
+  set (set l (p + workerKind) kindNone) (p + workerSteps) 0,
+  Stepped.Answered (record { answer = a; steps = k + 1; check = c }),
+)

@@ -3,7 +3,7 @@ ghost use mathlib.Core.Path.{_≡_};
 ghost use Prim.Native.Nat.{_+_, _≤_, _<_};
 ghost use lib.ListN.{length, set};
 ghost use Rattle.interface.specs.Numbers.{kindNone};
-ghost use Rattle.fields.specs.Fields.{workerKind, workerSteps, stepsRange, workerSlots};
+ghost use Rattle.fields.specs.Fields.{workerKind, workerSteps, workerSlots};
 ghost use Rattle.fields.specs.Regions.{workerAt};
 ghost use Rattle.layout.specs.Shape.{Fits};
 ghost use Rattle.calls.specs.Calls.{begunAt, callIn, callWords};
@@ -13,9 +13,7 @@ use fields::WORKER_KIND;
 use fields::WORKER_STEPS;
 use fields::WORKER_TICKET;
 use fields::WORKER_TOTAL;
-use interface::Answer;
 use interface::Called;
-use interface::Completion;
 use interface::GREATEST_KIND;
 use interface::GREATEST_TICKET;
 use interface::KIND_INSERT;
@@ -110,17 +108,6 @@ pub fn call(words: &mut [u64], worker: u64, kind: u64, account: u32, total: i64)
 }
 
 // ---- the end of an operation
-
-// An answer, with the own steps of its operation: k before this one.
-pub fn completed(answer: Answer, k: u64) -> Completion
-    requires { ⌜ k < stepsRange ⌝ }
-    ensures { λ r. ⌜ r ≡ record { answer = answer; steps = k + 1 } ⌝ }
-{
-    Completion {
-        answer,
-        steps: k + 1,
-    }
-}
 
 // The operation of the worker whose words are at p is over.
 pub fn finish(words: &mut [u64], p: usize)

@@ -36,7 +36,7 @@ module _ (l : List ℕ) (s : Settings) (q a c : ℕ) (p : Position) (size : c �
       rw (← size) (ap (foundAt l s q) (sym (found ∙ ap (λ (x : List ℕ). scan x a 0) read)))
 
 pub lookup-later :
-    (l : List ℕ) (s : Settings) (p k : ℕ) → k ≢ 0 → lookupAt l s p k ≡ endedAt l p k
+    (l : List ℕ) (s : Settings) (p k : ℕ) → k ≢ 0 → lookupAt l s p k ≡ endedAt l p k 0
     (lookedAt l s (heldBy l p) (word l (p + workerAccount)))
 unfolding lookupAt
 lookup-later l s p zero h = absurd (h refl)

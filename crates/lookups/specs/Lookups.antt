@@ -28,4 +28,4 @@ lookedAt l s q a =
 
 unfoldable pub lookupAt : List ℕ → Settings → ℕ → ℕ → List ℕ × Stepped
 lookupAt l s p zero = (bucketReadAt l s p, Stepped.Moved)
-lookupAt l s p (suc k) = endedAt l p (suc k) (lookedAt l s (heldBy l p) (word l (p + workerAccount)))
+lookupAt l s p (suc k) = endedAt l p (suc k) 0 (lookedAt l s (heldBy l p) (word l (p + workerAccount)))

@@ -7,8 +7,8 @@ ghost use Rattle.layout.specs.Shape.{Fits};
 ghost use Rattle.lookups.specs.Lookups.{lookedAt, lookupAt};
 use arrays::Position;
 use arrays::scan;
-use calls::completed;
 use calls::finish;
+use ends::completed;
 use fields::RECORD_ACCOUNTS;
 use fields::WORKER_ACCOUNT;
 use fields::WORKER_HELD;
@@ -18,6 +18,9 @@ use interface::Stepped;
 use layout::addresses::record_in;
 use layout::addresses::record_of;
 use layout::addresses::size;
+
+// What a lookup's end tells in place of a check.
+const NO_CHECK: u64 = 0;
 
 // What a lookup of an account in the record at q answers.
 fn look(words: &[u64], g: Settings, q: usize, account: u64) -> Answer
@@ -49,5 +52,5 @@ pub fn lookup_step(words: &mut [u64], g: Settings, p: usize, k: u64) -> Stepped
     let q = record_in(words, memory::get(words, p + WORKER_HELD));
     let answer = look(words, g, q, memory::get(words, p + WORKER_ACCOUNT));
     finish(words, p);
-    Stepped::Answered(completed(answer, k))
+    Stepped::Answered(completed(answer, k, NO_CHECK))
 }

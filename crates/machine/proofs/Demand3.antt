@@ -1,10 +1,10 @@
 -- Demand 3: every list of entries, from a machine whose workers are idle, is linearizable within its step bounds. The choice of moments:
 -- at each index the operations that take effect there, named by their calls. Rests on the advance of one entry and on a worker's calls.
-use Prim.Native.Nat.{ℕ, zero, suc, _+_, _*_, _≤_, _<_}
+use Prim.Native.Nat.{ℕ, zero, suc, _≤_, _<_}
 use native.Mathlib.Omega.{arith}
 use native.Mathlib.Decide.{ℕ-discrete}
 use mathlib.Core.Path.{_≡_, refl, sym, ap, _∙_, subst}
-use mathlib.Core.Logic.{inl, inr, by-cases}
+use mathlib.Core.Logic.{inl, inr}
 use mathlib.Core.Bool.{true, false}
 use mathlib.Core.List.{List, [], _∷_, map}
 use mathlib.Core.Option.{Option, none, some}
@@ -14,29 +14,28 @@ use Rattle.interface.specs.Limits.{inRange, Range}
 use Rattle.interface.proofs.Laws.{range-of}
 use Rattle.interface.specs.declared.Settings.{Settings}
 use Rattle.interface.specs.declared.Answer.{Answer}
-use Rattle.interface.specs.declared.Stepped.{Stepped}
 use Rattle.interface.specs.declared.Completion.{Completion}
-use Rattle.machine.specs.Sequential.{Table, firstBits, having, Operation, update, lookup, Update}
+use Rattle.machine.specs.Sequential.{Table, firstBits, having, Operation}
 use Rattle.machine.specs.Records.{Leaf, Worker, Machine, newBucket, firstCells, opened}
 use Rattle.machine.specs.DirectoryPass.{copyOf, nameOf}
-use Rattle.machine.specs.Steps.{directoryReading, lookupAccess, access, perform, stepReply, done, step}
-use Rattle.machine.specs.Calls.{settings, opening, listing, listingOf}
-use Rattle.machine.specs.Systems.{machines, Entry, calling, stepping, showing, reopening, OpensNothing, next, asked, moves, callsTo}
-use Rattle.machine.specs.Systems.{stepsBy}
-use Rattle.machine.specs.History.{StepsTold, Member, Distinct, serveIf, entryAt, stateAt, isCall, isStep, OpeningsRefused}
-use Rattle.machine.specs.History.{stepsBetween, IsOperation, Ended, answersTo, tableAfter, tableAt, Linearizable, Demand3}
-use Rattle.machine.proofs.laws.Base.{no-both, if-true, and-true, and-parts, none-some, neither-less}
+use Rattle.machine.specs.Steps.{step}
+use Rattle.machine.specs.Calls.{settings, listing, listingOf}
+use Rattle.machine.specs.Systems.{machines, Entry, calling, stepping, showing, reopening, next, asked, moves, callsTo}
+use Rattle.machine.specs.History.{Member, Distinct, serveIf, entryAt, stateAt, isCall, OpeningsRefused}
+use Rattle.machine.specs.History.{Ended, answersTo, tableAfter, tableAt, Linearizable, Demand3}
+use Rattle.machine.proofs.laws.Base.{no-both, if-true, and-parts, none-some, neither-less}
 use Rattle.machine.proofs.laws.Copies.{Coherent, depthAt-le, leafOf-copyOf, partition-of}
 use Rattle.machine.proofs.Listing.{contents-is}
-use Rattle.machine.proofs.Openings.{opening-leaves, opening-refused, step-made}
+use Rattle.machine.proofs.Openings.{opening-leaves}
 use Rattle.machine.specs.Tasks.{Task, leaf, tasksOf}
 use Rattle.machine.proofs.invariant.Inv.{leafBody}
-use Rattle.machine.proofs.invariant.Tasks.{Good, opened-good, call-good, step-good, update-under-way, lookup-under-way}
+use Rattle.machine.proofs.invariant.Tasks.{Good, opened-good}
 use Rattle.machine.proofs.moments.Explain.{Parts, status, outcome, serveAll, answersOf}
 use Rattle.machine.proofs.laws.Serving.{member-dec, member-answers}
 use Rattle.machine.proofs.list.Advance.{Advance, advance, answerIn, answerTo, accepted-step, ExplainedEntry, idle-status}
+use Rattle.machine.proofs.list.StepBounds.{good-at, steps-at, update-bound, lookup-bound, alone-bound, alone-told, steps-told}
 use Rattle.machine.proofs.list.Refusals.{calls-at, stepped-at, ends-once-at}
-use Rattle.machine.proofs.list.WorkerHistory.{WorkerChange, begins, moves-on, ends, no-change, step-within, at-next, lastCall, From, under-way, OperationStatus, unanswered, answered-at, operation-status, ended-last, count-step, count-le, last-here, last-before}
+use Rattle.machine.proofs.list.WorkerHistory.{WorkerChange, begins, moves-on, ends, no-change, step-within, at-next, lastCall, From, under-way, ended-last, last-here, last-before}
 
 -- ---- lists
 
@@ -76,11 +75,6 @@ module _ (s : Settings) (m : Machine) (t : Table) (es : List Entry) (tasks : ℕ
       inr (subst (λ (o : Option Operation). Member (f j, r) (answersTo s es (serveIf s o p .1) (map f js))) (sym (h i (inl refl)))
       (answers-serveAll js (serveIf s (tasks i .operation) p .1) (λ x y. h x (inr y)) j r k))
 
-stepsIn : Stepped → ℕ
-stepsIn Stepped.Moved = 0
-stepsIn (Stepped.Answered c) = c .steps
-stepsIn (Stepped.Refused r) = 0
-
 same-answer : {a b : Answer} → some a ≡ some b → a ≡ b
 same-answer e = cc
 
@@ -98,17 +92,8 @@ module _ (s : Settings) (range : inRange (s .workers) (s .capacity) (s .depth) �
   abbrev lastCallAt : ℕ → ℕ → ℕ
   lastCallAt i j = lastCall s lent m t es i j
 
-  next-good : (x : Machine) (e : Entry) → OpensNothing (machines s lent) x e → Good s x → Good s (next (machines s lent) x e)
-  unfolding next
-  next-good x (calling j kind a v) h g = call-good s range x j kind a v g
-  next-good x (stepping j) h g = step-good s range x j g
-  next-good x (showing a b) h g = g
-  next-good x (reopening n b M) h g = rw (opening-refused x (opening n b M lent) (h .1)) g
-
-  good-at : (i : ℕ) → Good s (at i)
-  unfolding stateAt
-  good-at zero = good
-  good-at (suc i) = next-good (at i) (entry i) (refused i) (good-at i)
+  abbrev goodAt : (i : ℕ) → Good s (at i)
+  goodAt = good-at s range lent m t es refused good idle
 
   -- the plain table before an index, and that the machine holds it
   record PlainTable (i : ℕ) : Type 0 where
@@ -119,11 +104,11 @@ module _ (s : Settings) (range : inRange (s .workers) (s .capacity) (s .depth) �
   unfolding stateAt
   plainTable zero = record { table = t; holds = parts }
   plainTable (suc i) =
-      let a = advance s range lent (at i) (plainTable i .table) (good-at i) (plainTable i .holds) (entry i) (refused i) .explained in
+      let a = advance s range lent (at i) (plainTable i .table) (goodAt i) (plainTable i .holds) (entry i) (refused i) .explained in
       record { table = serveAll s (tasksOf s (at i)) (plainTable i .table) (a .effects); holds = a .parts }
 
   entered : (i : ℕ) → Advance s lent (at i) (entry i) (plainTable i .table)
-  entered i = advance s range lent (at i) (plainTable i .table) (good-at i) (plainTable i .holds) (entry i) (refused i)
+  entered i = advance s range lent (at i) (plainTable i .table) (goodAt i) (plainTable i .holds) (entry i) (refused i)
 
   abbrev adv : (i : ℕ) → ExplainedEntry s lent (at i) (entry i) (plainTable i .table)
   adv i = entered i .explained
@@ -291,7 +276,7 @@ module _ (s : Settings) (range : inRange (s .workers) (s .capacity) (s .depth) �
       go h (begins c b q z a) =
           subst (λ (c : ℕ). MomentStatus c (suc i) j) (sym (last-here s lent m t es i j c)) (moment-new i j o (omega arith) jn c b a)
       go h (moves-on c st q z a) = same c (sym q ∙ e) a (h (sym q ∙ e))
-      go h (ends x a r c st q z) = absurd (none-some q e)
+      go h (ends x v a r c st q z) = absurd (none-some q e)
       go h (no-change c st q a) = let p = ap (λ (w : Worker). w .operation) (sym q) ∙ e in same c p a (h p)
 
   -- ---- the claim, part by part
@@ -315,11 +300,11 @@ module _ (s : Settings) (range : inRange (s .workers) (s .capacity) (s .depth) �
 
   -- the step that ends an operation gives the answer that the plain table gave
   module _ (c i j : ℕ) (o : Operation) (r : Completion) (e : Ended s (machines s lent) m t es c i j o r) where
-    last : (at i .workers j .operation ≡ some o) × (lastCallAt i j ≡ c) × From s lent m t es c i j o
-    last = ended-last s lent m t es refused idle c i j o r e
+    ended : (at i .workers j .operation ≡ some o) × (lastCallAt i j ≡ c) × From s lent m t es c i j o
+    ended = ended-last s lent m t es refused idle c i j o r e
 
-    known : j < s .workers
-    known = accepted-step s (at i) j (ap moves (e .answered)) .worker
+    worker : j < s .workers
+    worker = accepted-step s (at i) j (ap moves (e .answered)) .worker
 
     given : answerTo s (at i) (entry i) j ≡ some (r .answer)
     given = ap (λ (x : Entry). answerTo s (at i) x j) (e .entry) ∙ if-true _ _ (eq-eqb j j refl) ∙ ap answerIn (e .answered)
@@ -328,7 +313,7 @@ module _ (s : Settings) (range : inRange (s .workers) (s .capacity) (s .depth) �
     AnswerFound = (k : ℕ) × (k ≤ i) × Member (c, r .answer) (answersHere k)
 
     answer-at : AnswerFound
-    answer-at = subst (λ (x : ℕ). (k : ℕ) × (k ≤ i) × Member (x, r .answer) (answersHere k)) (last .1) (go (member-dec j (adv i .effects)))
+    answer-at = subst (λ (x : ℕ). (k : ℕ) × (k ≤ i) × Member (x, r .answer) (answersHere k)) (ended .1) (go (member-dec j (adv i .effects)))
       where
         go : Dec (Member j (adv i .effects)) → (k : ℕ) × (k ≤ i) × Member (lastCallAt i j, r .answer) (answersHere k)
         go (yes h) =
@@ -342,24 +327,9 @@ module _ (s : Settings) (range : inRange (s .workers) (s .capacity) (s .depth) �
             )
         go (no h) =
             let g : some (r .answer) ≡ statusHere i j = subst (λ (y : Option Answer). ending i j y ≡ statusHere i j) given
-            (adv i .others j known h) in
-            let x = moment-status i j o (omega (arith, e .inList)) known (last .0) .after (r .answer) (sym g) in
+            (adv i .others j worker h) in
+            let x = moment-status i j o (omega (arith, e .inList)) worker (ended .0) .after (r .answer) (sym g) in
             (x .0, omega (arith, x .1), x .2)
-
-    -- it comes with the operation's own steps
-    steps-at : r .steps ≡ suc (stepsBetween s (machines s lent) m t es j c i)
-    unfolding stepsIn
-    steps-at = go (at-next s lent m t es refused idle i j)
-      where
-        go : WorkerChange s lent (at i) (entry i) j (at (suc i) .workers j) → r .steps ≡ suc (stepsBetween s (machines s lent) m t es j c i)
-        go (begins f b q z a) = absurd (none-some a given)
-        go (moves-on f st q z a) = absurd (none-some a given)
-        go (no-change f st q a) = absurd (none-some a given)
-        go (ends a x q f st z y) = ap stepsIn (sym (e .answered) ∙ q) ∙ ap suc (last .2 .steps)
-
-    ended-step : isStep s (machines s lent) m t es i j ≡ true
-    unfolding stepsBy
-    ended-step = ap (λ (x : Entry). stepsBy (machines s lent) (at i) x j) (e .entry) ∙ and-true (eq-eqb j j refl) (ap moves (e .answered))
 
   -- ---- listings
 
@@ -374,7 +344,7 @@ module _ (s : Settings) (range : inRange (s .workers) (s .capacity) (s .depth) �
       limits = range-of (s .workers) (s .capacity) (s .depth) range
 
       coherent : Coherent (s .depth) (copyOf (at p .cells .directory .value))
-      coherent = good-at p .directory
+      coherent = goodAt p .directory
 
       prefix : (a : ℕ) → leaf (at p .cells) a .prefix ≡ firstBits (leaf (at p .cells) a .depth) a
       prefix a = sym (partition-of _ coherent .named a)
@@ -391,97 +361,6 @@ module _ (s : Settings) (range : inRange (s .workers) (s .capacity) (s .depth) �
           (plainTable p .table)
       part a = plainTable p .holds .part a ∙ ap (λ (q : ℕ). having (leaf (at p .cells) a .depth) q (plainTable p .table)) (sym (prefix a))
 
-  -- ---- step bounds
-
-  -- a step of worker j at an index, and then
-  step-worker : (i j : ℕ) → isStep s (machines s lent) m t es i j ≡ true → j < s .workers
-  unfolding stepsBy
-  step-worker i j = go (entry i)
-    where
-      go : (e : Entry) → stepsBy (machines s lent) (at i) e j ≡ true → j < s .workers
-      go (stepping k) h = let z = and-parts _ _ h in rw (← eqb-true k j (z .0)) (accepted-step s (at i) k (z .1) .worker)
-      go (calling k kind a v) h = absurd (no-both h refl)
-      go (showing x y) h = absurd (no-both h refl)
-      go (reopening n b M) h = absurd (no-both h refl)
-
-  update-bound :
-      (c i j : ℕ) (u : Update) → IsOperation s (machines s lent) m t es c j (update u) → c < i → i < length es
-      → isStep s (machines s lent) m t es i j ≡ true
-      → stepsBetween s (machines s lent) m t es j c i ≡ 12 * s .workers + 32
-      → (k : ℕ) × (k ≤ i) × ((r : Completion) × Ended s (machines s lent) m t es c k j (update u) r)
-  update-bound c i j u h l b st n = go (operation-status s lent m t es refused idle c j (update u) h (suc i) (omega arith) b)
-    where
-      go :
-          OperationStatus s lent m t es refused idle c (suc i) j (update u) → (k : ℕ) × (k ≤ i)
-          × ((r : Completion) × Ended s (machines s lent) m t es c k j (update u) r)
-      go (answered-at k r p e q z) = (k, omega arith, (r, e))
-      go (unanswered q v) =
-          let few = update-under-way s range (at (suc i)) j u (step-worker i j st) (good-at (suc i)) q in
-          absurd (omega (arith, few, v .steps, count-step s lent m t es j c i l st))
-
-  -- a lookup's first step gives no answer
-  first-step : (x : Machine) (j a : ℕ) → j < s .workers → x .workers j .operation ≡ some (lookup a) → x .workers j .steps ≡ 0
-      → step s x j .1 ≡ Stepped.Moved
-  unfolding done stepReply access lookupAccess directoryReading perform
-  first-step x j a l e z = ap (λ (r : Machine × Stepped). r .1) (step-made s x j l e) ∙ rw z refl
-
-  lookup-bound :
-      (c i j a : ℕ) → IsOperation s (machines s lent) m t es c j (lookup a) → c < i → i < length es
-      → isStep s (machines s lent) m t es i j ≡ true
-      → stepsBetween s (machines s lent) m t es j c i ≡ 1
-      → (r : Completion) × Ended s (machines s lent) m t es c i j (lookup a) r
-  lookup-bound c i j a h l b st n = go (operation-status s lent m t es refused idle c j (lookup a) h (suc i) (omega arith) b)
-    where
-      early : (k : ℕ) (r : Completion) → k < i → Ended s (machines s lent) m t es c k j (lookup a) r → ⊥
-      early k r p e =
-          let q = ended-last s lent m t es refused idle c k j (lookup a) r e in
-          let n′ : at k .workers j .steps ≡ 0 =
-          omega (
-            arith,
-            q .2 .steps,
-            count-step s lent m t es j c k (e .later) (ended-step c k j (lookup a) r e),
-            count-le s lent m t es j c (suc k) i p,
-          ) in
-          let w : Stepped.Moved ≡ Stepped.Answered r = sym (first-step (at k) j a (known c k j (lookup a) r e) (q .0) n′) ∙ e .answered in
-          let y : _≡_ {A = ℕ} 0 1 = cc in omega arith
-
-      same : (k : ℕ) (r : Completion) → Ended s (machines s lent) m t es c k j (lookup a) r → k < suc i → Dec (k ≡ i)
-          → (r : Completion) × Ended s (machines s lent) m t es c i j (lookup a) r
-      same k r e p (yes q) = (r, subst (λ (x : ℕ). Ended s (machines s lent) m t es c x j (lookup a) r) q e)
-      same k r e p (no d) = absurd (early k r (omega arith) e)
-
-      go :
-          OperationStatus s lent m t es refused idle c (suc i) j (lookup a)
-          → (r : Completion) × Ended s (machines s lent) m t es c i j (lookup a) r
-      go (answered-at k r p e q z) = same k r e p (ℕ-discrete k i)
-      go (unanswered q v) =
-          let few = lookup-under-way s range (at (suc i)) j a (step-worker i j st) (good-at (suc i)) q in
-          absurd (omega (arith, few, v .steps, count-step s lent m t es j c i l st))
-
-  -- a told step count: a lookup's is 2, an update's at most 12n+33
-  told : (c i j : ℕ) (o : Operation) (r : Completion) → Ended s (machines s lent) m t es c i j o r → StepsTold s o (r .steps)
-  told c i j o r e = by o (ended-last s lent m t es refused idle c i j o r e) e
-    where
-      by : (o : Operation) → (at i .workers j .operation ≡ some o) × (lastCallAt i j ≡ c) × From s lent m t es c i j o
-          → Ended s (machines s lent) m t es c i j o r → StepsTold s o (r .steps)
-      by (update u) l e =
-          omega (
-            arith,
-            steps-at c i j (update u) r e,
-            l .2 .steps,
-            update-under-way s range (at i) j u (known c i j (update u) r e) (good-at i) (l .0),
-          )
-      by (lookup a) l e =
-          let few = lookup-under-way s range (at i) j a (known c i j (lookup a) r e) (good-at i) (l .0) in
-          by-cases (ℕ-discrete (at i .workers j .steps) 0) (λ z. absurd (not-first z))
-          (λ d. omega (arith, steps-at c i j (lookup a) r e, l .2 .steps, few))
-        where
-          not-first : at i .workers j .steps ≡ 0 → ⊥
-          not-first z =
-              let w : Stepped.Moved ≡ Stepped.Answered r =
-              sym (first-step (at i) j a (known c i j (lookup a) r e) (l .0) z) ∙ e .answered in
-              let y : _≡_ {A = ℕ} 0 1 = cc in omega arith
-
   -- ---- the theorem, from any such machine
 
   pub linearizable : Linearizable s (machines s lent) m t es
@@ -496,10 +375,12 @@ module _ (s : Settings) (range : inRange (s .workers) (s .capacity) (s .depth) �
     distinct = distinct-at;
     answers = answer-at;
     listings = λ p x y l. listing-at p x y;
-    lookup-steps = lookup-bound;
-    update-steps = update-bound;
-    step-counts = steps-at;
-    told-steps = told;
+    lookup-steps = lookup-bound s range lent m t es refused good idle;
+    update-steps = update-bound s range lent m t es refused good idle;
+    step-counts = steps-at s range lent m t es refused good idle;
+    told-steps = steps-told s range lent m t es refused good idle;
+    alone = λ z c i j u r e. alone-told s range lent m t es refused good idle c i j u r e z;
+    alone-steps = alone-bound s range lent m t es refused good idle;
     ends-once = ends-once-at s lent m t es refused idle;
     calls = λ i j kind a v l e. calls-at s lent m t es refused idle unused i j kind a v;
     steps = λ i j l e. stepped-at s lent m t es refused idle i j;

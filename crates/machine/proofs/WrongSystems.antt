@@ -1,27 +1,31 @@
 -- Systems for which the statement of demand 3 is proved to fail: one that refuses everything, one that answers an update twice, one
--- whose refused opening empties the table. Rests on the statement alone; a list of entries tells each of them apart, by computing.
-use Prim.Native.Nat.{ℕ, zero, suc}
+-- that tells no check, one whose refused opening empties the table. Rests on the statement alone; a list of entries tells each of them
+-- apart, by computing.
+use Prim.Native.Nat.{ℕ, zero, suc, _<_}
 use native.Mathlib.Omega.{arith}
 use mathlib.Core.Path.{_≡_, refl}
 use mathlib.Core.Logic.{inl}
+use mathlib.Core.Bool.{false}
 use mathlib.Core.List.{List, [], _∷_, _++_}
 use mathlib.Core.Option.{Option, none, some}
 use lib.IntN.{pos}
-use lib.ListN.{replicate}
+use lib.ListN.{getD, replicate}
 use Rattle.interface.specs.Numbers.{kindInsert}
 use Rattle.interface.specs.declared.Settings.{Settings}
+use Rattle.interface.specs.declared.Answer.the-variants.{Added}
 use Rattle.interface.specs.declared.Refusal.{Refusal}
 use Rattle.interface.specs.declared.Called.{Called}
 use Rattle.interface.specs.declared.Stepped.{Stepped}
 use Rattle.interface.specs.declared.Completion.{Completion}
 use Rattle.machine.specs.Computing.{computing}
+use Rattle.machine.specs.Sequential.{update, insert}
 use Rattle.machine.specs.Records.{Machine, opened}
 use Rattle.machine.specs.Steps.{step}
 use Rattle.machine.specs.Calls.{settings, call, lists, listing, listingOf}
-use Rattle.machine.specs.Systems.{System, Entry, calling, stepping, reopening, machines, openedBy, next, OpensNothing, callsTo}
-use Rattle.machine.specs.Systems.{stepsBy, endsBy}
+use Rattle.machine.specs.Systems.{System, Entry, calling, stepping, showing, reopening, machines, openedBy, next, OpensNothing, callsTo}
+use Rattle.machine.specs.Systems.{asked, stepsBy, endsBy}
 use Rattle.machine.specs.History.{idleReply, callReply, stepRefusal, refusalIn, entryAt, stateAt, underWay, updatesMade, tableAfter}
-use Rattle.machine.specs.History.{tableAt, Linearizable, AlwaysLinearizable}
+use Rattle.machine.specs.History.{Tariff, firstCheck, secondCheck, thirdCheck, fourthCheck, isCall, tableAt, Linearizable, AlwaysLinearizable}
 use Rattle.machine.proofs.laws.Base.{no-both}
 
 -- one worker, buckets of 2, depth 0, and so many words lent
@@ -80,7 +84,7 @@ repeated last (m, Stepped.Moved) = ((m, none), Stepped.Moved)
 repeated last (m, Stepped.Answered c) = ((m, some c), Stepped.Answered c)
 repeated none (m, Stepped.Refused r) = ((m, none), Stepped.Refused r)
 repeated (some c) (m, Stepped.Refused r) =
-    ((m, none), Stepped.Answered (record { answer = c .answer; steps = suc (c .steps) }))
+    ((m, none), Stepped.Answered (record { answer = c .answer; steps = suc (c .steps); check = c .check }))
 
 abbrev answering-twice : System
 answering-twice = record {
@@ -99,6 +103,55 @@ answering-twice-fails h =
     let l = h es (λ i. opens-nothing answering-twice es (λ m. tt, steps-open-nothing answering-twice 14 [] tt) _ i) in
     let wrong : none ≡ some Refusal.Idle = l .steps 14 0 (omega arith) refl in
     let z : _≡_ {A = ℕ} 0 1 = cc in omega arith
+
+-- ---- one that tells no check
+
+abbrev untold : Machine × Stepped → Machine × Stepped
+untold (m, Stepped.Moved) = (m, Stepped.Moved)
+untold (m, Stepped.Answered c) = (m, Stepped.Answered (record { answer = c .answer; steps = c .steps; check = 0 }))
+untold (m, Stepped.Refused r) = (m, Stepped.Refused r)
+
+abbrev telling-no-check : System
+telling-no-check = record {
+  State = Machine;
+  opening = machines small lent .opening;
+  call = call small;
+  step = λ m j. untold (step small m j);
+  listing = listing;
+}
+
+steps-call-nobody : (x : System) (m : x .State) (k i j : ℕ) → callsTo x m (getD (replicate k (stepping 0)) i (showing 0 0)) j ≡ false
+unfolding callsTo
+steps-call-nobody x m zero i j = refl
+steps-call-nobody x m (suc k) zero j = refl
+steps-call-nobody x m (suc k) (suc i) j = steps-call-nobody x m k i j
+
+no-such-check : (n k : ℕ) → Tariff n 0 k → ⊥
+no-such-check n k (firstCheck e f) = omega arith
+no-such-check n k (secondCheck e f) = omega arith
+no-such-check n k (thirdCheck e f) = omega arith
+no-such-check n k (fourthCheck e f) = omega arith
+
+-- the insert is answered at its step 13, as by check 0
+pub telling-no-check-fails : AlwaysLinearizable small telling-no-check opened → ⊥
+unfolding computing stateAt next entryAt callsTo asked
+telling-no-check-fails h =
+    let es : List Entry = inserting 13 in
+    let l = h es (λ i. opens-nothing telling-no-check es (λ m. tt, steps-open-nothing telling-no-check 13 [] tt) _ i) in
+    no-such-check 1 13
+    (l .told-steps 0 13 0 (update (insert 5 (pos 7))) (record { answer = Added; steps = 13; check = 0 })
+    (record {
+      called = record { inList = omega arith; accepted = refl; operation = refl };
+      later = omega arith;
+      inList = omega arith;
+      entry = refl;
+      answered = refl;
+      latest = latest;
+    }))
+  where
+    latest : (k : ℕ) → 0 < k → k < 13 → isCall small telling-no-check opened [] (inserting 13) k 0 ≡ false
+    latest zero a b = absurd (omega arith)
+    latest (suc k) a b = steps-call-nobody telling-no-check _ 13 k 0
 
 -- ---- one whose refused opening empties the table
 

@@ -7,4 +7,6 @@ pub mod Copies
 pub mod Splitting
 pub mod Resolve
 pub mod Serving
+pub mod PlanParts
 pub mod PlanBounds
+pub mod PlanChecks

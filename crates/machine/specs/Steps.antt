@@ -14,7 +14,7 @@ use Rattle.machine.specs.Sequential.{Update, Operation, update, lookup, 
 use Rattle.machine.specs.Records.{Name, same, Body, State, Stamped, Bucket, Directory, bucketOf, Leaf, kept, made, Copy, Slot, empty, announced, Cells, Reads, Worker, Machine, newBucket}
 use Rattle.machine.specs.BucketPass.{nextState, checked}
 use Rattle.machine.specs.DirectoryPass.{copyOf, leafOf, resize, directoryOf, bodyMade}
-use Rattle.machine.specs.Plan.{Phase, announce, readDirectory, flipToggle, readState, readToggle, swapState, checkState, copyDirectory, swapDirectory, readSlot, resizeFor, phase}
+use Rattle.machine.specs.Plan.{Phase, announce, readDirectory, flipToggle, readState, readToggle, swapState, checkState, copyDirectory, swapDirectory, readSlot, resizeFor, phase, checkNumber}
 
 -- ---- what a step does with the one cell it touches
 
@@ -205,21 +205,28 @@ unfoldable pub counted : Worker → Reads → Option Answer → Worker
 counted w r none = record { last = w .last; operation = w .operation; steps = suc (w .steps); reads = r }
 counted w r (some a) = record { last = w .last; operation = none; steps = 0; reads = r }
 
-unfoldable pub stepReply : ℕ → Option Answer → Stepped
-stepReply k none = Stepped.Moved
-stepReply k (some a) = Stepped.Answered (record { answer = a; steps = k })
+-- "the step that answers it returns which, as 1 to 4, and 0 with any other operation's answer" (02, No. 4)
+unfoldable pub checkOf : Settings → Worker → Operation → ℕ
+checkOf s w (update u) = checkNumber (s .workers) (w .steps)
+checkOf s w (lookup a) = 0
 
-unfoldable pub done : Machine → ℕ → Effect Cells → Machine × Stepped
-done m j e =
+-- after k steps, this one included, which is check c
+unfoldable pub stepReply : ℕ → ℕ → Option Answer → Stepped
+stepReply k c none = Stepped.Moved
+stepReply k c (some a) = Stepped.Answered (record { answer = a; steps = k; check = c })
+
+unfoldable pub done : Machine → ℕ → ℕ → Effect Cells → Machine × Stepped
+done m j c e =
     let w : Worker = m .workers j in (
       record { cells = e .contents; workers = assign (m .workers) j (counted w (e .reads) (e .answer)) },
-      stepReply (suc (w .steps)) (e .answer),
+      stepReply (suc (w .steps)) c (e .answer),
     )
 
 -- a worker without operation is idle
 unfoldable pub stepOf : Settings → Machine → ℕ → Option Operation → Machine × Stepped
 stepOf s m j none = (m, Stepped.Refused Refusal.Idle)
-stepOf s m j (some o) = done m j (perform (access s j (m .workers j) o) (m .cells))
+stepOf s m j (some o) =
+    let w : Worker = m .workers j in done m j (checkOf s w o) (perform (access s j w o) (m .cells))
 
 -- "A step checks 8, 3, 5": the machine and what worker j is answered. 8 is a matter of the memory.
 unfoldable pub step : Settings → Machine → ℕ → Machine × Stepped

@@ -9,7 +9,7 @@ use Rattle.interface.specs.declared.Called.{Called}
 use Rattle.interface.specs.declared.Stepped.{Stepped}
 use Rattle.interface.specs.declared.Ran.{Ran}
 use Rattle.interface.specs.declared.Listed.{Listed}
-use Rattle.report.specs.Report.{endedNumber, told, endedReport}
+use Rattle.report.specs.Report.{endedNumber, told, toldThree, endedReport}
 
 -- ---- numbers
 
@@ -49,7 +49,7 @@ steppedReport report (Stepped.Refused r) = report
 
 -- the steps given, where the operation goes on
 unfoldable pub ranReport : List ℕ → Ran → List ℕ
-ranReport report (Ran.Moved k) = told report (k ∷ 0 ∷ [])
+ranReport report (Ran.Moved k) = toldThree report k 0 0
 ranReport report (Ran.Answered c) = endedReport report c
 ranReport report (Ran.Refused r) = report
 

@@ -57,7 +57,7 @@ pub fn ran_number(report: &mut [u64], answer: Ran) -> u64
 {
     match answer {
         Ran::Moved(k) => {
-            tell(report, k, 0);
+            tell(report, k, 0, 0);
             0
         }
         Ran::Answered(c) => ended(report, c),

@@ -12,6 +12,7 @@ use lib.Seq.{getD-append-add, getD-at}
 use borrow.Author.Tests.{leb-true, leb-false}
 use Rattle.machine.specs.Choice.{if_then_else_}
 use Rattle.machine.proofs.laws.Base.{if-elim}
+use Rattle.machine.proofs.laws.PlanParts.{length-each, length-bucket, length-directory, buckets-first, check-first, directories-first, length-pass}
 use Rattle.machine.specs.Plan.{Phase, announce, readDirectory, flipToggle, readState, readToggle, swapState, checkState, copyDirectory, swapDirectory, readSlot, resizeFor, each, bucketRound, bucketPass, check, directoryRound, directoryPass, pass, plan, phase}
 
 -- ---- a position in a list of parts
@@ -45,11 +46,6 @@ reduced-below n k r f h =
 
 -- ---- a step for each worker
 
-length-each : (f : ℕ → Phase) (n : ℕ) → length (each f n) ≡ n
-unfolding each
-length-each f zero = refl
-length-each f (suc n) = let h = length-each f n in simp length-append (omega arith)
-
 at-each : (f : ℕ → Phase) (n i : ℕ) → i < n → at (each f n) i ≡ f i
 unfolding each
 at-each f zero i h = absurd (omega arith)
@@ -67,10 +63,6 @@ check-end (suc (suc k)) h = refl
 
 module _ (n : ℕ) where
   -- ---- the bucket pass
-
-  length-bucket : length (bucketRound n) ≡ n + 3
-  unfolding bucketRound
-  length-bucket = let h = length-each readSlot n in simp length-append (omega arith)
 
   module _ (i : ℕ) where
     pub bucket-state : i < 1 → at (bucketRound n) i ≡ readState
@@ -106,17 +98,9 @@ module _ (n : ℕ) where
       (r i : ℕ) → 1 ≤ r → i ≡ (if leb (n + 3) (r - 1) then r - 1 - (n + 3) else r - 1) → at (bucketPass n) r ≡ at (bucketRound n) i
   unfolding bucketPass
   bucket-round r i h e =
-      at-later flipToggle (bucketRound n ++ bucketRound n) r h ∙ at-twice (bucketRound n) (n + 3) (r - 1) i length-bucket e
-
-  length-buckets : length (bucketPass n) ≡ 2 * n + 7
-  unfolding bucketPass
-  length-buckets = let h = length-bucket in simp length-append (omega arith)
+      at-later flipToggle (bucketRound n ++ bucketRound n) r h ∙ at-twice (bucketRound n) (n + 3) (r - 1) i (length-bucket n) e
 
   -- ---- the directory pass
-
-  length-directory : length (directoryRound n) ≡ 2 * n + 2
-  unfolding directoryRound
-  length-directory = let h = length-each readSlot n in let k = length-each resizeFor n in simp length-append (omega arith)
 
   slots-first : length (copyDirectory ∷ each readSlot n) ≡ n + 1
   slots-first = let h = length-each readSlot n in omega arith
@@ -152,28 +136,9 @@ module _ (n : ℕ) where
   pub directory-round :
       (r i : ℕ) → i ≡ (if leb (2 * n + 2) r then r - (2 * n + 2) else r) → at (directoryPass n) r ≡ at (directoryRound n) i
   unfolding directoryPass
-  directory-round r i e = at-twice (directoryRound n) (2 * n + 2) r i length-directory e
-
-  length-directories : length (directoryPass n) ≡ 4 * n + 4
-  unfolding directoryPass
-  length-directories = let h = length-directory in simp length-append (omega arith)
+  directory-round r i e = at-twice (directoryRound n) (2 * n + 2) r i (length-directory n) e
 
   -- ---- a pass
-
-  buckets-first : length (readDirectory ∷ bucketPass n) ≡ 2 * n + 8
-  buckets-first = let h = length-buckets in omega arith
-
-  check-first : length (readDirectory ∷ bucketPass n ++ check) ≡ 2 * n + 10
-  unfolding check
-  check-first = let h = length-buckets in simp length-append (omega arith)
-
-  directories-first : length (readDirectory ∷ bucketPass n ++ check ++ directoryPass n) ≡ 6 * n + 14
-  unfolding check
-  directories-first = let h = length-buckets in let k = length-directories in simp length-append (omega arith)
-
-  pub length-pass : length (pass n) ≡ 6 * n + 16
-  unfolding pass check
-  length-pass = let h = length-buckets in let k = length-directories in simp length-append (omega arith)
 
   module _ (r : ℕ) where
     pub pass-first : r < 1 → at (pass n) r ≡ readDirectory
@@ -182,18 +147,19 @@ module _ (n : ℕ) where
 
     in-front : r < 6 * n + 14 → at (pass n) r ≡ at (readDirectory ∷ bucketPass n ++ check ++ directoryPass n) r
     unfolding pass
-    in-front h = at-front (readDirectory ∷ bucketPass n ++ check ++ directoryPass n) check (6 * n + 14) r directories-first h
+    in-front h = at-front (readDirectory ∷ bucketPass n ++ check ++ directoryPass n) check (6 * n + 14) r (directories-first n) h
 
     in-bucket : r < 2 * n + 10 → at (pass n) r ≡ at (readDirectory ∷ bucketPass n ++ check) r
-    in-bucket h = in-front (omega arith) ∙ at-front (readDirectory ∷ bucketPass n ++ check) (directoryPass n) (2 * n + 10) r check-first h
+    in-bucket h =
+        in-front (omega arith) ∙ at-front (readDirectory ∷ bucketPass n ++ check) (directoryPass n) (2 * n + 10) r (check-first n) h
 
     pub pass-bucket : 1 ≤ r → r < 2 * n + 8 → at (pass n) r ≡ at (bucketPass n) (r - 1)
     pass-bucket h k =
-        in-bucket (omega arith) ∙ at-front (readDirectory ∷ bucketPass n) check (2 * n + 8) r buckets-first k
+        in-bucket (omega arith) ∙ at-front (readDirectory ∷ bucketPass n) check (2 * n + 8) r (buckets-first n) k
         ∙ at-later readDirectory (bucketPass n) r h
 
     first-check : 2 * n + 8 ≤ r → r < 2 * n + 10 → at (pass n) r ≡ at check (r - (2 * n + 8))
-    first-check h k = in-bucket k ∙ at-behind (readDirectory ∷ bucketPass n) check (2 * n + 8) r buckets-first h
+    first-check h k = in-bucket k ∙ at-behind (readDirectory ∷ bucketPass n) check (2 * n + 8) r (buckets-first n) h
 
     pub pass-look : 2 * n + 8 ≤ r → r < 2 * n + 9 → at (pass n) r ≡ readDirectory
     unfolding check
@@ -204,11 +170,11 @@ module _ (n : ℕ) where
     pass-check h k = let e : r - (2 * n + 8) ≡ 1 = omega arith in first-check (omega arith) k ∙ rw e
 
     pub pass-directory : 2 * n + 10 ≤ r → r < 6 * n + 14 → at (pass n) r ≡ at (directoryPass n) (r - (2 * n + 10))
-    pass-directory h k = in-front k ∙ at-behind (readDirectory ∷ bucketPass n ++ check) (directoryPass n) (2 * n + 10) r check-first h
+    pass-directory h k = in-front k ∙ at-behind (readDirectory ∷ bucketPass n ++ check) (directoryPass n) (2 * n + 10) r (check-first n) h
 
     second-check : 6 * n + 14 ≤ r → at (pass n) r ≡ at check (r - (6 * n + 14))
     unfolding pass
-    second-check h = at-behind (readDirectory ∷ bucketPass n ++ check ++ directoryPass n) check (6 * n + 14) r directories-first h
+    second-check h = at-behind (readDirectory ∷ bucketPass n ++ check ++ directoryPass n) check (6 * n + 14) r (directories-first n) h
 
     pub pass-look-again : 6 * n + 14 ≤ r → r < 6 * n + 15 → at (pass n) r ≡ readDirectory
     unfolding check
@@ -226,4 +192,4 @@ module _ (n : ℕ) where
 
   pub plan-pass : (k r : ℕ) → 1 ≤ k → r ≡ (if leb (6 * n + 16) (k - 1) then k - 1 - (6 * n + 16) else k - 1) → phase n k ≡ at (pass n) r
   unfolding phase plan
-  plan-pass k r h e = at-later announce (pass n ++ pass n) k h ∙ at-twice (pass n) (6 * n + 16) (k - 1) r length-pass e
+  plan-pass k r h e = at-later announce (pass n ++ pass n) k h ∙ at-twice (pass n) (6 * n + 16) (k - 1) r (length-pass n) e

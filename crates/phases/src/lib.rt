@@ -4,7 +4,7 @@ ghost use Prim.Native.Nat.{_+_, _-_, _*_, _≤_, _<_};
 ghost use lib.Dec.{leb};
 ghost use lib.ListN.{getD};
 ghost use Rattle.machine.specs.Choice.{if_then_else_};
-ghost use Rattle.machine.specs.Plan.{checkState, bucketPass, directoryPass, pass, phase};
+ghost use Rattle.machine.specs.Plan.{checkState, bucketPass, directoryPass, pass, phase, checkNumber};
 ghost use Rattle.phases.specs.Phases.{planned};
 
 pub enum Phase {
@@ -102,4 +102,24 @@ pub fn phase_of(k: usize, n: usize) -> Phase
         return Phase::Announce;
     }
     pass_phase(reduce(k - 1, 6 * n + 16), n)
+}
+
+// Which check the step after k own steps is: as many as the plan has up to it.
+pub fn check_number(k: u64, n: u64) -> u64
+    requires { ⌜ n ≤ 8 ⌝ }
+    ensures { λ r. ⌜ r ≡ checkNumber n k ⌝ }
+{
+    if k < 2 * n + 10 {
+        return 0;
+    }
+    if k < 6 * n + 16 {
+        return 1;
+    }
+    if k < 8 * n + 26 {
+        return 2;
+    }
+    if k < 12 * n + 32 {
+        return 3;
+    }
+    4
 }

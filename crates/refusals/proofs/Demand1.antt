@@ -69,9 +69,9 @@ accepted-never r e = let z : _≡_ {A = ℕ} 0 1 = cc in omega arith
 moved-never : {r : Refusal} → Stepped.Moved ≡ Stepped.Refused r → ⊥
 moved-never e = let z : _≡_ {A = ℕ} 0 1 = cc in omega arith
 
-ended-never : (l : List ℕ) (p k : ℕ) (a : Answer) {r : Refusal} → endedAt l p k a .1 ≡ Stepped.Refused r → ⊥
+ended-never : (l : List ℕ) (p k c : ℕ) (a : Answer) {r : Refusal} → endedAt l p k c a .1 ≡ Stepped.Refused r → ⊥
 unfolding endedAt
-ended-never l p k a e = let z : _≡_ {A = ℕ} 0 1 = cc in omega arith
+ended-never l p k c a e = let z : _≡_ {A = ℕ} 0 1 = cc in omega arith
 
 count-never : {k : ℕ} (r : Refusal) → Listed.Count k ≡ Listed.Refused r → ⊥
 count-never r e = let z : _≡_ {A = ℕ} 0 1 = cc in omega arith
@@ -138,12 +138,12 @@ call-checks l w kind a v = check-then (check-then (check-then (kind-checks l _ _
 lookup-never : (l : List ℕ) (s : Settings) (p k : ℕ) {r : Refusal} → lookupAt l s p k .1 ≡ Stepped.Refused r → ⊥
 unfolding lookupAt
 lookup-never l s p zero e = moved-never e
-lookup-never l s p (suc k) e = ended-never l p (suc k) _ e
+lookup-never l s p (suc k) e = ended-never l p (suc k) _ _ e
 
-check-never : (l : List ℕ) (p k : ℕ) (o : Option ℕ) {r : Refusal} → checkAt l p k o .1 ≡ Stepped.Refused r → ⊥
+check-never : (l : List ℕ) (p k c : ℕ) (o : Option ℕ) {r : Refusal} → checkAt l p k c o .1 ≡ Stepped.Refused r → ⊥
 unfolding checkAt
-check-never l p k none e = moved-never e
-check-never l p k (some x) e = ended-never l p k _ e
+check-never l p k c none e = moved-never e
+check-never l p k c (some x) e = ended-never l p k c _ e
 
 update-never : (l : List ℕ) (s : Settings) (p w k : ℕ) (f : Phase) {r : Refusal} → updateAt l s p w k f .1 ≡ Stepped.Refused r → ⊥
 unfolding updateAt
@@ -154,7 +154,7 @@ update-never l s p w k readState e = moved-never e
 update-never l s p w k readToggle e = moved-never e
 update-never l s p w k (readSlot j) e = moved-never e
 update-never l s p w k swapState e = moved-never e
-update-never l s p w k checkState e = check-never l p k _ e
+update-never l s p w k checkState e = check-never l p k _ _ e
 update-never l s p w k copyDirectory e = moved-never e
 update-never l s p w k (resizeFor j) e = moved-never e
 update-never l s p w k swapDirectory e = moved-never e

@@ -37,6 +37,10 @@ totalWord (Answer.Found total) = ofZ w64 total
 totalWord Answer.None = 0
 totalWord Answer.Crowded = 0
 
--- an operation's end: its steps, and the total found
+-- a report with three words at its start, with the first two where it has two places only
+unfoldable pub toldThree : List ℕ → ℕ → ℕ → ℕ → List ℕ
+toldThree report x y z = if leb 3 (length report) then told report (x ∷ y ∷ z ∷ []) else told report (x ∷ y ∷ [])
+
+-- an operation's end: its steps, the total found, and the check that answered it
 unfoldable pub endedReport : List ℕ → Completion → List ℕ
-endedReport report c = told report (c .steps ∷ totalWord (c .answer) ∷ [])
+endedReport report c = toldThree report (c .steps) (totalWord (c .answer)) (c .check)

@@ -1,7 +1,7 @@
 // What does not fit into a returned number: words told at the start of a report, and an operation's end.
 ghost use mathlib.Core.Path.{_≡_};
 ghost use mathlib.Core.List.{[], _∷_};
-ghost use Rattle.report.specs.Report.{endedNumber, told, totalWord, endedReport};
+ghost use Rattle.report.specs.Report.{endedNumber, told, toldThree, totalWord, endedReport};
 use interface::Answer;
 use interface::Completion;
 
@@ -19,7 +19,7 @@ pub fn tell_one(report: &mut [u64], first: u64)
 }
 
 // Two words at the start of a report that has room for both.
-pub fn tell(report: &mut [u64], first: u64, second: u64)
+fn tell_two(report: &mut [u64], first: u64, second: u64)
     ensures { λ _. ⌜ now (report .exit) ≡ told (now (report .entry)) (first ∷ second ∷ []) ⌝ }
 {
     if report.len() < 2 {
@@ -27,6 +27,19 @@ pub fn tell(report: &mut [u64], first: u64, second: u64)
     }
     report[0] = first;
     report[1] = second;
+}
+
+// Three words at the start of a report, the first two where it has two places only.
+pub fn tell(report: &mut [u64], first: u64, second: u64, third: u64)
+    ensures { λ _. ⌜ now (report .exit) ≡ toldThree (now (report .entry)) first second third ⌝ }
+{
+    if report.len() < 3 {
+        tell_two(report, first, second);
+        return;
+    }
+    report[0] = first;
+    report[1] = second;
+    report[2] = third;
 }
 
 // The total found, as a word; 0 where the answer has none.
@@ -44,11 +57,11 @@ fn total_word(answer: Answer) -> u64
     }
 }
 
-// An operation's end: its number, and its steps and total in the report.
+// An operation's end: its number, and its steps, total and check in the report.
 pub fn ended(report: &mut [u64], c: Completion) -> u64
     ensures { λ r. ⌜ (now (report .exit) ≡ endedReport (now (report .entry)) c) × (r ≡ endedNumber c) ⌝ }
 {
     let answer = c.answer;
-    tell(report, c.steps, total_word(answer));
+    tell(report, c.steps, total_word(answer), c.check);
     ANSWER_BASE + answer.number()
 }

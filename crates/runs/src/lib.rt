@@ -5,8 +5,9 @@ ghost use mathlib.Core.Path.{_≡_};
 ghost use Prim.Native.Nat.{_≤_, _<_};
 ghost use Rattle.layout.specs.Shape.{settingsOf, Fits};
 ghost use Rattle.runs.specs.Runs.{longestRun, runIn, runWords};
-use calls::completed;
 use early::early_step;
+use ends::GOES_ON;
+use ends::update_ended;
 use fields::HEADER_SETTINGS;
 use fields::STEPS_RANGE;
 use fields::WORKER_KIND;
@@ -20,8 +21,6 @@ use layout::addresses::worker_at;
 use layout::shape::settings_of;
 use layout::shape::strange_words;
 use lookups::lookup_step;
-use updates::GOES_ON;
-use updates::answer_of;
 use updates::update_step;
 
 // No operation of an opened table takes as many steps.
@@ -51,9 +50,9 @@ fn run_in(words: &mut [u64], x: u64, w: usize, most: u64) -> Ran
         } else if k < 2 * g.workers + 9 {
             early_step(words, x, w, k as usize);
         } else {
-            let number = update_step(words, x, w, k);
-            if number != GOES_ON {
-                return Ran::Answered(completed(answer_of(number), k));
+            let end = update_step(words, x, w, k);
+            if end != GOES_ON {
+                return Ran::Answered(update_ended(k, end));
             }
         }
         done += 1;

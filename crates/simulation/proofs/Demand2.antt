@@ -66,13 +66,13 @@ module _ (s : Settings) (m : Machine) where
       Told : Machine × Stepped → Type 0
       Told x = isStrange (refusalIn (x .1)) ≡ false
 
-      replied : (k : ℕ) (a : Option Answer) → isStrange (refusalIn (stepReply k a)) ≡ false
-      replied k none = refl
-      replied k (some a) = refl
+      replied : (k c : ℕ) (a : Option Answer) → isStrange (refusalIn (stepReply k c a)) ≡ false
+      replied k c none = refl
+      replied k c (some a) = refl
 
       by : (o : Option Operation) → Told (stepOf s m j o)
       by none = refl
-      by (some o) = replied _ (perform (access s j (m .workers j) o) (m .cells) .answer)
+      by (some o) = replied _ _ (perform (access s j (m .workers j) o) (m .cells) .answer)
 
   listing-recognised : (t : Table) (x y : ℕ) → isStrange (refusalOf (toListing (listingOf t x y))) ≡ false
   unfolding listingOf refusalOf

@@ -82,14 +82,14 @@ unfolding foundAt smallAnswer
 small-found l s q (At i) = small-total (word l (totalsFrom q (s .capacity) + i))
 small-found l s q (Before i) = tt
 
-small-ended : (l : List ℕ) (p k : ℕ) (a : Answer) → k < stepsRange → smallAnswer a → smallStepped (endedAt l p k a .1)
+small-ended : (l : List ℕ) (p k c : ℕ) (a : Answer) → k < stepsRange → smallAnswer a → smallStepped (endedAt l p k c a .1)
 unfolding endedAt smallStepped
-small-ended l p k a h s = (omega arith, s)
+small-ended l p k c a h s = (omega arith, s)
 
-small-checked : (l : List ℕ) (p k : ℕ) (o : Option ℕ) → k < stepsRange → smallStepped (checkAt l p k o .1)
+small-checked : (l : List ℕ) (p k c : ℕ) (o : Option ℕ) → k < stepsRange → smallStepped (checkAt l p k c o .1)
 unfolding checkAt smallStepped
-small-checked l p k none h = tt
-small-checked l p k (some x) h = small-ended l p k (answerOf x) h (small-stored x)
+small-checked l p k c none h = tt
+small-checked l p k c (some x) h = small-ended l p k c (answerOf x) h (small-stored x)
 
 small-update : (l : List ℕ) (s : Settings) (p w k : ℕ) (g : Phase) → k < stepsRange → smallStepped (updateAt l s p w k g .1)
 unfolding updateAt smallStepped
@@ -100,7 +100,7 @@ small-update l s p w k readState h = tt
 small-update l s p w k readToggle h = tt
 small-update l s p w k (readSlot j) h = tt
 small-update l s p w k swapState h = tt
-small-update l s p w k checkState h = small-checked l p k _ h
+small-update l s p w k checkState h = small-checked l p k _ _ h
 small-update l s p w k copyDirectory h = tt
 small-update l s p w k (resizeFor j) h = tt
 small-update l s p w k swapDirectory h = tt
@@ -108,7 +108,7 @@ small-update l s p w k swapDirectory h = tt
 small-lookup : (l : List ℕ) (s : Settings) (p k : ℕ) → k < stepsRange → smallStepped (lookupAt l s p k .1)
 unfolding lookupAt lookedAt smallStepped
 small-lookup l s p zero h = tt
-small-lookup l s p (suc k) h = small-ended l p (suc k) _ h (small-found l s _ _)
+small-lookup l s p (suc k) h = small-ended l p (suc k) _ _ h (small-found l s _ _)
 
 small-operation : (l : List ℕ) (s : Settings) (p w k : ℕ) → k < stepsRange → smallStepped (operationAt l s p w k .1)
 unfolding operationAt

@@ -2,19 +2,18 @@
 ghost use mathlib.Core.Path.{_≡_};
 ghost use Prim.Native.Nat.{_<_};
 ghost use Rattle.fields.specs.Fields.{stepsRange};
-ghost use Rattle.updates.specs.Updates.{numbered};
-use calls::completed;
+ghost use Rattle.ends.specs.Ends.{givenAs};
+use ends::GOES_ON;
+use ends::update_ended;
 use interface::Stepped;
-use updates::GOES_ON;
-use updates::answer_of;
 
-// What a step gives, after k own steps, whose update gave this number.
-pub fn stepped(k: u64, number: u64) -> Stepped
+// What a step gives, after k own steps, whose update gave this word.
+pub fn stepped(k: u64, end: u64) -> Stepped
     requires { ⌜ k < stepsRange ⌝ }
-    ensures { λ r. ⌜ r ≡ numbered k number ⌝ }
+    ensures { λ r. ⌜ r ≡ givenAs k end ⌝ }
 {
-    if number == GOES_ON {
+    if end == GOES_ON {
         return Stepped::Moved;
     }
-    Stepped::Answered(completed(answer_of(number), k))
+    Stepped::Answered(update_ended(k, end))
 }

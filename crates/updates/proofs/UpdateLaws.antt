@@ -1,31 +1,30 @@
 -- Laws of a step of an update: the phases of its plan, and each case of a check. Rests on the definition of such a step, and on the
 -- machine's plan.
-use Prim.Native.Nat.{ℕ, zero, suc, _+_, _≤_, _<_, _%_}
-use mathlib.Core.Path.{_≡_, refl, sym, _∙_, ap, subst}
+use Prim.Native.Nat.{ℕ, _+_, _≤_, _<_, _%_}
+use mathlib.Core.Path.{_≡_, sym, _∙_, ap, subst}
 use mathlib.Core.Logic.{_≢_}
 use mathlib.Core.Bool.{Bool, true, false}
 use mathlib.Core.List.{List}
-use mathlib.Core.Option.{none, some}
+use mathlib.Core.Option.{Option, none, some}
 use lib.ListN.{length, set}
 use borrow.Author.Tests.{le-leb, lt-leb, eq-eqb, ne-eqb}
 use Rattle.interface.specs.Numbers.{kindNone, answerNumber, kindLookup}
 use Rattle.interface.specs.declared.Settings.{Settings}
-use Rattle.interface.specs.declared.Answer.{Answer}
-use Rattle.interface.specs.declared.Answer.the-variants.{None, Crowded}
+use Rattle.interface.specs.declared.Answer.the-variants.{Crowded}
 use Rattle.interface.specs.declared.Stepped.{Stepped}
 use Rattle.fields.specs.Fields.{workerKind, workerTicket, workerSteps, widestRecord, stepsRange}
 use Rattle.machine.specs.Choice.{if_then_else_}
-use Rattle.machine.specs.Plan.{Phase, phase}
+use Rattle.machine.specs.Plan.{Phase, phase, checkNumber}
 use Rattle.machine.proofs.laws.Base.{if-true, if-false}
 use Rattle.machine.proofs.laws.PlanBounds.{Below, phase-below}
 use Rattle.phases.specs.declared.Phase as Code
 use Rattle.layout.specs.Shape.{word, Fits}
 use Rattle.layout.specs.Addresses.{heldBy}
 use Rattle.record.specs.Bucket.{crowdedAt, settledTicket, settledAnswer}
-use Rattle.rules.specs.Rules.{answerOf}
 use Rattle.phases.specs.Phases.{planned}
 use Rattle.calls.specs.Calls.{endedAt}
-use Rattle.updates.specs.Updates.{checkedAt, checkAt, numbered, updateAt, operationAt}
+use Rattle.updates.specs.Updates.{checkedAt, checkAt, updateAt, operationAt}
+use Rattle.ends.specs.Ends.{updateEnded, numbered}
 use Rattle.layout.proofs.Positions.{held-inside}
 use Rattle.lookups.specs.Lookups.{lookupAt}
 
@@ -48,43 +47,35 @@ module _ (l : List ℕ) (s : Settings) (p w k n : ℕ) (m : List ℕ × Stepped)
   pub updated : (r q : Code.Phase) → r ≡ q → planned r ≡ phase n k → m ≡ updateAt l s p w k (planned q) → m ≡ updateAt l s p w k (phase n k)
   updated r q h e = at-phase (planned q) (sym e ∙ ap planned h)
 
--- an answer's number, and 0 where there is none
-module _ (k : ℕ) where
-  pub numbered-stored :
-      (x : ℕ) (a : Answer) → x ≢ 0 → a ≡ answerOf x → numbered k x ≡ Stepped.Answered (record { answer = a; steps = k + 1 })
-  unfolding numbered
-  numbered-stored zero a h e = absurd (h refl)
-  numbered-stored (suc x) a h e = rw e
-
-  pub numbered-none : (x : ℕ) → x ≡ 0 → numbered k (answerNumber None) ≡ Stepped.Answered (record { answer = answerOf x; steps = k + 1 })
-  unfolding numbered answerOf if_then_else_
-  numbered-none x e = rw e
-
 -- ---- a check of worker w at p, whose bucket's record is at q
 
 module _ (l : List ℕ) (s : Settings) (p q w k t u : ℕ) (ticket : t ≡ word l (p + workerTicket)) (settled : u ≡ settledTicket l s q w) where
   abbrev ended : List ℕ
   ended = set (set l (p + workerKind) kindNone) (p + workerSteps) 0
 
+  abbrev gives : Option ℕ → List ℕ × Stepped
+  gives = checkAt l p k (checkNumber (s .workers) k)
+
   pub check-settled :
-      (x : ℕ) (m : List ℕ) (r : Stepped) → t ≤ u → x ≡ settledAnswer l s q w
-      → r ≡ Stepped.Answered (record { answer = answerOf x; steps = k + 1 }) → m ≡ ended → (m, r) ≡ checkAt l p k (checkedAt l s p q w)
+      (x : ℕ) (m : List ℕ) (r : Stepped) → t ≤ u → x ≡ settledAnswer l s q w → r ≡ Stepped.Answered (updateEnded (s .workers) k x)
+      → m ≡ ended → (m, r) ≡ gives (checkedAt l s p q w)
   unfolding endedAt checkedAt checkAt
-  check-settled x m r h e f g =
-      rw (f, g, e) (ap (checkAt l p k) (sym (if-true _ _ (le-leb _ _ (rw (ticket, settled) at h)))))
+  check-settled x m r h e f g = rw (f, g, e) (ap gives (sym (if-true _ _ (le-leb _ _ (rw (ticket, settled) at h)))))
 
   module _ (c : Bool) (h : u < t) (tested : c ≡ crowdedAt l s q) where
     unsettled : checkedAt l s p q w ≡ if c then some (answerNumber Crowded) else none
     unfolding checkedAt
     unsettled = if-false _ _ (lt-leb _ _ (rw (ticket, settled) at h)) ∙ rw tested
 
-    pub check-moved : c ≡ false → (l, Stepped.Moved) ≡ checkAt l p k (checkedAt l s p q w)
+    pub check-moved : c ≡ false → (l, Stepped.Moved) ≡ gives (checkedAt l s p q w)
     unfolding checkAt
-    check-moved e = ap (checkAt l p k) (sym (unsettled ∙ if-false _ _ e))
+    check-moved e = ap gives (sym (unsettled ∙ if-false _ _ e))
 
-    pub check-crowded : (m : List ℕ) → c ≡ true → m ≡ ended → (m, numbered k (answerNumber Crowded)) ≡ checkAt l p k (checkedAt l s p q w)
+    pub check-crowded :
+        (m : List ℕ) → c ≡ true → m ≡ ended
+        → (m, numbered (s .workers) k (answerNumber Crowded)) ≡ gives (checkedAt l s p q w)
     unfolding endedAt checkAt numbered
-    check-crowded m e f = rw f (ap (checkAt l p k) (sym (unsettled ∙ if-true _ _ e)))
+    check-crowded m e f = rw f (ap gives (sym (unsettled ∙ if-true _ _ e)))
 
 pub held-room : {l : List ℕ} {s : Settings} (q p : ℕ) → Fits l s → q ≡ heldBy l p → q + widestRecord ≤ length l
 held-room q p f e = rw e (held-inside f p)

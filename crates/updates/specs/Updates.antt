@@ -1,13 +1,13 @@
 -- The check, a step of an update on the words, by its phase, and an operation's step, for any words. Rests on the other
 -- steps' definitions, on what is settled in a bucket's record, and on the machine's plan.
-use Prim.Native.Nat.{ℕ, zero, suc, _+_}
+use Prim.Native.Nat.{ℕ, _+_}
 use mathlib.Core.List.{List}
 use mathlib.Core.Option.{Option, none, some}
 use lib.Dec.{eqb, leb}
 use lib.ListN.{set}
 use Rattle.interface.specs.declared.Settings.{Settings}
 use Rattle.interface.specs.declared.Stepped.{Stepped}
-use Rattle.machine.specs.Plan.{Phase, announce, readDirectory, flipToggle, readState, readToggle, swapState, checkState, copyDirectory, swapDirectory, readSlot, resizeFor, phase}
+use Rattle.machine.specs.Plan.{Phase, announce, readDirectory, flipToggle, readState, readToggle, swapState, checkState, copyDirectory, swapDirectory, readSlot, resizeFor, phase, checkNumber}
 use Rattle.fields.specs.Regions.{workerAt}
 use Rattle.rules.specs.Rules.{answerOf}
 use Rattle.layout.specs.Addresses.{heldBy, bucketReadAt}
@@ -33,17 +33,12 @@ checkedAt l s p q w =
     then some (settledAnswer l s q w)
     else if crowdedAt l s q then some (answerNumber Crowded) else none
 
-unfoldable pub checkAt : List ℕ → ℕ → ℕ → Option ℕ → List ℕ × Stepped
-checkAt l p k none = (l, Stepped.Moved)
-checkAt l p k (some x) = endedAt l p k (answerOf x)
+-- what check c leaves and gives, after k own steps
+unfoldable pub checkAt : List ℕ → ℕ → ℕ → ℕ → Option ℕ → List ℕ × Stepped
+checkAt l p k c none = (l, Stepped.Moved)
+checkAt l p k c (some x) = endedAt l p k c (answerOf x)
 
 -- ---- a step of an update
-
--- what a step gives, after k own steps before it, whose update ended with an answer's number; 0 where the operation
--- goes on
-unfoldable pub numbered : ℕ → ℕ → Stepped
-numbered k zero = Stepped.Moved
-numbered k (suc x) = Stepped.Answered (record { answer = answerOf (suc x); steps = k + 1 })
 
 -- worker w's step at a phase of its update, its record at p, after k own steps
 unfoldable pub updateAt : List ℕ → Settings → ℕ → ℕ → ℕ → Phase → List ℕ × Stepped
@@ -54,7 +49,7 @@ updateAt l s p w k readState = (stateReadAt l p (heldBy l p), Stepped.Moved)
 updateAt l s p w k readToggle = (toggleReadAt l p (heldBy l p), Stepped.Moved)
 updateAt l s p w k (readSlot j) = (slotReadAt l p j, Stepped.Moved)
 updateAt l s p w k swapState = (swappedAt l s p (heldBy l p), Stepped.Moved)
-updateAt l s p w k checkState = checkAt l p k (checkedAt l s p (heldBy l p) w)
+updateAt l s p w k checkState = checkAt l p k (checkNumber (s .workers) k) (checkedAt l s p (heldBy l p) w)
 updateAt l s p w k copyDirectory = (directoryReadAt l p, Stepped.Moved)
 updateAt l s p w k (resizeFor j) = (stateStepAt l s p j, Stepped.Moved)
 updateAt l s p w k swapDirectory = (redirectedAt l s p, Stepped.Moved)

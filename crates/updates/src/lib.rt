@@ -2,21 +2,18 @@
 ghost use mathlib.Core.Path.{_≡_};
 ghost use Prim.Native.Nat.{ℕ, _+_, _<_};
 ghost use Rattle.fields.specs.Fields.{stepsRange};
-ghost use Rattle.rules.specs.Rules.{answerOf};
 ghost use Rattle.layout.specs.Shape.{settingsOf, Fits};
-ghost use Rattle.updates.specs.Updates.{numbered, checkStep, updateStep};
+ghost use Rattle.ends.specs.Ends.{numbered, givenAs};
+ghost use Rattle.updates.specs.Updates.{checkStep, updateStep};
 use calls::finish;
 use directory::swap_directory;
+use ends::GOES_ON;
+use ends::with_check;
 use fields::RECORD_COUNT;
 use fields::RECORD_DEPTH;
 use fields::WORKER_TICKET;
-use interface::ANSWER_ABSENT;
-use interface::ANSWER_ADDED;
 use interface::ANSWER_CROWDED;
 use interface::ANSWER_NONE;
-use interface::ANSWER_REMOVED;
-use interface::ANSWER_REPLACED;
-use interface::Answer;
 use interface::Settings;
 use layout::addresses::held_by;
 use layout::addresses::worker_at;
@@ -27,28 +24,12 @@ use record::settled_answer;
 use record::settled_ticket;
 use rules::crowded;
 
-// What an update's step gives where the operation goes on; any other number is its answer's.
-pub const GOES_ON: u64 = 0;
-
-// The answer that a stored number is.
-pub fn answer_of(x: u64) -> Answer
-    ensures { λ r. ⌜ r ≡ answerOf x ⌝ }
-{
-    match x {
-        ANSWER_ADDED => Answer::Added,
-        ANSWER_REPLACED => Answer::Replaced,
-        ANSWER_REMOVED => Answer::Removed,
-        ANSWER_ABSENT => Answer::Absent,
-        ANSWER_CROWDED => Answer::Crowded,
-        _ => Answer::None,
-    }
-}
-
 // The second step of a check: the answer's number where the operation is over. A stored 0 is no answer's number; it
 // is read as none's.
 fn check(words: &mut [u64], g: Settings, w: usize) -> u64
     requires { ⌜ Fits (now words) g × (w < g .workers) ⌝ }
-    ensures { λ r. ⌜ ((k : ℕ) → (now (words .exit), numbered k r) ≡ checkStep (now (words .entry)) g w k) ⌝ }
+    ensures { λ r. ⌜ ((k : ℕ) → (now (words .exit), numbered (g .workers) k r)
+        ≡ checkStep (now (words .entry)) g w k) ⌝ }
 {
     let q = held_by(words, g, w);
     let p = worker_at(g, w);
@@ -65,10 +46,10 @@ fn check(words: &mut [u64], g: Settings, w: usize) -> u64
     ANSWER_CROWDED
 }
 
-// An update's step, after k own steps, by the plan: its answer's number where the operation is over.
+// An update's step, after k own steps, by the plan: its end in one word where the operation is over.
 pub fn update_step(words: &mut [u64], x: u64, w: usize, k: u64) -> u64
     requires { ⌜ Fits (now words) (settingsOf x) × ((w < settingsOf x .workers) × (k < stepsRange)) ⌝ }
-    ensures { λ r. ⌜ (now (words .exit), numbered k r) ≡ updateStep (now (words .entry)) (settingsOf x) w k ⌝ }
+    ensures { λ r. ⌜ (now (words .exit), givenAs k r) ≡ updateStep (now (words .entry)) (settingsOf x) w k ⌝ }
 {
     let g = settings_of(x);
     match phase_of(k as usize, g.workers as usize) {
@@ -79,7 +60,7 @@ pub fn update_step(words: &mut [u64], x: u64, w: usize, k: u64) -> u64
         Phase::ReadToggle => engine::read_toggle(words, g, w),
         Phase::ReadSlot(j) => engine::read_slot(words, g, w, j),
         Phase::Swap => swaps::swap(words, g, w),
-        Phase::Check => return check(words, g, w),
+        Phase::Check => return with_check(check(words, g, w), k, g.workers),
         Phase::CopyDirectory => engine::copy_directory(words, g, w),
         Phase::StateStep(j) => marks::state_step(words, g, w, j),
         Phase::SwapDirectory => swap_directory(words, g, w),

@@ -6,11 +6,15 @@ use native.Mathlib.Omega.{arith}
 use mathlib.Core.Path.{_≡_, refl, sym, ap, _∙_}
 use mathlib.Core.List.{List, [], _∷_, _++_}
 use lib.Dec.{ltb}
-use lib.ListN.{length, getD, List·getD-eq-default}
+use lib.ListN.{length, getD, List·getD-append, List·getD-eq-default}
+use lib.Seq.{getD-append-add, getD-at}
 use borrow.Author.Tests.{lt-ltb, le-ltb}
 use Rattle.machine.specs.Choice.{if_then_else_}
-use Rattle.machine.specs.Plan.{Phase, readDirectory, flipToggle, readState, readToggle, swapState, checkState, copyDirectory, swapDirectory, readSlot, resizeFor, each, bucketRound, bucketPass, check, directoryRound, directoryPass, pass, plan, phase}
+use Rattle.machine.specs.Plan.{Phase, readDirectory, flipToggle, readState, readToggle, swapState, checkState, copyDirectory, swapDirectory, readSlot, resizeFor, each, bucketRound, bucketPass, check, directoryRound, directoryPass, pass, plan, phase, checkNumber}
 use Rattle.machine.proofs.laws.Base.{if-true, if-false}
+use Rattle.machine.specs.History.{Tariff, firstCheck, secondCheck, thirdCheck, fourthCheck}
+use Rattle.machine.proofs.laws.PlanParts.{length-pass}
+use Rattle.machine.proofs.laws.PlanChecks.{from-first, from-second, from-third, from-fourth}
 use Rattle.machine.specs.Counter.{Two, one, two, BStep, readS, readT, swap, slotB, DStep, copyD, swapD, slotD, state, PC, idle, announce, look₁, look₂, over, readD, flip, checkD, checkS, inB, inD, inPass, eachCounter, bucketCounters, checkCounters, directoryCounters, passCounters, counters, counter}
 
 abbrev pub phaseOf : PC → Phase
@@ -256,8 +260,8 @@ module _ (n : ℕ) where
   run-at h (go g s r) (suc k) =
       let t = run-at g r k in record { phased = t .phased; here = t .here; next = t .next; at-position = omega arith }
 
-  run-length : {x : PC} {l : List PC} {q : List Phase} → Sequence x l q (checkS two two) →
-      (position n x + suc (length l) ≡ 12 * n + 33) × (length q ≡ length l)
+  run-length :
+      {x z : PC} {l : List PC} {q : List Phase} → Sequence x l q z → (position n x + length l ≡ position n z) × (length q ≡ length l)
   run-length stop = omega arith
   run-length (go g s r) = omega (arith, run-length r)
 
@@ -295,15 +299,29 @@ pub counter-end : (n k : ℕ) → 12 * n + 33 ≤ k → counter n k ≡ over
 unfolding counter
 counter-end n k h = List·getD-eq-default (counters n) over (omega (arith, counters-length n))
 
--- the own steps of an update that this check answers
-abbrev pub stepsAtCheck : ℕ → Two → Two → ℕ
-stepsAtCheck n one one = 2 * n + 11
-stepsAtCheck n one two = 6 * n + 17
-stepsAtCheck n two one = 8 * n + 27
-stepsAtCheck n two two = 12 * n + 33
+-- a check's number in the plan, and the own steps of an update that it answers
+pub counter-check : (n k : ℕ) (p c : Two) → counter n k ≡ checkS p c → Tariff n (checkNumber n k) (suc k)
+counter-check n k p c e = by p c (counter-at n k .at-position) (ap (position n) e)
+  where
+    by : (p c : Two) → position n (counter n k) ≡ min k (12 * n + 33) → position n (counter n k) ≡ position n (checkS p c)
+        → Tariff n (checkNumber n k) (suc k)
+    by one one g h = firstCheck (from-first n k (omega arith) (omega arith)) (omega arith)
+    by one two g h = secondCheck (from-second n k (omega arith) (omega arith)) (omega arith)
+    by two one g h = thirdCheck (from-third n k (omega arith) (omega arith)) (omega arith)
+    by two two g h = fourthCheck (from-fourth n k (omega arith)) (omega arith)
 
-pub counter-check : (n k : ℕ) (p c : Two) → counter n k ≡ checkS p c → suc k ≡ stepsAtCheck n p c
-counter-check n k one one e = omega (arith, counter-at n k .at-position, ap (position n) e)
-counter-check n k one two e = omega (arith, counter-at n k .at-position, ap (position n) e)
-counter-check n k two one e = omega (arith, counter-at n k .at-position, ap (position n) e)
-counter-check n k two two e = omega (arith, counter-at n k .at-position, ap (position n) e)
+-- ---- the second pass is the first again
+
+length-counters : (n : ℕ) → length (passCounters n one) ≡ 6 * n + 16
+length-counters n = omega (arith, run-length n (pass-run n one (next-step n announce (omega arith))))
+
+pub phase-again : (n k : ℕ) → k < 6 * n + 16 → phase n (suc (6 * n + 16 + k)) ≡ phase n (suc k)
+unfolding phase plan
+phase-again n k l =
+    ap (λ i. getD (pass n ++ pass n) (i + k) checkState) (sym (length-pass n))
+    ∙ getD-append-add (pass n) (pass n) k checkState
+    ∙ sym (List·getD-append (pass n) (pass n) checkState k (omega (arith, length-pass n)))
+
+pub counter-second : (n k : ℕ) → k ≡ 6 * n + 16 → counter n (suc k) ≡ readD two
+unfolding counter counters passCounters
+counter-second n k e = getD-at (passCounters n one) (readD two) _ over k (length-counters n ∙ sym e)

@@ -10,7 +10,7 @@ use Rattle.machine.specs.Sequential.{Update, account, Operation, update,
 use Rattle.machine.specs.Records.{Leaf, kept, made, Slot, empty, announced, Cells, Reads, Worker, Machine}
 use Rattle.machine.specs.BucketPass.{checked}
 use Rattle.machine.specs.DirectoryPass.{leafOf}
-use Rattle.machine.specs.Steps.{Effect, leaving, direct, assignState, updateAccess, lookupAccess, access, perform, counted, done, withCopy}
+use Rattle.machine.specs.Steps.{Effect, leaving, direct, assignState, updateAccess, lookupAccess, access, perform, counted, checkOf, done, withCopy}
 use Rattle.machine.specs.Steps.{announcing, directoryReading, flipping, stateReading, toggleReading, slotReading, swapped, stateSwapping}
 use Rattle.machine.specs.Steps.{stateChecking, directoryCopying, leafReading, resizing, redirected, directorySwapping}
 use Rattle.machine.proofs.laws.Base.{if-ap, eq-elim, lt-elim}
@@ -157,6 +157,7 @@ step-transition s m j o h e =
 -- the tasks after it: only worker j's is another
 pub tasks-after :
     (s : Settings) (m : Machine) (j : ℕ) (o : Operation)
-    → tasksOf s (done m j (effectOf s m j o) .0) ≡ assign (tasksOf s m) j (taskOf (s .workers) (workerAfter s m j o))
+    → tasksOf s (done m j (checkOf s (m .workers j) o) (effectOf s m j o) .0)
+    ≡ assign (tasksOf s m) j (taskOf (s .workers) (workerAfter s m j o))
 unfolding done assign
 tasks-after s m j o = fun-ext (λ i. if-ap (taskOf (s .workers)) (eqb i j) (workerAfter s m j o) (m .workers i))

@@ -78,7 +78,8 @@ Good s m = Inv s (m .cells) (tasksOf s m)
 
 module _ (s : Settings) (m : Machine) (j : ℕ) where
   -- a worker's counter, by its operation
-  counter-for : {o : Option Operation} → m .workers j .operation ≡ o → tasksOf s m j .pc ≡ counterOf (s .workers) o (m .workers j .steps)
+  pub counter-for :
+      {o : Option Operation} → m .workers j .operation ≡ o → tasksOf s m j .pc ≡ counterOf (s .workers) o (m .workers j .steps)
   counter-for e = ap (λ o. counterOf (s .workers) o (m .workers j .steps)) e
 
   module _ (jn : j < s .workers) (good : Good s m) where

@@ -1,9 +1,9 @@
--- Every worker that a step of the plan names is below n. Rests on the plan alone.
-use Prim.Native.Nat.{ℕ, zero, suc, _≤_, _<_}
-use native.Mathlib.Omega.{arith}
-use mathlib.Core.List.{List, [], _∷_, _++_}
+-- Every worker that a step of the plan names is below n. Rests on the plan's parts.
+use Prim.Native.Nat.{ℕ, zero, suc, _<_}
+use mathlib.Core.List.{List}
 use lib.ListN.{getD}
-use Rattle.machine.specs.Plan.{Phase, announce, readDirectory, flipToggle, readState, readToggle, swapState, checkState, copyDirectory, swapDirectory, readSlot, resizeFor, each, bucketRound, bucketPass, check, directoryRound, directoryPass, pass, plan, phase}
+use Rattle.machine.specs.Plan.{Phase, announce, readDirectory, flipToggle, readState, readToggle, swapState, checkState, copyDirectory, swapDirectory, readSlot, resizeFor, check, pass, plan, phase}
+use Rattle.machine.proofs.laws.PlanParts.{All, nil, cons, all-append, all-buckets, all-directories}
 
 -- the workers that a phase names
 abbrev pub Below : ℕ → Phase → Type 0
@@ -19,37 +19,21 @@ Below n checkState = Unit {0}
 Below n copyDirectory = Unit {0}
 Below n swapDirectory = Unit {0}
 
-module _ (n : ℕ) where
-  data All : List Phase → Type 0 where
-    nil : All []
-    cons : {x : Phase} {l : List Phase} → Below n x → All l → All (x ∷ l)
+all-at : (P : Phase → Type 0) → P checkState → {l : List Phase} (i : ℕ) → All P l → P (getD l i checkState)
+all-at P e i nil = e
+all-at P e zero (cons h a) = h
+all-at P e (suc i) (cons h a) = all-at P e i a
 
-  all-at : {l : List Phase} (i : ℕ) → All l → Below n (getD l i checkState)
-  all-at i nil = tt
-  all-at zero (cons h a) = h
-  all-at (suc i) (cons h a) = all-at i a
-
-  all-append : {l m : List Phase} → All l → All m → All (l ++ m)
-  all-append nil b = b
-  all-append (cons h a) b = cons h (all-append a b)
-
-  all-each : (f : ℕ → Phase) → ((j : ℕ) → j < n → Below n (f j)) → (k : ℕ) → k ≤ n → All (each f k)
-  unfolding each
-  all-each f h zero m = nil
-  all-each f h (suc k) m = all-append (all-each f h k (omega arith)) (cons (h k (omega arith)) nil)
-
-  all-plan : All (plan n)
-  unfolding plan pass bucketPass bucketRound check directoryPass directoryRound
-  all-plan =
-      let slots = all-each readSlot (λ j h. h) n (omega arith) in
-      let sizes = all-each resizeFor (λ j h. h) n (omega arith) in
-      let bucket : All (bucketRound n) = cons tt (cons tt (all-append slots (cons tt nil))) in
-      let directory : All (directoryRound n) = cons tt (all-append (all-append slots sizes) (cons tt nil)) in
-      let twice : All check = cons tt (cons tt nil) in
-      let one : All (pass n) =
-      cons tt (all-append (all-append (all-append (cons tt (all-append bucket bucket)) twice) (all-append directory directory)) twice) in
-      cons tt (all-append one one)
+all-plan : (n : ℕ) → All (Below n) (plan n)
+unfolding plan pass check
+all-plan n =
+    let buckets = all-buckets (Below n) n (λ j h. h) tt tt tt tt in
+    let directories = all-directories (Below n) n (λ j h. h) (λ j h. h) tt tt in
+    let twice : All (Below n) check = cons tt (cons tt nil) in
+    let one : All (Below n) (pass n) =
+    cons tt (all-append (Below n) (all-append (Below n) (all-append (Below n) buckets twice) directories) twice) in
+    cons tt (all-append (Below n) one one)
 
 pub phase-below : (n k : ℕ) → Below n (phase n k)
 unfolding phase
-phase-below n k = all-at n k (all-plan n)
+phase-below n k = all-at (Below n) tt k (all-plan n)

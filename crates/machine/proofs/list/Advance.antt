@@ -20,7 +20,7 @@ use Rattle.interface.specs.declared.Called.{Called}
 use Rattle.machine.specs.Choice.{if_then_else_}
 use Rattle.machine.specs.Sequential.{Table, Operation, update, lookup}
 use Rattle.machine.specs.Records.{Cells, Worker, Machine}
-use Rattle.machine.specs.Steps.{Effect, step, done, stepReply}
+use Rattle.machine.specs.Steps.{Effect, step, checkOf, done, stepReply}
 use Rattle.machine.specs.Calls.{opening, call, callOf, begun, operationOf, spent, ticketFor}
 use Rattle.machine.specs.Systems.{machines, Entry, calling, stepping, showing, reopening, OpensNothing, next, accepts, moves}
 use Rattle.machine.specs.Systems.{stepsBy}
@@ -46,7 +46,7 @@ pub record StepParts (s : Settings) (m : Machine) (j : ℕ) : Type 0 where
   pub worker : j < s .workers
   pub operation : Operation
   pub under-way : m .workers j .operation ≡ some operation
-  pub is : step s m j ≡ done m j (effectOf s m j operation)
+  pub is : step s m j ≡ done m j (checkOf s (m .workers j) operation) (effectOf s m j operation)
 
 module _ (s : Settings) (m : Machine) (j : ℕ) where
   pub accepted-step : moves (step s m j .1) ≡ true → StepParts s m j
@@ -111,15 +111,15 @@ pub record Advance (s : Settings) (lent : ℕ) (m : Machine) (e : Entry) (t : Ta
 
 -- ---- the entries one by one
 
-answer-stepReply : (k : ℕ) (a : Option Answer) → answerIn (stepReply k a) ≡ a
+answer-stepReply : (k c : ℕ) (a : Option Answer) → answerIn (stepReply k c a) ≡ a
 unfolding stepReply
-answer-stepReply k none = refl
-answer-stepReply k (some r) = refl
+answer-stepReply k c none = refl
+answer-stepReply k c (some r) = refl
 
 -- the answer of a step that is made
-answer-done : (m : Machine) (j : ℕ) (f : Effect Cells) → answerIn (done m j f .1) ≡ f .answer
+answer-done : (m : Machine) (j c : ℕ) (f : Effect Cells) → answerIn (done m j c f .1) ≡ f .answer
 unfolding done
-answer-done m j f = answer-stepReply _ (f .answer)
+answer-done m j c f = answer-stepReply _ c (f .answer)
 
 -- an idle worker waits for nothing
 pub idle-status : (s : Settings) (m : Machine) (j : ℕ) → m .workers j .operation ≡ none → status (m .cells) j (tasksOf s m j) ≡ none
@@ -182,7 +182,7 @@ module _ (s : Settings) (range : inRange (s .workers) (s .capacity) (s .depth) �
       let c = accepted-step s m w h in
       let x = step-explained s range m w (c .operation) t good parts (c .worker) (c .under-way) in
       let a : answerIn (step s m w .1) ≡ effectOf s m w (c .operation) .answer =
-      ap (λ (r : Machine × Stepped). answerIn (r .1)) (c .is) ∙ answer-done m w _ in
+      ap (λ (r : Machine × Stepped). answerIn (r .1)) (c .is) ∙ answer-done m w _ _ in
       record {
         explained = subst To (sym a) x;
         moving = λ j i. (w, and-true (eq-eqb w w refl) h);

@@ -20,7 +20,7 @@ use Rattle.interface.specs.declared.Called.{Called}
 use Rattle.machine.specs.Choice.{if_then_else_, _and_}
 use Rattle.machine.specs.Sequential.{Table, Operation, update, lookup}
 use Rattle.machine.specs.Records.{Reads, Worker, Machine}
-use Rattle.machine.specs.Steps.{access, perform, counted, stepReply, done, stepOf, step}
+use Rattle.machine.specs.Steps.{access, perform, counted, checkOf, stepReply, done, stepOf, step}
 use Rattle.machine.specs.Calls.{opening, operationOf, spent, ticketFor, begun, callOf, call}
 use Rattle.machine.specs.Systems.{machines, Entry, calling, stepping, showing, reopening, OpensNothing, next, asked, accepts}
 use Rattle.machine.specs.Systems.{isAnswer, callsTo, endsBy, isUpdate}
@@ -60,9 +60,9 @@ module _ (s : Settings) (m : Machine) (j : ℕ) where
   step-reply = by-cases (decLt j (s .workers)) (λ l. by l (m .workers j .operation) refl)
       (λ l. rw (step-stranger s m j (omega arith), le-leb (s .workers) j (omega arith)) refl)
     where
-      made : (k : ℕ) (a : Option Answer) → refusalIn (stepReply k a) ≡ none
-      made k none = refl
-      made k (some a) = refl
+      made : (k c : ℕ) (a : Option Answer) → refusalIn (stepReply k c a) ≡ none
+      made k c none = refl
+      made k c (some a) = refl
 
       by : j < s .workers → (o : Option Operation) → m .workers j .operation ≡ o
           → refusalIn (step s m j .1) ≡ stepRefusal s j (busy (m .workers j .operation))
@@ -70,7 +70,8 @@ module _ (s : Settings) (m : Machine) (j : ℕ) where
       by l (some o) e =
           let none-given : stepRefusal s j (busy (m .workers j .operation)) ≡ none = rw (e, lt-leb (s .workers) j l) refl in
           ap (λ (r : Machine × Stepped). refusalIn (r .1)) (step-made s m j l e)
-          ∙ made (suc (m .workers j .steps)) (perform (access s j (m .workers j) o) (m .cells) .answer) ∙ sym none-given
+          ∙ made (suc (m .workers j .steps)) (checkOf s (m .workers j) o) (perform (access s j (m .workers j) o) (m .cells) .answer)
+          ∙ sym none-given
 
 -- ---- one entry
 
@@ -195,7 +196,7 @@ module _ (s : Settings) (lent : ℕ) (m : Machine) (t : Table) (es : List Entry)
           → underWay s (machines s lent) m t es (suc i) j ≡ busy (worker (suc i) j .operation)
       by h (begins c b q z a) = if-true _ _ c ∙ sym (ap busy q ∙ asks s lent _ j (entryAt es i) c)
       by h (moves-on c st q z a) = kept h c (ends-none s lent _ j (entryAt es i) a) q
-      by h (ends a x r c st q z) = if-false _ _ c ∙ if-true _ _ (ends-some s lent _ j (entryAt es i) x r) ∙ sym (ap busy q)
+      by h (ends a v x r c st q z) = if-false _ _ c ∙ if-true _ _ (ends-some s lent _ j (entryAt es i) x r) ∙ sym (ap busy q)
       by h (no-change c st q a) = kept h c (ends-none s lent _ j (entryAt es i) a) (ap (λ (w : Worker). w .operation) q)
 
   -- its last ticket is the number of updates that it has made
@@ -242,5 +243,5 @@ module _ (s : Settings) (lent : ℕ) (m : Machine) (t : Table) (es : List Entry)
           left : Change i j → worker (suc i) j .operation ≡ none
           left (begins c b x z a) = absurd (none-some a given)
           left (moves-on c st x z a) = absurd (none-some a given)
-          left (ends a x y c st z w) = z
+          left (ends a v x y c st z w) = z
           left (no-change c st x a) = absurd (none-some a given)

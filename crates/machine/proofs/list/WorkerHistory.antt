@@ -19,7 +19,7 @@ use Rattle.interface.specs.declared.Called.{Called}
 use Rattle.machine.specs.Choice.{if_then_else_, _and_}
 use Rattle.machine.specs.Sequential.{Table, Operation}
 use Rattle.machine.specs.Records.{Cells, Worker, Machine}
-use Rattle.machine.specs.Steps.{Effect, step, done, counted, stepReply}
+use Rattle.machine.specs.Steps.{Effect, step, checkOf, done, counted, stepReply}
 use Rattle.machine.specs.Calls.{opening, call, begun}
 use Rattle.machine.specs.Systems.{machines, Entry, calling, stepping, showing, reopening, OpensNothing, next, asked, accepts, moves}
 use Rattle.machine.specs.Systems.{callsTo, stepsBy}
@@ -45,7 +45,8 @@ pub data WorkerChange (s : Settings) (lent : ℕ) (m : Machine) (e : Entry) (j :
       → answerTo s m e j ≡ none → WorkerChange s lent m e j w′
   -- an accepted step of it that ends its operation
   ends :
-      (a : Answer) → e ≡ stepping j → step s m j .1 ≡ Stepped.Answered (record { answer = a; steps = suc (m .workers j .steps) })
+      (a : Answer) (o : Operation) → e ≡ stepping j
+      → step s m j .1 ≡ Stepped.Answered (record { answer = a; steps = suc (m .workers j .steps); check = checkOf s (m .workers j) o })
       → callsTo (machines s lent) m e j ≡ false → stepsBy (machines s lent) m e j ≡ true → w′ .operation ≡ none → answerTo s m e j ≡ some a
       → WorkerChange s lent m e j w′
   -- anything else
@@ -54,17 +55,17 @@ pub data WorkerChange (s : Settings) (lent : ℕ) (m : Machine) (e : Entry) (j :
       → WorkerChange s lent m e j w′
 
 -- a step that is made, of worker j: its worker and its reply afterwards
-done-worker : (m : Machine) (j : ℕ) (f : Effect Cells) → done m j f .0 .workers j ≡ counted (m .workers j) (f .reads) (f .answer)
+done-worker : (m : Machine) (j c : ℕ) (f : Effect Cells) → done m j c f .0 .workers j ≡ counted (m .workers j) (f .reads) (f .answer)
 unfolding done
-done-worker m j f = assign-at (m .workers) j _ j refl
+done-worker m j c f = assign-at (m .workers) j _ j refl
 
-done-other : (m : Machine) (j i : ℕ) (f : Effect Cells) → i ≢ j → done m j f .0 .workers i ≡ m .workers i
+done-other : (m : Machine) (j i c : ℕ) (f : Effect Cells) → i ≢ j → done m j c f .0 .workers i ≡ m .workers i
 unfolding done
-done-other m j i f d = assign-other (m .workers) j _ i d
+done-other m j i c f d = assign-other (m .workers) j _ i d
 
-done-reply : (m : Machine) (j : ℕ) (f : Effect Cells) → done m j f .1 ≡ stepReply (suc (m .workers j .steps)) (f .answer)
+done-reply : (m : Machine) (j c : ℕ) (f : Effect Cells) → done m j c f .1 ≡ stepReply (suc (m .workers j .steps)) c (f .answer)
 unfolding done
-done-reply m j f = refl
+done-reply m j c f = refl
 
 module _ (s : Settings) (lent : ℕ) (m : Machine) (j : ℕ) where
   -- a step of worker j itself
@@ -81,16 +82,17 @@ module _ (s : Settings) (lent : ℕ) (m : Machine) (j : ℕ) where
       after : (a : Option Answer) → effectOf s m j (c .operation) .answer ≡ a
           → step s m j .0 .workers j ≡ counted (m .workers j) (effectOf s m j (c .operation) .reads) a
       after a e =
-          ap (λ (r : Machine × Stepped). r .0 .workers j) (c .is) ∙ done-worker m j _
+          ap (λ (r : Machine × Stepped). r .0 .workers j) (c .is) ∙ done-worker m j _ _
           ∙ ap (counted (m .workers j) (effectOf s m j (c .operation) .reads)) e
 
-      reply : (a : Option Answer) → effectOf s m j (c .operation) .answer ≡ a → step s m j .1 ≡ stepReply (suc (m .workers j .steps)) a
-      reply a e = ap (λ (r : Machine × Stepped). r .1) (c .is) ∙ done-reply m j _ ∙ ap (stepReply (suc (m .workers j .steps))) e
+      reply : (a : Option Answer) → effectOf s m j (c .operation) .answer ≡ a
+          → step s m j .1 ≡ stepReply (suc (m .workers j .steps)) (checkOf s (m .workers j) (c .operation)) a
+      reply a e = ap (λ (r : Machine × Stepped). r .1) (c .is) ∙ done-reply m j _ _ ∙ ap (stepReply (suc (m .workers j .steps)) _) e
 
       by : (a : Option Answer) → effectOf s m j (c .operation) .answer ≡ a → WorkerChange s lent m (stepping j) j (step s m j .0 .workers j)
       by none e = moves-on refl given (ap (λ (w : Worker). w .operation) (after none e)) (ap (λ (w : Worker). w .steps) (after none e))
           (if-true _ _ (eq-eqb j j refl) ∙ ap answerIn (reply none e))
-      by (some a) e = ends a refl (reply (some a) e) refl given (ap (λ (w : Worker). w .operation) (after (some a) e))
+      by (some a) e = ends a (c .operation) refl (reply (some a) e) refl given (ap (λ (w : Worker). w .operation) (after (some a) e))
           (if-true _ _ (eq-eqb j j refl) ∙ ap answerIn (reply (some a) e))
 
   -- a step of another worker, or one that is refused
@@ -99,7 +101,7 @@ module _ (s : Settings) (lent : ℕ) (m : Machine) (j : ℕ) where
   other-step i d = no-change refl (and-left-false _ (ne-eqb i j (λ e. d (sym e)))) (by (step s m i .1) refl) (if-false _ _ (ne-eqb j i d))
     where
       made : moves (step s m i .1) ≡ true → step s m i .0 .workers j ≡ m .workers j
-      made h = ap (λ (r : Machine × Stepped). r .0 .workers j) (accepted-step s m i h .is) ∙ done-other m i j _ d
+      made h = ap (λ (r : Machine × Stepped). r .0 .workers j) (accepted-step s m i h .is) ∙ done-other m i j _ _ d
 
       by : (r : Stepped) → step s m i .1 ≡ r → step s m i .0 .workers j ≡ m .workers j
       by Stepped.Moved e = made (ap moves e)
@@ -262,7 +264,7 @@ module _ (s : Settings) (lent : ℕ) (m : Machine) (t : Table) (es : List Entry)
         go h (begins c b q z a) =
             subst (λ (c : ℕ). From c (suc i) j o) (sym (last-here i j c)) (from-call i j o (omega arith) c (sym q ∙ e) z)
         go h (moves-on c st q z a) = let u = h (sym q ∙ e) in same c (z ∙ ap suc (u .steps) ∙ sym (count-step j _ i (u .before) st)) u
-        go h (ends x a r c st q z) = absurd (none-some q e)
+        go h (ends x v a r c st q z) = absurd (none-some q e)
         go h (no-change c st q a) =
             let u = h (ap (λ (w : Worker). w .operation) (sym q) ∙ e) in
             same c (ap (λ (w : Worker). w .steps) q ∙ u .steps ∙ sym (count-rest j _ i st)) u
@@ -283,7 +285,7 @@ module _ (s : Settings) (lent : ℕ) (m : Machine) (t : Table) (es : List Entry)
         go : WorkerChange s lent (at c) (entry c) j (worker (suc c) j) → OperationStatus c (suc c) j o
         go (begins f b q z a) = unanswered (q ∙ h .operation) (from-call c j o (h .inList) (h .accepted) (h .operation) z)
         go (moves-on f st q z a) = absurd (no-both (h .accepted) f)
-        go (ends x a r f st q z) = absurd (no-both (h .accepted) f)
+        go (ends x v a r f st q z) = absurd (no-both (h .accepted) f)
         go (no-change f st q a) = absurd (no-both (h .accepted) f)
 
     operation-status-next : (c i j : ℕ) (o : Operation) → i < length es → OperationStatus c i j o → OperationStatus c (suc i) j o
@@ -296,7 +298,8 @@ module _ (s : Settings) (lent : ℕ) (m : Machine) (t : Table) (es : List Entry)
             unanswered (q ∙ e) (from-next c i j o f (z ∙ ap suc (u .steps) ∙ sym (count-step j c i (u .before) st)) u)
         go (no-change f st q a) = unanswered (ap (λ (w : Worker). w .operation) q ∙ e)
             (from-next c i j o f (ap (λ (w : Worker). w .steps) q ∙ u .steps ∙ sym (count-rest j c i st)) u)
-        go (ends a x r f st q z) = answered-at i (record { answer = a; steps = suc (worker i j .steps) }) (omega arith)
+        go (ends a v x r f st q z) =
+            answered-at i (record { answer = a; steps = suc (worker i j .steps); check = checkOf s (worker i j) v }) (omega arith)
             (record { called = u .called; later = u .before; inList = l; entry = x; answered = r; latest = u .latest })
             (ap suc (u .steps)) q
 
@@ -322,7 +325,7 @@ module _ (s : Settings) (lent : ℕ) (m : Machine) (t : Table) (es : List Entry)
             → worker (suc i) j .operation ≡ none
         next-idle f q (begins c b x z a) = absurd (no-both c f)
         next-idle f q (moves-on c st x z a) = x ∙ q
-        next-idle f q (ends a x r c st z y) = z
+        next-idle f q (ends a v x r c st z y) = z
         next-idle f q (no-change c st x a) = ap (λ (w : Worker). w .operation) x ∙ q
 
     -- the two calls that an operation under way came from are one

@@ -1,4 +1,4 @@
--- `ended` tells the steps and the total, and gives the number, as `endedReport` and `endedNumber` say.
+-- `ended` tells the steps, the total and the check, and gives the number, as `endedReport` and `endedNumber` say.
 -- Rests on the law of an answer's number.
 use borrow.Author.Needs.{needs}
 use Prim.Native.Nat.{ℕ, _+_}

@@ -12,9 +12,9 @@ use Rattle.fields.specs.Regions.{workerAt}
 use Rattle.layout.specs.Shape.{settingsOf, Fits}
 use Rattle.layout.proofs.Positions.{Placed, placed, fits-kept}
 use Rattle.updates.proofs.UpdateLaws.{operation-lookup, operation-update}
-use Rattle.updates.proofs.UpdateLaws.{numbered-stored}
+use Rattle.ends.proofs.EndLaws.{given-stored}
 use Rattle.runs.proofs.RunLaws.{run-start, run-end, run-idle, run-moved, run-answered, run-refused}
-use Rattle.updates.specs.Updates.{numbered}
+use Rattle.ends.specs.Ends.{givenAs}
 use Rattle.runs.specs.Runs.{runIn}
 use borrow.Author.Needs.{needs}
 use Rattle.runs.proofs.run_in.Statement.{statement}
@@ -157,8 +157,7 @@ update-step-requires c κs =
 
 returns-4 : tie.Need-returns-4 Inv-loop μ-loop
 returns-4 c =
-    let answer-of = c .before in
-    let test4 = answer-of .before in
+    let test4 = c .before in
     let update-step = test4 .before .before .before in
     let test2 = update-step .before .before .before .before in
     let put = test2 .before .before .before in
@@ -173,11 +172,11 @@ returns-4 c =
     let taken = operation-update _ _ _ _ _ _ _ _ (get .get .ensures) (ap (λ (x : ℕ). x % stepsRange) (get2 .get2 .ensures))
     (put .put .ensures) (test2 .if2 .left) (rw (← place) at (update-step .update-step .ensures)) in
     run-answered _ _ _ _ _ _ _ place (get .get .ensures) (more .loop-test .taken) _ _ (test .if1 .left) taken _
-    (numbered-stored _ _ _ (test4 .if4 .taken) (answer-of .answer-of .ensures) ∙ ap Stepped.Answered (sym (c .completed .ensures)))
+    (given-stored _ _ (test4 .if4 .taken) ∙ ap Stepped.Answered (sym (c .update-ended .ensures)))
     ∙ turn .loop .inv .1 .1
 
 loop-again : tie.Need-loop-again Inv-loop μ-loop
-unfolding numbered
+unfolding givenAs
 loop-again c =
     let put = c .before .before .before in
     let get2 = put .before .before in
@@ -215,7 +214,7 @@ loop-again c =
         search needs,
         run-moved _ _ _ _ _ _ _ place (get .get .ensures) (more .loop-test .taken) _ _
             (test .if1 .left) (operation-update _ _ _ _ _ _ _ _ (get .get .ensures) steps (put .put .ensures) (o .0 .left)
-            (rw (← place) at (o .4 .ensures))) (ap (numbered _) (o .7 .left)) ∙ turn .loop .inv .1 .1,
+            (rw (← place) at (o .4 .ensures))) (ap (givenAs _) (o .7 .left)) ∙ turn .loop .inv .1 .1,
       ),
     ))
     u)
@@ -230,5 +229,5 @@ run-in-spec =
     (λ c. search needs) returns add-get-2 get-requires-2 add-put (λ c. search needs) put-requires
     lookup-step-requires (λ c. search needs) (λ c. search needs) (λ c. search needs) returns-2 (λ c. search needs)
     (λ c. search needs) returns-3 mul-if3 add-if3 early-step-requires update-step-requires (λ c κs. search needs)
-    (λ c κs. search needs) (λ c. search needs) returns-4 (λ c. search needs) (λ c. search needs) loop-again
+    (λ c. search needs) returns-4 (λ c. search needs) (λ c. search needs) loop-again
     (λ c. search needs) returns-5)

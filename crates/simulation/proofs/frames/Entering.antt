@@ -21,10 +21,10 @@ use Rattle.interface.specs.declared.Refusal.{Refusal}
 use Rattle.interface.specs.declared.Stepped.{Stepped}
 use Rattle.machine.specs.Choice.{assign}
 use Rattle.machine.specs.Sequential.{Update, Operation, update, lookup, account}
-use Rattle.machine.specs.Records.{Slot, empty, announced, Cells, Reads, Machine}
+use Rattle.machine.specs.Records.{Slot, empty, announced, Cells, Reads, Worker, Machine}
 use Rattle.fields.specs.Fields.{workerKind, workerSteps, stepsRange, workerSize, widestRecord}
 use Rattle.fields.specs.Regions.{poolSize, wordsNeeded, record′, startOf, worker}
-use Rattle.machine.specs.Steps.{counted, stepReply, done, step}
+use Rattle.machine.specs.Steps.{counted, checkOf, stepReply, done, step}
 use Rattle.machine.proofs.laws.Base.{if-true, if-eq, if-ne, if-elim, eq-elim}
 use Rattle.machine.specs.Counter.{PC, counter}
 use Rattle.machine.proofs.invariant.Counter.{phaseOf, counter-phase}
@@ -151,6 +151,11 @@ module _ (s : Settings) (l : List ℕ) (enough : wordsNeeded s ≤ length l) (w 
 
 -- ---- the step begins
 
+-- the check that a worker is told with its answer, by its operation
+abbrev pub checkBy : Settings → Worker → Option Operation → ℕ
+checkBy s v none = 0
+checkBy s v (some o) = checkOf s v o
+
 -- the counter of a worker by its operation
 pub counter-is :
     (s : Settings) (m : Machine) (w : ℕ) {o : Operation} {pc : PC} → m .workers w .operation ≡ some o → tasksOf s m w .pc ≡ pc
@@ -203,7 +208,7 @@ module _ (s : Settings) (range : inRange (s .workers) (s .capacity) (s .depth) �
   abbrev pub Follows : Cells → Reads → Option Answer → Type 0
   Follows c x a =
       Meaning s (stepIn l s w .0) (record { cells = c; workers = assign (m .workers) w (counted (m .workers w) x a) })
-      × (stepIn l s w .1 ≡ stepReply (suc (m .workers w .steps)) a)
+      × (stepIn l s w .1 ≡ stepReply (suc (m .workers w .steps)) (checkBy s (m .workers w) (m .workers w .operation)) a)
 
   abbrev pub Simulated : Type 0
   Simulated = Meaning s (stepIn l s w .0) (step s m w .0) × (stepIn l s w .1 ≡ step s m w .1)
@@ -220,5 +225,5 @@ module _ (s : Settings) (range : inRange (s .workers) (s .capacity) (s .depth) �
   unfolding done
   simulated o e by =
       let limits = range-of (s .workers) (s .capacity) (s .depth) range in
-      rw (step-made s m w wn e)
-      (by _ _ _ (step-transition s m w o (limits .least-workers) e (not-over s m w wn good)) (effectOf s m w o .reads) refl)
+      let h = by _ _ _ (step-transition s m w o (limits .least-workers) e (not-over s m w wn good)) (effectOf s m w o .reads) refl in
+      rw (step-made s m w wn e) (h .0, h .1 ∙ ap (λ x. stepReply (suc k) (checkBy s (m .workers w) x) (effectOf s m w o .answer)) e)

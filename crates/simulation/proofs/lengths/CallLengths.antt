@@ -99,14 +99,14 @@ module _ (l : List ℕ) (s : Settings) (w : ℕ) (f : Fits l s) (known : w < s .
       if-elim (Long l) (eqb (word l (p + workerState)) (word l (q + recordNumber))) _ l (λ t. simp length-set (length-round l s f p q h))
       (λ t. refl)
 
-  length-ended : (k : ℕ) (a : Answer) → LongAfter l (endedAt l p k a)
+  length-ended : (k c : ℕ) (a : Answer) → LongAfter l (endedAt l p k c a)
   unfolding endedAt
-  length-ended k a = simp length-set
+  length-ended k c a = simp length-set
 
-  length-check : (k : ℕ) (o : Option ℕ) → LongAfter l (checkAt l p k o)
+  length-check : (k c : ℕ) (o : Option ℕ) → LongAfter l (checkAt l p k c o)
   unfolding checkAt
-  length-check k none = refl
-  length-check k (some x) = length-ended k _
+  length-check k c none = refl
+  length-check k c (some x) = length-ended k c _
 
   length-update : (k n : ℕ) (x : Phase) → n ≡ s .workers → x ≡ phase n k → LongAfter l (updateAt l s p w k x)
   unfolding updateAt bucketReadAt flippedAt stateReadAt toggleReadAt directoryReadAt stateStepAt
@@ -118,7 +118,7 @@ module _ (l : List ℕ) (s : Settings) (w : ℕ) (f : Fits l s) (known : w < s .
   length-update k n (readSlot j) g e =
       let h : j < n = subst⁻¹ (Below n) e (phase-below n k) in length-slot-read j (omega arith)
   length-update k n swapState g e = length-swapped (heldBy l p) (held-inside f p)
-  length-update k n checkState g e = length-check k _
+  length-update k n checkState g e = length-check k _ _
   length-update k n copyDirectory g e = simp length-set
   length-update k n (resizeFor j) g e = if-elim (Long l) (marks l s p j) _ l (λ t. length-set l _ _) (λ t. refl)
   length-update k n swapDirectory g e = length-redirected s p l f
@@ -126,7 +126,7 @@ module _ (l : List ℕ) (s : Settings) (w : ℕ) (f : Fits l s) (known : w < s .
   length-lookup : (k : ℕ) → LongAfter l (lookupAt l s p k)
   unfolding lookupAt bucketReadAt
   length-lookup zero = length-set l _ _
-  length-lookup (suc k) = length-ended (suc k) _
+  length-lookup (suc k) = length-ended (suc k) _ _
 
 module _ (l : List ℕ) (s : Settings) (w : ℕ) (f : Fits l s) (known : w < s .workers) where
   length-operation : (k : ℕ) → LongAfter l (operationAt l s (workerAt (s .workers) w) w k)

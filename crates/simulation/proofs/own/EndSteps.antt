@@ -14,7 +14,8 @@ use Rattle.interface.specs.declared.Stepped.{Stepped}
 use Rattle.machine.specs.Choice.{if_then_else_, assign}
 use Rattle.machine.specs.Sequential.{Operation, lookup, find, looked}
 use Rattle.machine.specs.Records.{Name, Reads, Machine}
-use Rattle.machine.specs.Steps.{counted, stepReply}
+use Rattle.machine.specs.Plan.{checkNumber}
+use Rattle.machine.specs.Steps.{counted, checkOf, stepReply}
 use Rattle.machine.specs.BucketPass.{checked}
 use Rattle.machine.proofs.laws.Base.{if-eq}
 use Rattle.machine.specs.Passed.{HoldsBucket}
@@ -35,7 +36,7 @@ use Rattle.lookups.specs.Lookups.{lookupAt, lookedAt}
 use Rattle.updates.specs.Updates.{checkedAt, updateAt, checkAt}
 use Rattle.calls.specs.Calls.{endedAt}
 use Rattle.simulation.specs.Meaning.{at, operationIn}
-use Rattle.simulation.proofs.frames.Entering.{raised, counter-is, is-about, lookup-enters}
+use Rattle.simulation.proofs.frames.Entering.{raised, checkBy, counter-is, is-about, lookup-enters}
 use Rattle.simulation.proofs.own.Answering.{answered, looked-is, checked-is}
 use Rattle.simulation.proofs.frames.Frames.{record-wide, own-record}
 use Rattle.simulation.proofs.frames.OwnWorker.{worker-means, nowhere, Ready, Next, Words, Free, words-here, words-set, mine-means, slots-kept, toggle-kept, Onward, enough₁, own₁, beside₁, free, mine, at-mine, keeps₁, announced-at, plan-step, stays}
@@ -69,11 +70,14 @@ module _ {s : Settings} {l : List ℕ} {m : Machine} {w : ℕ} (ready : Ready s 
       (y : Reads) → taskOf (s .workers) (counted (m .workers w) y (some a)) ≡ endedTask (tasksOf s m w) (m .workers w .reads)
       → Next ready (m .cells) y (some a)
 
-  ends : (a : Answer) → stepIn l s w ≡ endedAt l₁ me (m .workers w .steps) a → Ends a
+  -- told at check c, which is that of its operation
+  ends :
+      (a : Answer) (c : ℕ) → checkBy s (m .workers w) (m .workers w .operation) ≡ c
+      → stepIn l s w ≡ endedAt l₁ me (m .workers w .steps) c a → Ends a
   unfolding endedAt counted stepReply assign if_then_else_ descriptorIn
-  ends a e y g =
+  ends a c told e y g =
       let read : y ≡ k .reads = ap (λ (q : Task). q .reads) g in
-      rw (e, read, add-one) (
+      rw (e, read, add-one, told) (
         mine-means ready l₂ (record { last = m .workers w .last; operation = none; steps = 0; reads = k .reads }) idle refl (words .own)
             (record {
               operation = operation-none _ (words .are workerKind (omega arith));
@@ -111,8 +115,10 @@ module _ {s : Settings} {l : List ℕ} {m : Machine} {w : ℕ} (ready : Ready s 
   sought = let k = tasksOf s m w in looked (find (body (m .cells) (held k) .items) (target k))
 
   pub finds-means : k .pc ≡ look₂ → Ends sought
-  unfolding lookupAt
-  finds-means e = ends sought (lookup-enters s (ready .range) l m (ready .means) (ready .good) w (ready .known) (a .wanted) (a .asks) ∙ go)
+  unfolding lookupAt checkOf
+  finds-means e =
+      ends sought 0 (ap (checkBy s (m .workers w)) (a .asks))
+      (lookup-enters s (ready .range) l m (ready .means) (ready .good) w (ready .known) (a .wanted) (a .asks) ∙ go)
     where
       a : Looking s (m .cells) w k
       a = announced-at ready look₂ e
@@ -134,16 +140,19 @@ module _ {s : Settings} {l : List ℕ} {m : Machine} {w : ℕ} (ready : Ready s 
           ∙ looked-is s (omega arith) (omega arith) l₁ (mine ready h .0) _ (keeps₁ ready h) (enough₁ ready) (mine ready h .1 .inPool)
           (target k)
 
-      go : lookupAt l₁ s me (m .workers w .steps) ≡ endedAt l₁ me (m .workers w .steps) sought
-      go = ap (lookupAt l₁ s me) second ∙ ap (endedAt l₁ me 1) answer ∙ ap (λ (i : ℕ). endedAt l₁ me i sought) (sym second)
+      go : lookupAt l₁ s me (m .workers w .steps) ≡ endedAt l₁ me (m .workers w .steps) 0 sought
+      go = ap (lookupAt l₁ s me) second ∙ ap (endedAt l₁ me 1 0) answer ∙ ap (λ (i : ℕ). endedAt l₁ me i 0 sought) (sym second)
 
   -- ---- the check
 
   module _ (p x : Two) (e : k .pc ≡ checkS p x) where
+    abbrev number : ℕ
+    number = checkNumber (s .workers) (m .workers w .steps)
+
     abbrev found : Option ℕ
     found = checkedAt l₁ s me (heldBy l₁ me) w
 
-    check-enters : stepIn l s w ≡ checkAt l₁ me (m .workers w .steps) found
+    check-enters : stepIn l s w ≡ checkAt l₁ me (m .workers w .steps) number found
     unfolding updateAt
     check-enters = plan-step ready (checkS p x) (announced-at ready (checkS p x) e) e
 
@@ -161,12 +170,15 @@ module _ {s : Settings} {l : List ℕ} {m : Machine} {w : ℕ} (ready : Ready s 
 
     pub answers-means :
         (a : Answer) → checked s w (k .ticket) (held k .depth) (body (m .cells) (held k)) ≡ some a → Ends a
-    unfolding checkAt
-    answers-means a q = ends a (check-enters ∙ go found (check-finds ∙ q))
+    unfolding checkAt checkOf
+    answers-means a q =
+        ends a number (ap (checkBy s (m .workers w)) (announced-at ready (checkS p x) e .asks)) (check-enters ∙ go found (check-finds ∙ q))
       where
-        go : (o : Option ℕ) → answered o ≡ some a → checkAt l₁ me (m .workers w .steps) o ≡ endedAt l₁ me (m .workers w .steps) a
+        go :
+            (o : Option ℕ) → answered o ≡ some a
+            → checkAt l₁ me (m .workers w .steps) number o ≡ endedAt l₁ me (m .workers w .steps) number a
         go none g = let z : _≡_ {A = ℕ} 0 1 = cc in absurd (omega arith)
-        go (some v) g = let z : answerOf v ≡ a = cc in ap (endedAt l₁ me (m .workers w .steps)) z
+        go (some v) g = let z : answerOf v ≡ a = cc in ap (endedAt l₁ me (m .workers w .steps) number) z
 
     pub passes-means :
         checked s w (k .ticket) (held k .depth) (body (m .cells) (held k)) ≡ none → Onward ready (afterC p x) (k .reads)
@@ -175,7 +187,7 @@ module _ {s : Settings} {l : List ℕ} {m : Machine} {w : ℕ} (ready : Ready s 
         stays ready (afterC p x) (λ z. absurd (nothing p x .0 z)) (nothing p x .1) (nothing p x .2)
         (check-enters ∙ go found (check-finds ∙ q))
       where
-        go : (o : Option ℕ) → answered o ≡ none → checkAt l₁ me (m .workers w .steps) o ≡ (l₁, Stepped.Moved)
+        go : (o : Option ℕ) → answered o ≡ none → checkAt l₁ me (m .workers w .steps) number o ≡ (l₁, Stepped.Moved)
         go none g = refl
         go (some v) g = let z : _≡_ {A = ℕ} 0 1 = cc in absurd (omega arith)
 

@@ -21,7 +21,7 @@ use Rattle.interface.specs.declared.Ran.{Ran}
 use Rattle.machine.specs.Choice.{if_then_else_}
 use Rattle.machine.specs.Sequential.{Operation, update, lookup}
 use Rattle.machine.specs.Records.{Cells, Machine}
-use Rattle.machine.specs.Steps.{Effect, access, perform, counted, stepReply, done, step}
+use Rattle.machine.specs.Steps.{Effect, access, perform, counted, checkOf, stepReply, done, step}
 use Rattle.machine.specs.Systems.{stepping, next}
 use Rattle.machine.proofs.laws.Base.{lt-elim, if-eq, if-ne, assign-at}
 use Rattle.machine.proofs.Openings.{step-made, done-never}
@@ -43,7 +43,7 @@ use Rattle.simulation.proofs.Represents.{Represents, step-alike, repres
 
 module _ (s : Settings) (m : Machine) (w : ℕ) (known : w < s .workers) {o : Operation} (asked : m .workers w .operation ≡ some o) where
   never-refused : {r : Refusal} → step s m w .1 ≡ Stepped.Refused r → ⊥
-  never-refused {r} e = done-never m w _ (ap (λ (x : Machine × Stepped). x .1) (sym (step-made s m w known asked)) ∙ e)
+  never-refused {r} e = done-never m w _ _ (ap (λ (x : Machine × Stepped). x .1) (sym (step-made s m w known asked)) ∙ e)
 
   -- after a step that moved, the worker with one own step more
   moved-worker :
@@ -52,8 +52,11 @@ module _ (s : Settings) (m : Machine) (w : ℕ) (known : w < s .workers) {o : Op
   unfolding done counted stepReply
   moved-worker = rw (step-made s m w known asked) (by (perform (access s w (m .workers w) o) (m .cells)) _ refl)
     where
-      by : (e : Effect Cells) (a : Option Answer) → e .answer ≡ a → done m w e .1 ≡ Stepped.Moved
-          → (done m w e .0 .workers w .operation ≡ some o) × (done m w e .0 .workers w .steps ≡ suc (m .workers w .steps))
+      c : ℕ
+      c = checkOf s (m .workers w) o
+
+      by : (e : Effect Cells) (a : Option Answer) → e .answer ≡ a → done m w c e .1 ≡ Stepped.Moved
+          → (done m w c e .0 .workers w .operation ≡ some o) × (done m w c e .0 .workers w .steps ≡ suc (m .workers w .steps))
       by e none f g = rw (assign-at, f) (asked, refl)
       by e (some a) f g = absurd (let z : _≡_ {A = ℕ} 0 1 = cc in omega arith)
 

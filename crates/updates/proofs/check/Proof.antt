@@ -2,7 +2,7 @@
 -- Rests on the laws of a check, and on the bounds of words that fit.
 use Prim.Native.Nat.{_+_, _≤_}
 use native.Mathlib.Omega.{arith}
-use mathlib.Core.Path.{_≡_, refl}
+use mathlib.Core.Path.{_≡_}
 use lib.ListN.{length}
 use borrow.Author.Tests.{not-true, not-false}
 use Rattle.fields.specs.Fields.{widestRecord}
@@ -10,8 +10,10 @@ use Rattle.rules.specs.Rules.{crowdedBy}
 use Rattle.layout.proofs.Positions.{Placed, placed}
 use Rattle.record.specs.Bucket.{crowdedAt}
 use Rattle.record.proofs.Tests.{both-read}
-use Rattle.updates.specs.Updates.{numbered, updateAt}
-use Rattle.updates.proofs.UpdateLaws.{held-room, numbered-stored, numbered-none, check-settled, check-moved, check-crowded}
+use Rattle.updates.specs.Updates.{updateAt}
+use Rattle.ends.specs.Ends.{numbered}
+use Rattle.updates.proofs.UpdateLaws.{held-room, check-settled, check-moved, check-crowded}
+use Rattle.ends.proofs.EndLaws.{numbered-stored, numbered-none}
 use borrow.Author.Needs.{needs}
 use Rattle.updates.proofs.check.Statement.{statement}
 use Rattle.updates.proofs.check.Tie as tie
@@ -68,7 +70,7 @@ returns c =
     let worker = ticket .before .before in
     rw (← worker .before .held-by .ensures, ← worker .worker-at .ensures)
     (check-settled _ _ _ _ _ k _ _ (ticket .get .ensures) (settled .settled-ticket .ensures) _ _ _ (late .if1 .taken)
-    (answer .settled-answer .ensures) (numbered-none k _ (c .if2 .taken)) (done .finish .ensures))
+    (answer .settled-answer .ensures) (numbered-none _ k _ (c .if2 .taken)) (done .finish .ensures))
 
 returns-2 : tie.Need-returns-2
 unfolding updateAt
@@ -82,7 +84,7 @@ returns-2 c =
     let worker = ticket .before .before in
     rw (← worker .before .held-by .ensures, ← worker .worker-at .ensures)
     (check-settled _ _ _ _ _ k _ _ (ticket .get .ensures) (settled .settled-ticket .ensures) _ _ _ (late .if1 .taken)
-    (answer .settled-answer .ensures) (numbered-stored k _ _ (c .if2 .left) refl) (done .finish .ensures))
+    (answer .settled-answer .ensures) (numbered-stored _ k _ (c .if2 .left)) (done .finish .ensures))
 
 add-get-2 : tie.Need-add-get-2
 add-get-2 c = omega (arith, inside (c .before .before .before .before .before .before .before))

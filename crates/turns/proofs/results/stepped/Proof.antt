@@ -1,18 +1,18 @@
--- `stepped` gives what `numbered` gives.
--- Rests on the law of an answer's number.
+-- `stepped` gives what `givenAs` gives.
+-- Rests on the law of an update's end in one word.
 use mathlib.Core.Path.{sym}
-use Rattle.updates.specs.Updates.{numbered}
-use Rattle.updates.proofs.UpdateLaws.{numbered-stored}
+use Rattle.ends.specs.Ends.{givenAs}
+use Rattle.ends.proofs.EndLaws.{given-stored}
 use borrow.Author.Needs.{needs}
 use Rattle.turns.proofs.results.stepped.Statement.{statement}
 use Rattle.turns.proofs.results.stepped.Tie as tie
 
 returns : tie.Need-returns
-unfolding numbered
+unfolding givenAs
 returns c = rw (c .if1 .taken)
 
 returns-2 : tie.Need-returns-2
-returns-2 c = rw (c .completed .ensures) (sym (numbered-stored _ _ _ (c .before .before .if1 .left) (c .before .answer-of .ensures)))
+returns-2 c = rw (c .update-ended .ensures) (sym (given-stored _ _ (c .before .if1 .left)))
 
 pub stepped-spec : {M : Type 1} → statement M
-stepped-spec = tie.close (tie.spec returns (λ c κs. search needs) (λ c κs. search needs) returns-2)
+stepped-spec = tie.close (tie.spec returns (λ c κs. search needs) returns-2)

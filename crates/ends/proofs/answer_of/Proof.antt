@@ -3,8 +3,8 @@
 use borrow.Author.Tests.{ne-eqb}
 use Rattle.machine.specs.Choice.{if_then_else_}
 use Rattle.rules.specs.Rules.{answerOf}
-use Rattle.updates.proofs.answer_of.Statement.{statement}
-use Rattle.updates.proofs.answer_of.Tie as tie
+use Rattle.ends.proofs.answer_of.Statement.{statement}
+use Rattle.ends.proofs.answer_of.Tie as tie
 
 returns : tie.Need-returns
 unfolding answerOf if_then_else_
