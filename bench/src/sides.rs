@@ -7,26 +7,33 @@ use std::collections::HashMap;
 use std::hint::black_box;
 use std::sync::Mutex;
 
-// TOTALS_MOVED, a refusal's number, or an answer's number with the steps of the operation and the total found.
+// TOTALS_MOVED, a refusal's number, or an answer's number with the steps of the operation, the total found and the check
+// that answered.
 #[derive(Clone, Copy, PartialEq, Eq, Debug)]
 pub struct Reply {
     pub code: u64,
     pub steps: u64,
     pub total: i64,
+    pub check: u64,
 }
 
+// The places of a report: steps, total and check.
+type Report = [u64; 3];
+
 impl Reply {
-    fn new(code: u64, report: [u64; 2]) -> Reply {
+    fn new(code: u64, report: Report) -> Reply {
         Reply {
             code,
             steps: report[0],
             total: report[1] as i64,
+            check: report[2],
         }
     }
 
     // of up to so many steps; what is reported where none of them answered, the steps given, is left out
-    fn of_run(code: u64, report: [u64; 2]) -> Reply {
-        Reply::new(code, if code == TOTALS_MOVED { [0; 2] } else { report })
+    fn of_run(code: u64, report: Report) -> Reply {
+        let told = code != TOTALS_MOVED;
+        Reply::new(code, if told { report } else { Report::default() })
     }
 }
 
@@ -105,21 +112,21 @@ impl Table for Proved {
     }
 
     fn step(&mut self, worker: u64) -> Reply {
-        let mut report = [0; 2];
+        let mut report = Report::default();
         let code = unsafe {
             totals_step(
                 self.0.as_mut_ptr(),
                 self.0.len(),
                 worker,
                 report.as_mut_ptr(),
-                2,
+                report.len(),
             )
         };
         Reply::new(code, report)
     }
 
     fn run(&mut self, worker: u64, most: u64) -> Reply {
-        let mut report = [0; 2];
+        let mut report = Report::default();
         let code = unsafe {
             totals_run(
                 self.0.as_mut_ptr(),
@@ -127,7 +134,7 @@ impl Table for Proved {
                 worker,
                 most,
                 report.as_mut_ptr(),
-                2,
+                report.len(),
             )
         };
         Reply::of_run(code, report)
@@ -172,13 +179,13 @@ impl Table for Same {
     }
 
     fn step(&mut self, worker: u64) -> Reply {
-        let mut report = [0; 2];
+        let mut report = Report::default();
         let code = capi::same_totals_step(&mut self.0, worker, black_box(&mut report));
         Reply::new(code, report)
     }
 
     fn run(&mut self, worker: u64, most: u64) -> Reply {
-        let mut report = [0; 2];
+        let mut report = Report::default();
         let code = capi::same_totals_run(&mut self.0, worker, most, black_box(&mut report));
         Reply::of_run(code, report)
     }
@@ -194,22 +201,21 @@ impl Table for Same {
 }
 
 fn reply_of(stepped: Stepped) -> Reply {
-    let (code, steps, total) = match stepped {
-        Stepped::Moved => (TOTALS_MOVED, 0, 0),
-        Stepped::Refused(number) => (u64::from(number), 0, 0),
-        Stepped::Answered(Answer::Added, k) => (TOTALS_ADDED, k, 0),
-        Stepped::Answered(Answer::Replaced, k) => (TOTALS_REPLACED, k, 0),
-        Stepped::Answered(Answer::Removed, k) => (TOTALS_REMOVED, k, 0),
-        Stepped::Answered(Answer::Absent, k) => (TOTALS_ABSENT, k, 0),
-        Stepped::Answered(Answer::Found(total), k) => (TOTALS_FOUND, k, total),
-        Stepped::Answered(Answer::None, k) => (TOTALS_NONE, k, 0),
-        Stepped::Answered(Answer::Crowded, k) => (TOTALS_CROWDED, k, 0),
+    let (answer, steps, check) = match stepped {
+        Stepped::Moved => return Reply::new(TOTALS_MOVED, Report::default()),
+        Stepped::Refused(number) => return Reply::new(u64::from(number), Report::default()),
+        Stepped::Answered(answer, steps, check) => (answer, u64::from(steps), u64::from(check)),
     };
-    Reply {
-        code,
-        steps: u64::from(steps),
-        total,
-    }
+    let (code, total) = match answer {
+        Answer::Added => (TOTALS_ADDED, 0),
+        Answer::Replaced => (TOTALS_REPLACED, 0),
+        Answer::Removed => (TOTALS_REMOVED, 0),
+        Answer::Absent => (TOTALS_ABSENT, 0),
+        Answer::Found(total) => (TOTALS_FOUND, total),
+        Answer::None => (TOTALS_NONE, 0),
+        Answer::Crowded => (TOTALS_CROWDED, 0),
+    };
+    Reply::new(code, [steps, total as u64, check])
 }
 
 impl Table for Twin {

@@ -11,18 +11,20 @@ use phase::{phase, Phase};
 #[derive(Clone, Copy, PartialEq, Eq, Debug)]
 pub enum Stepped {
     Moved,
-    Answered(Answer, u32),
+    // with the steps taken, and the check that answered an update
+    Answered(Answer, u32, u8),
     // a refusal's number
     Refused(u8),
 }
 
 // What a worker is about, and what it has read: its bucket and that state's version, the toggle, the directory's
-// version, the slots. A bit of `marked` for each worker whose bucket is to be split.
+// version, the slots; how many checks it has made. A bit of `marked` for each worker whose bucket is to be split.
 #[derive(Clone)]
 struct Worker {
     operation: Option<Update>,
     last_ticket: u32,
     steps: u32,
+    checks: u8,
     bucket: usize,
     version: u32,
     toggle: u8,
@@ -49,6 +51,7 @@ impl Twin {
             operation: None,
             last_ticket: 0,
             steps: 0,
+            checks: 0,
             bucket: 0,
             version: 0,
             toggle: 0,
@@ -89,6 +92,7 @@ impl Twin {
             ticket: worker.last_ticket,
         });
         worker.steps = 0;
+        worker.checks = 0;
         TOTALS_OK as u8
     }
 
@@ -146,8 +150,9 @@ impl Twin {
         let Some(answer) = answer else {
             return Stepped::Moved;
         };
-        self.workers[w].operation = None;
-        Stepped::Answered(answer, k + 1)
+        let worker = &mut self.workers[w];
+        worker.operation = None;
+        Stepped::Answered(answer, k + 1, worker.checks)
     }
 
     #[inline(always)]
@@ -162,7 +167,10 @@ impl Twin {
             Phase::ReadToggle => worker.toggle = bucket.toggle,
             Phase::ReadSlot(j) => worker.slots[j] = self.slots[j],
             Phase::Swap => self.swap(w),
-            Phase::Check => return self.check(w, update),
+            Phase::Check => {
+                worker.checks += 1;
+                return self.check(w, update);
+            }
             Phase::CopyDirectory => {
                 worker.directory_version = self.directory_version;
                 worker.marked = 0;
