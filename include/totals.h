@@ -11,8 +11,9 @@
  *     memcpy and memset.
  *   - Over words that totals_open accepted and that nothing but these calls has changed since, lent whole each time:
  *     TOTALS_STRANGE never comes; answers and listings are those of a plain table that serves each operation at one
- *     moment between its call and its answer; a lookup is answered at the second step after its call, an update at step
- *     12n+33 or earlier, whatever the other workers do.
+ *     moment between its call and its answer; whatever the other workers do, a lookup is answered at the second step
+ *     after its call, an update at step 2n+11, 6n+17, 8n+27 or 12n+33, which are its four checks, and with one worker
+ *     at step 13 or 23.
  *
  * What the caller owes
  *   - A slice is a pointer and a length, counted in its items. The pointer is not null, also where the length is 0, is
@@ -52,6 +53,26 @@ extern "C" {
 /* How many updates one worker can make, and how many steps one totals_run gives at most. */
 #define TOTALS_GREATEST_UPDATES 65535
 #define TOTALS_GREATEST_RUN 256
+
+/*
+ * How many steps an operation takes, exactly. A lookup takes TOTALS_LOOKUP_STEPS. An update is answered by one of its
+ * checks, 1 to TOTALS_GREATEST_CHECK: the report tells by which, and TOTALS_CHECK_STEPS(workers, check) is what it took
+ * then, 0 for a number that is no check's. With one worker checks 1 and 2 alone answer, after 13 and 23 steps.
+ * TOTALS_GREATEST_STEPS(workers) is the most that an operation takes: 23 with one worker, else 12 * workers + 33.
+ *
+ * Arguments may have any integer type; constants give a constant, also after #if. An argument is evaluated more than
+ * once: workers twice at most, check four times at most.
+ */
+#define TOTALS_LOOKUP_STEPS 2
+#define TOTALS_GREATEST_CHECK 4
+#define TOTALS_CHECK_STEPS(workers, check) \
+    ((check) == 1   ? 2 * (workers) + 11 \
+     : (check) == 2 ? 6 * (workers) + 17 \
+     : (check) == 3 ? 8 * (workers) + 27 \
+     : (check) == 4 ? 12 * (workers) + 33 \
+                    : 0)
+#define TOTALS_GREATEST_STEPS(workers) \
+    ((workers) == 1 ? TOTALS_CHECK_STEPS(workers, 2) : TOTALS_CHECK_STEPS(workers, TOTALS_GREATEST_CHECK))
 
 /* Opened, accepted, listed; and of steps: made, and the operation goes on. */
 #define TOTALS_OK 0
@@ -114,10 +135,16 @@ uint64_t totals_call(uint64_t *words, size_t length, uint64_t worker, uint64_t k
 /*
  * One step of a worker's operation. Returns
  *   TOTALS_MOVED     the operation goes on; the report is not touched;
- *   an answer, TOTALS_ADDED to TOTALS_CROWDED: the operation has ended and the worker is idle again. A report of two
- *                    places or more then has at place 0 the steps that the operation took in all, and at place 1 the
- *                    total found as a word of two's complement, (int64_t)report[1], or 0 where the answer is not
- *                    TOTALS_FOUND. A shorter report is not touched.
+ *   an answer, TOTALS_ADDED to TOTALS_CROWDED: the operation has ended and the worker is idle again. A report of three
+ *                    places or more then has
+ *                      at place 0 the steps that the operation took in all;
+ *                      at place 1 the total found as a word of two's complement, (int64_t)report[1], or 0 where the
+ *                      answer is not TOTALS_FOUND;
+ *                      at place 2 which of its checks answered an update, 1 to TOTALS_GREATEST_CHECK, or 0 where the
+ *                      operation is a lookup.
+ *                    What is past them stays. A report of two places has the first two of these, and a shorter one is
+ *                    not touched. Over words that no opening left, the check of an update is how many of the figures
+ *                    of TOTALS_CHECK_STEPS are no greater than the steps at place 0, and so 0 is possible too.
  * Or, tested in this order and with no word and no report changed:
  *   TOTALS_STRANGE   as in totals_call;
  *   TOTALS_STRANGER  worker is n or more;
@@ -128,9 +155,9 @@ uint64_t totals_step(uint64_t *words, size_t length, uint64_t worker, uint64_t *
 /*
  * Up to `most` steps of a worker's operation, ending early at its answer, and given up after TOTALS_GREATEST_RUN steps,
  * which no operation of an opened table takes. Returns as totals_step does, with the same tests in the same order, made
- * once; but where it returns TOTALS_MOVED, a report of two places or more has at place 0 the steps that were given, and
- * at place 1 a 0. Over words that no opening left an operation may vanish at a step; the run then ends there with
- * TOTALS_MOVED.
+ * once; but where it returns TOTALS_MOVED, a report of three places or more has at place 0 the steps that were given,
+ * and at places 1 and 2 a 0; one of two places has the first two of these. Over words that no opening left an operation
+ * may vanish at a step; the run then ends there with TOTALS_MOVED.
  */
 uint64_t totals_run(uint64_t *words, size_t length, uint64_t worker, uint64_t most, uint64_t *report,
                     size_t report_length);

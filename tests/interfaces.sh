@@ -26,6 +26,7 @@ header() {
     command -v "$compiler" >/dev/null || continue
     "$compiler" -std=c99 "${strict[@]}" -fsyntax-only -x c "$run/header.h"
     check $? "the header as C99 by $compiler"
+    steps "$compiler" -std=c99
   done
   printf '#include "totals.h"\nint main() { return totals_words_needed(1, 2, 0) != TOTALS_LEAST_WORDS; }\n' \
     >"$run/linked.cc"
@@ -35,7 +36,14 @@ header() {
     check $? "the header as C++11 by $compiler"
     "$compiler" -std=c++11 "${strict[@]}" "$run/linked.cc" "$library" -o "$run/linked" && "$run/linked"
     check $? "a C++ program linked by $compiler"
+    steps "$compiler" -std=c++11 -x c++
   done
+}
+
+# steps COMPILER OPTION...: what the header's macros give is right in itself; tests/header.rs has the figures
+steps() {
+  "$@" "${strict[@]}" tests/c/steps.c -o "$run/steps" && "$run/steps" >"$run/figures" && [ -s "$run/figures" ]
+  check $? "the header's figures of steps by $1"
 }
 
 # the library has the header's functions and no more, and calls nothing but memcpy and memset
