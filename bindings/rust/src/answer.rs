@@ -66,8 +66,11 @@ pub enum Stepped {
     Answered {
         /// The operation's answer.
         answer: Answer,
-        /// The steps it took in all.
+        /// The steps it took in all: 2 where it is a lookup, else
+        /// [`Settings::steps_at_check`](crate::Settings::steps_at_check) of the check.
         steps: u64,
+        /// Which of its four checks answered an update, 1 to 4; 0 where it is a lookup.
+        check: u64,
     },
 }
 
@@ -81,25 +84,31 @@ pub enum Ran {
     Answered {
         /// The operation's answer.
         answer: Answer,
-        /// The steps it took in all.
+        /// The steps it took in all: 2 where it is a lookup, else
+        /// [`Settings::steps_at_check`](crate::Settings::steps_at_check) of the check.
         steps: u64,
+        /// Which of its four checks answered an update, 1 to 4; 0 where it is a lookup.
+        check: u64,
     },
 }
 
+/// What steps tell beside a number: how many there were, a total, and a check.
+pub(crate) type Report = [u64; 3];
+
 /// What a run's number and report say.
-pub(crate) fn ran(number: u64, report: [u64; 2]) -> Result<Ran, Refusal> {
-    let [steps, total] = report;
+pub(crate) fn ran(number: u64, report: Report) -> Result<Ran, Refusal> {
+    let [steps, total, check] = report;
     match number {
         TOTALS_MOVED => Ok(Ran::Moved(steps)),
         _ if number < TOTALS_ADDED => Err(Refusal::of(number)),
-        _ => Ok(Ran::Answered { answer: Answer::of(number, total), steps }),
+        _ => Ok(Ran::Answered { answer: Answer::of(number, total), steps, check }),
     }
 }
 
 /// What a step's number and report say.
-pub(crate) fn stepped(number: u64, report: [u64; 2]) -> Result<Stepped, Refusal> {
+pub(crate) fn stepped(number: u64, report: Report) -> Result<Stepped, Refusal> {
     match ran(number, report)? {
         Ran::Moved(_) => Ok(Stepped::Moved),
-        Ran::Answered { answer, steps } => Ok(Stepped::Answered { answer, steps }),
+        Ran::Answered { answer, steps, check } => Ok(Stepped::Answered { answer, steps, check }),
     }
 }

@@ -2,9 +2,10 @@
 //! behind a safe interface.
 //!
 //! A table is opened for n workers. An operation (insert, delete, lookup) is handed to a worker, and then takes its
-//! steps, one at a time and interleaved with the others' as the caller likes. A lookup answers at its second step, an
-//! update at its step 12n+33 or earlier, whatever the other workers do. Workers are numbers and no threads: a [`Table`]
-//! has one caller at a time. An update that is answered [`Answer::Crowded`] was not carried out.
+//! steps, one at a time and interleaved with the others' as the caller likes. Whatever the other workers do, a lookup
+//! answers at its second step, an update at one of its four checks, which are its steps 2n+11, 6n+17, 8n+27 and 12n+33;
+//! with one worker at step 13 or 23. [`Settings::greatest_steps`] is the most to plan for. Workers are numbers and no
+//! threads: a [`Table`] has one caller at a time. An update that is answered [`Answer::Crowded`] was not carried out.
 //!
 //! ```
 //! use totals::{Answer, Owned, Ran, Refusal, Settings};
@@ -13,7 +14,7 @@
 //! table.insert(1, 9, 90)?;
 //! assert_eq!(table.run(1, 3)?, Ran::Moved(3));
 //! table.insert(0, 5, 50)?;
-//! assert_eq!(table.run(0, 99)?, Ran::Answered { answer: Answer::Added, steps: 15 });
+//! assert_eq!(table.run(0, 99)?, Ran::Answered { answer: Answer::Added, steps: 15, check: 1 });
 //! // worker 0 has helped worker 1, which is parked
 //! assert_eq!(table.listing()?, [(5, 50), (9, 90)]);
 //! assert_eq!(table.insert(1, 9, 91), Err(Refusal::Busy));

@@ -51,6 +51,10 @@ pub const TOTALS_CROWDED: u64 = 25;
 pub const TOTALS_GREATEST_UPDATES: u64 = 65_535;
 /// How many steps one run gives at most.
 pub const TOTALS_GREATEST_RUN: u64 = 256;
+/// How many steps a lookup takes.
+pub const TOTALS_LOOKUP_STEPS: u64 = 2;
+/// The last of an update's checks. The steps at each are [`Settings::steps_at_check`](crate::Settings::steps_at_check).
+pub const TOTALS_GREATEST_CHECK: u64 = 4;
 
 extern "C" {
     /// The words needed for settings, or 1.
@@ -62,10 +66,11 @@ extern "C" {
     /// An operation handed to a worker: 0, or the number of a refusal.
     pub fn totals_call(words: *mut u64, length: usize, worker: u64, kind: u64, account: u32, total: i64) -> u64;
 
-    /// One step of a worker: 0, 16 and an answer's number, or the number of a refusal.
+    /// One step of a worker: 0, 16 and an answer's number, or the number of a refusal. A report of three places gets an
+    /// answer's steps, total and check.
     pub fn totals_step(words: *mut u64, length: usize, worker: u64, report: *mut u64, report_length: usize) -> u64;
 
-    /// Up to `most` steps of a worker: as a step.
+    /// Up to `most` steps of a worker: as a step. Where it returns 0, the report gets the steps given, 0 and 0.
     pub fn totals_run(
         words: *mut u64,
         length: usize,

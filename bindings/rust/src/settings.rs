@@ -31,6 +31,10 @@ impl Settings {
     pub const LEAST_DEPTH: u64 = 0;
     /// The greatest depth there is.
     pub const GREATEST_DEPTH: u64 = 8;
+    /// How many steps a lookup takes, exactly.
+    pub const LOOKUP_STEPS: u64 = raw::TOTALS_LOOKUP_STEPS;
+    /// The last of an update's checks, which count from 1.
+    pub const GREATEST_CHECK: u64 = raw::TOTALS_GREATEST_CHECK;
 
     /// The settings, or [`Refusal::Settings`] where one is outside its range.
     pub fn new(workers: u64, capacity: u64, depth: u64) -> Result<Settings, Refusal> {
@@ -45,6 +49,47 @@ impl Settings {
     pub fn words_needed(self) -> usize {
         // SAFETY: numbers alone go in and out.
         unsafe { raw::totals_words_needed(self.workers, self.capacity, self.depth) as usize }
+    }
+
+    /// How many steps an update takes at each of its checks.
+    const fn steps_at_checks(self) -> [u64; Self::GREATEST_CHECK as usize] {
+        let n = self.workers;
+        [2 * n + 11, 6 * n + 17, 8 * n + 27, 12 * n + 33]
+    }
+
+    /// How many steps an update takes that this check answers, exactly: 2n+11, 6n+17, 8n+27 and 12n+33 for check 1 to
+    /// 4; there are no others. With one worker checks 1 and 2 alone answer, after 13 and 23 steps.
+    ///
+    /// ```
+    /// use totals::Settings;
+    /// let settings = Settings::new(3, 4, 2)?;
+    /// let figures = [1, 2, 3, 4].map(|check| settings.steps_at_check(check));
+    /// assert_eq!(figures, [Some(17), Some(35), Some(51), Some(69)]);
+    /// assert_eq!(settings.steps_at_check(Settings::GREATEST_CHECK + 1), None);
+    /// # Ok::<(), totals::Refusal>(())
+    /// ```
+    pub const fn steps_at_check(self, check: u64) -> Option<u64> {
+        match check {
+            1..=Self::GREATEST_CHECK => Some(self.steps_at_checks()[check as usize - 1]),
+            _ => None,
+        }
+    }
+
+    /// The most steps that an operation takes, whatever the other workers do: 23 with one worker, else 12n+33.
+    ///
+    /// ```
+    /// use totals::Settings;
+    /// assert_eq!(Settings::new(1, 16, 8)?.greatest_steps(), 23);
+    /// assert_eq!(Settings::new(2, 16, 8)?.greatest_steps(), 57);
+    /// # Ok::<(), totals::Refusal>(())
+    /// ```
+    pub const fn greatest_steps(self) -> u64 {
+        let [_, second, _, fourth] = self.steps_at_checks();
+        if self.workers == 1 {
+            second
+        } else {
+            fourth
+        }
     }
 
     /// The number of workers, n.

@@ -1,6 +1,6 @@
 //! A table over borrowed words, and one that owns its words.
 
-use crate::answer::{ran, stepped};
+use crate::answer::{ran, stepped, Report};
 use crate::{raw, Ran, Refusal, Settings, Stepped};
 
 /// `TOTALS_OK` is done, any other number a refusal.
@@ -23,9 +23,9 @@ fn done(number: u64) -> Result<(), Refusal> {
 /// let mut table = Table::open(&mut words, settings)?;
 /// table.insert(0, 5, 700)?;
 /// assert_eq!(table.run(0, 12)?, Ran::Moved(12));
-/// assert_eq!(table.run(0, 9)?, Ran::Answered { answer: Answer::Added, steps: 13 });
+/// assert_eq!(table.run(0, 9)?, Ran::Answered { answer: Answer::Added, steps: 13, check: 1 });
 /// table.lookup(0, 5)?;
-/// assert_eq!(table.run(0, 2)?, Ran::Answered { answer: Answer::Found(700), steps: 2 });
+/// assert_eq!(table.run(0, 2)?, Ran::Answered { answer: Answer::Found(700), steps: 2, check: 0 });
 /// assert_eq!(table.listing()?, [(5, 700)]);
 /// # Ok::<(), totals::Refusal>(())
 /// ```
@@ -99,11 +99,11 @@ impl<'a> Table<'a> {
     /// assert_eq!(table.step(1), Err(Refusal::Idle));
     /// table.lookup(1, 5)?;
     /// assert_eq!(table.step(1), Ok(Stepped::Moved));
-    /// assert_eq!(table.step(1), Ok(Stepped::Answered { answer: Answer::None, steps: 2 }));
+    /// assert_eq!(table.step(1), Ok(Stepped::Answered { answer: Answer::None, steps: 2, check: 0 }));
     /// # Ok::<(), Refusal>(())
     /// ```
     pub fn step(&mut self, worker: u64) -> Result<Stepped, Refusal> {
-        let mut report = [0; 2];
+        let mut report = Report::default();
         // SAFETY: the pointers and the lengths are those of two slices that are borrowed for the call.
         let number = unsafe {
             raw::totals_step(self.words.as_mut_ptr(), self.words.len(), worker, report.as_mut_ptr(), report.len())
@@ -112,9 +112,25 @@ impl<'a> Table<'a> {
     }
 
     /// Up to `most` steps of the worker's operation, ending early at its answer; 256 at most, which no operation of an
-    /// opened table takes. Refuses as [`Table::step`].
+    /// opened table takes. As many as [`Settings::greatest_steps`] end any operation. Refuses as [`Table::step`].
+    ///
+    /// ```
+    /// use totals::{Answer, Owned, Ran, Settings};
+    /// let settings = Settings::new(1, 2, 1)?;
+    /// let mut owned = Owned::new(settings)?;
+    /// let mut table = owned.table();
+    /// let mut insert = |account| {
+    ///     table.insert(0, account, 700)?;
+    ///     table.run(0, settings.greatest_steps())
+    /// };
+    /// assert_eq!(insert(5)?, Ran::Answered { answer: Answer::Added, steps: 13, check: 1 });
+    /// assert_eq!(insert(6)?, Ran::Answered { answer: Answer::Added, steps: 13, check: 1 });
+    /// // it splits a full bucket first
+    /// assert_eq!(insert(1 << 31)?, Ran::Answered { answer: Answer::Added, steps: 23, check: 2 });
+    /// # Ok::<(), totals::Refusal>(())
+    /// ```
     pub fn run(&mut self, worker: u64, most: u64) -> Result<Ran, Refusal> {
-        let mut report = [0; 2];
+        let mut report = Report::default();
         let (words, length) = (self.words.as_mut_ptr(), self.words.len());
         // SAFETY: the pointers and the lengths are those of two slices that are borrowed for the call.
         let number = unsafe { raw::totals_run(words, length, worker, most, report.as_mut_ptr(), report.len()) };
@@ -129,7 +145,7 @@ impl<'a> Table<'a> {
     /// let mut owned = Owned::new(Settings::new(1, 2, 1)?)?;
     /// let mut table = owned.table();
     /// table.insert(0, 5, -700)?;
-    /// assert_eq!(table.run(0, 99)?, Ran::Answered { answer: Answer::Added, steps: 13 });
+    /// assert_eq!(table.run(0, 99)?, Ran::Answered { answer: Answer::Added, steps: 13, check: 1 });
     /// let (mut accounts, mut totals) = ([0; 2], [0; 2]);
     /// assert_eq!(table.listing_into(&mut accounts, &mut totals)?, 1);
     /// assert_eq!((accounts, totals), ([5, 0], [-700, 0]));

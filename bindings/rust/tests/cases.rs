@@ -1,4 +1,5 @@
-//! Document 01's session and cases by the safe interface, every refusal, and the words needed for all settings.
+//! Document 01's session and cases by the safe interface, every refusal, the words needed for all settings, and the
+//! steps at every check.
 
 use totals::{Answer, Owned, Ran, Refusal, Settings, Stepped, Table};
 
@@ -8,9 +9,9 @@ fn opened(workers: u64, capacity: u64, depth: u64) -> Result<Owned, Refusal> {
     Owned::new(Settings::new(workers, capacity, depth)?)
 }
 
-/// The worker's operation ends now.
-fn ends(table: &mut Table, worker: u64, answer: Answer, steps: u64) -> Done {
-    assert_eq!(table.run(worker, 99)?, Ran::Answered { answer, steps });
+/// The worker's operation ends now, after so many steps, at this check.
+fn ends(table: &mut Table, worker: u64, answer: Answer, steps: u64, check: u64) -> Done {
+    assert_eq!(table.run(worker, 99)?, Ran::Answered { answer, steps, check });
     Ok(())
 }
 
@@ -20,7 +21,7 @@ fn holding(workers: u64, accounts: &[u32]) -> Result<Owned, Refusal> {
     let mut table = owned.table();
     for &account in accounts {
         table.insert(0, account, i64::from(account) * 10)?;
-        ends(&mut table, 0, Answer::Added, 2 * workers + 11)?;
+        ends(&mut table, 0, Answer::Added, 2 * workers + 11, 1)?;
     }
     Ok(owned)
 }
@@ -56,14 +57,27 @@ fn the_words_needed_and_a_fresh_table_for_all_settings() -> Done {
 }
 
 #[test]
+fn the_steps_at_every_check_for_all_numbers_of_workers() -> Done {
+    for n in Settings::LEAST_WORKERS..=Settings::GREATEST_WORKERS {
+        let settings = Settings::new(n, 2, 1)?;
+        let figures = [2 * n + 11, 6 * n + 17, 8 * n + 27, 12 * n + 33].map(Some);
+        assert_eq!([1, 2, 3, 4].map(|check| settings.steps_at_check(check)), figures);
+        assert_eq!([0, 5, u64::MAX].map(|check| settings.steps_at_check(check)), [None; 3]);
+        assert_eq!(settings.greatest_steps(), if n == 1 { 23 } else { 12 * n + 33 });
+    }
+    assert_eq!((Settings::LOOKUP_STEPS, Settings::GREATEST_CHECK), (2, 4));
+    Ok(())
+}
+
+#[test]
 fn the_session() -> Done {
     let mut owned = opened(1, 2, 1)?;
     let mut table = owned.table();
     table.insert(0, 5, 700)?;
     assert_eq!(table.run(0, 12)?, Ran::Moved(12));
-    assert_eq!(table.run(0, 9)?, Ran::Answered { answer: Answer::Added, steps: 13 });
+    assert_eq!(table.run(0, 9)?, Ran::Answered { answer: Answer::Added, steps: 13, check: 1 });
     table.lookup(0, 5)?;
-    assert_eq!(table.run(0, 2)?, Ran::Answered { answer: Answer::Found(700), steps: 2 });
+    assert_eq!(table.run(0, 2)?, Ran::Answered { answer: Answer::Found(700), steps: 2, check: 0 });
     assert_eq!(table.listing()?, [(5, 700)]);
     Ok(())
 }
@@ -73,11 +87,11 @@ fn a_split_then_crowded() -> Done {
     let mut owned = holding(1, &[5, 6])?;
     let mut table = owned.table();
     table.insert(0, 2147483648, 80)?;
-    ends(&mut table, 0, Answer::Added, 23)?;
+    ends(&mut table, 0, Answer::Added, 23, 2)?;
     table.insert(0, 7, 70)?;
-    ends(&mut table, 0, Answer::Crowded, 13)?;
+    ends(&mut table, 0, Answer::Crowded, 13, 1)?;
     table.delete(0, 5)?;
-    ends(&mut table, 0, Answer::Crowded, 13)?;
+    ends(&mut table, 0, Answer::Crowded, 13, 1)?;
     assert_eq!(table.listing()?, [(5, 50), (6, 60), (2147483648, 80)]);
     Ok(())
 }
@@ -87,10 +101,10 @@ fn crowded_straight_away_and_the_split_stays() -> Done {
     let mut owned = holding(1, &[5, 6])?;
     let mut table = owned.table();
     table.insert(0, 7, 70)?;
-    ends(&mut table, 0, Answer::Crowded, 23)?;
+    ends(&mut table, 0, Answer::Crowded, 23, 2)?;
     // nothing is left to split
     table.insert(0, 2147483648, 80)?;
-    ends(&mut table, 0, Answer::Added, 13)
+    ends(&mut table, 0, Answer::Added, 13, 1)
 }
 
 #[test]
@@ -116,10 +130,10 @@ fn a_lookup_after_a_delete() -> Done {
     table.lookup(1, 5)?;
     assert_eq!(table.step(1)?, Stepped::Moved);
     table.delete(0, 5)?;
-    ends(&mut table, 0, Answer::Removed, 15)?;
-    assert_eq!(table.step(1)?, Stepped::Answered { answer: Answer::None, steps: 2 });
+    ends(&mut table, 0, Answer::Removed, 15, 1)?;
+    assert_eq!(table.step(1)?, Stepped::Answered { answer: Answer::None, steps: 2, check: 0 });
     table.delete(0, 5)?;
-    ends(&mut table, 0, Answer::Absent, 15)
+    ends(&mut table, 0, Answer::Absent, 15, 1)
 }
 
 #[test]
@@ -129,9 +143,9 @@ fn a_helped_insert() -> Done {
     table.insert(1, 9, 90)?;
     assert_eq!(table.run(1, 3)?, Ran::Moved(3));
     table.insert(0, 5, 50)?;
-    ends(&mut table, 0, Answer::Added, 15)?;
+    ends(&mut table, 0, Answer::Added, 15, 1)?;
     assert_eq!(table.listing()?, [(5, 50), (9, 90)]);
-    ends(&mut table, 1, Answer::Added, 15)
+    ends(&mut table, 1, Answer::Added, 15, 1)
 }
 
 #[test]
@@ -142,8 +156,8 @@ fn the_second_pass_is_needed() -> Done {
     assert_eq!(table.run(0, 20)?, Ran::Moved(20));
     table.insert(1, 2147483649, 90)?;
     assert_eq!(table.run(1, 13)?, Ran::Moved(13));
-    ends(&mut table, 0, Answer::Added, 29)?;
-    ends(&mut table, 1, Answer::Added, 43)
+    ends(&mut table, 0, Answer::Added, 29, 2)?;
+    ends(&mut table, 1, Answer::Added, 43, 3)
 }
 
 #[test]
@@ -152,12 +166,12 @@ fn update_65535_is_accepted_and_the_next_is_spent() -> Done {
     let mut table = owned.table();
     for _ in 1..65_535 {
         table.insert(0, 5, i64::MIN)?;
-        ends(&mut table, 0, Answer::Replaced, 13)?;
+        ends(&mut table, 0, Answer::Replaced, 13, 1)?;
     }
     assert_eq!(table.insert(0, 5, 7), Err(Refusal::Spent));
     assert_eq!(table.delete(0, 5), Err(Refusal::Spent));
     table.lookup(0, 5)?;
-    ends(&mut table, 0, Answer::Found(i64::MIN), 2)
+    ends(&mut table, 0, Answer::Found(i64::MIN), 2, 0)
 }
 
 #[test]

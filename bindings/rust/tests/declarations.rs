@@ -94,9 +94,11 @@ fn named(declaration: &str) -> (String, String) {
     (name.to_string(), kind(c.trim_end()).to_string())
 }
 
-/// The functions that the header declares: all that stands between the two braces for C++ and is no directive.
+/// The functions that the header declares: all that stands between the two braces for C++ and is no directive. A
+/// directive goes on after a backslash.
 fn header() -> Vec<Function> {
     let text: String = text("include/totals.h")
+        .replace("\\\n", " ")
         .lines()
         .filter(|line| !line.starts_with('#'))
         .map(|line| line.to_string() + "\n")

@@ -1,12 +1,17 @@
-//! The constants of `include/totals.h` are those of the library and of the safe interface.
+//! The constants and the figures of `include/totals.h` are those of the library and of the safe interface.
 
-use std::{collections::BTreeMap, fs, path::Path};
+use std::path::{Path, PathBuf};
+use std::{collections::BTreeMap, fs, process::Command};
 use totals::{raw, Refusal, Settings, Table};
+
+/// A file or a folder of the repository.
+fn repository(path: &str) -> PathBuf {
+    Path::new(env!("CARGO_MANIFEST_DIR")).join("../..").join(path)
+}
 
 /// The header's constants without their prefix.
 fn constants() -> BTreeMap<String, u64> {
-    let header = Path::new(env!("CARGO_MANIFEST_DIR")).join("../../include/totals.h");
-    let text = fs::read_to_string(header).expect("the header");
+    let text = fs::read_to_string(repository("include/totals.h")).expect("the header");
     let define = |line: &str| {
         let mut fields = line.strip_prefix("#define TOTALS_")?.split_whitespace();
         Some((fields.next()?.to_string(), fields.next()?.parse().ok()?))
@@ -26,7 +31,7 @@ fn raw_constants() -> BTreeMap<String, u64> {
 #[test]
 fn constants_of_raw() {
     let (mut header, raw) = (constants(), raw_constants());
-    assert_eq!(raw.len(), 23);
+    assert_eq!(raw.len(), 25);
     header.retain(|name, _| raw.contains_key(name));
     assert_eq!(raw, header);
 }
@@ -65,28 +70,56 @@ fn refusals_and_limits() -> Result<(), Refusal> {
     Ok(())
 }
 
+/// What `tests/c/steps.c` prints: numbers, a line for each number of workers.
+fn figures() -> Vec<Vec<u64>> {
+    let program = Path::new(env!("CARGO_TARGET_TMPDIR")).join("steps");
+    let (source, include) = (repository("tests/c/steps.c"), repository("include"));
+    let built = Command::new("cc").arg("-I").arg(include).arg(source).arg("-o").arg(&program).status();
+    assert!(built.expect("a C compiler").success());
+    let ran = Command::new(program).output().expect("the program was built");
+    assert!(ran.status.success());
+    let text = String::from_utf8(ran.stdout).expect("the output is text");
+    let numbers = |line: &str| line.split(' ').map(|number| number.parse().expect("a number")).collect();
+    text.lines().map(numbers).collect()
+}
+
+#[test]
+fn steps() -> Result<(), Refusal> {
+    let mut lines = Vec::new();
+    for n in Settings::LEAST_WORKERS..=Settings::GREATEST_WORKERS {
+        let settings = Settings::new(n, 2, 0)?;
+        // the header has 0 where there is no such check
+        let checks = (0..=Settings::GREATEST_CHECK + 1).map(|check| settings.steps_at_check(check).unwrap_or(0));
+        lines.push([n, settings.greatest_steps()].into_iter().chain(checks).collect::<Vec<u64>>());
+    }
+    assert_eq!(figures(), lines);
+    let header = constants();
+    assert_eq!((header["LOOKUP_STEPS"], header["GREATEST_CHECK"]), (Settings::LOOKUP_STEPS, Settings::GREATEST_CHECK));
+    Ok(())
+}
+
 #[test]
 fn kinds_and_answers() {
     let header = constants();
     let mut words = [0; 150];
     assert_eq!(unsafe { raw::totals_open(words.as_mut_ptr(), words.len(), 1, 2, 0) }, header["OK"]);
     let mut answer = |kind: &str, account: u32| {
-        let mut report = [0; 2];
+        let mut report = [0; 3];
         let (w, length) = (words.as_mut_ptr(), words.len());
         // the total is ten times the account, less than nothing
         let called = unsafe { raw::totals_call(w, length, 0, header[kind], account, -10 * i64::from(account)) };
         assert_eq!(called, header["OK"]);
         let number =
             unsafe { raw::totals_run(w, length, 0, header["GREATEST_RUN"], report.as_mut_ptr(), report.len()) };
-        (number, report[1] as i64)
+        (number, report[1] as i64, report[2])
     };
-    assert_eq!(answer("INSERT", 5), (header["ADDED"], 0));
-    assert_eq!(answer("INSERT", 5), (header["REPLACED"], 0));
-    assert_eq!(answer("LOOKUP", 5), (header["FOUND"], -50));
-    assert_eq!(answer("LOOKUP", 6), (header["NONE"], 0));
-    assert_eq!(answer("DELETE", 6), (header["ABSENT"], 0));
-    assert_eq!(answer("DELETE", 5), (header["REMOVED"], 0));
-    assert_eq!(answer("INSERT", 6), (header["ADDED"], 0));
-    assert_eq!(answer("INSERT", 7), (header["ADDED"], 0));
-    assert_eq!(answer("INSERT", 8), (header["CROWDED"], 0));
+    assert_eq!(answer("INSERT", 5), (header["ADDED"], 0, 1));
+    assert_eq!(answer("INSERT", 5), (header["REPLACED"], 0, 1));
+    assert_eq!(answer("LOOKUP", 5), (header["FOUND"], -50, 0));
+    assert_eq!(answer("LOOKUP", 6), (header["NONE"], 0, 0));
+    assert_eq!(answer("DELETE", 6), (header["ABSENT"], 0, 1));
+    assert_eq!(answer("DELETE", 5), (header["REMOVED"], 0, 1));
+    assert_eq!(answer("INSERT", 6), (header["ADDED"], 0, 1));
+    assert_eq!(answer("INSERT", 7), (header["ADDED"], 0, 1));
+    assert_eq!(answer("INSERT", 8), (header["CROWDED"], 0, 1));
 }
