@@ -2,23 +2,28 @@
 //! leaves are those of the same source compiled as Rust. And counts of what came back.
 
 use crate::lent::{self, told, Lent};
-use crate::words::{any_account, any_word, bucket_swaps, directory_swaps};
+use crate::words::{any_account, any_word, bucket_swaps, directory_swaps, steps_at_checks};
 use model::prng::Prng;
 use same::capi::capi as source;
 use same::capi::fields::*;
 use same::capi::interface::{GREATEST_KIND, KIND_INSERT, KIND_LOOKUP};
 use same::capi::layout::addresses::{held_by, worker_at};
 use same::capi::layout::shape::{settings_of, strange_words};
-use totals::raw::{self, TOTALS_ADDED, TOTALS_CROWDED, TOTALS_GREATEST_RUN as RUN, TOTALS_IDLE};
-use totals::raw::{TOTALS_MOVED, TOTALS_OK, TOTALS_SETTINGS};
+use totals::raw::{self, TOTALS_ADDED, TOTALS_CROWDED, TOTALS_GREATEST_CHECK, TOTALS_GREATEST_RUN as RUN};
+use totals::raw::{TOTALS_IDLE, TOTALS_MOVED, TOTALS_OK, TOTALS_SETTINGS};
 
 const NAMES: [&str; 6] = ["words_needed", "open", "call", "step", "run", "list"];
 
-/// How often each call gave each number; a number of words needed counts as 0. Of steps, how many were a bucket swap
-/// that carried updates out or a directory swap that split; of runs, how many were held against single steps.
+/// What an answer tells: steps, total and check.
+pub type Told = [u64; 3];
+
+/// How often each call gave each number; a number of words needed counts as 0. How many updates each check answered. Of
+/// steps, how many were a bucket swap that carried updates out or a directory swap that split; of runs, how many were
+/// held against single steps.
 #[derive(Default)]
 pub struct Figures {
     counts: [[u64; TOTALS_CROWDED as usize + 1]; NAMES.len()],
+    pub checks: [u64; TOTALS_GREATEST_CHECK as usize],
     pub carried: u64,
     pub split: u64,
     pub compared: u64,
@@ -60,8 +65,15 @@ impl Figures {
         *count += u64::from(changed);
     }
 
+    /// Counts the check of an answered update; a lookup's is 0.
+    fn add_check(&mut self, told: Told) {
+        if let Some(before) = (told[2] as usize).checked_sub(1) {
+            self.checks[before] += 1;
+        }
+    }
+
     pub fn print(&self, class: &str) {
-        println!("{class}: {} calls", self.calls());
+        println!("{class}: {} calls; updates answered by each check {:?}", self.calls(), self.checks);
         println!(
             "  steps that carried out {}, that split {}; runs compared {}",
             self.carried, self.split, self.compared
@@ -120,7 +132,7 @@ impl<'a> Trial<'a> {
     }
 
     /// One step; also what was told where it answered and the report had room.
-    pub fn step(&mut self, worker: u64) -> (u64, Option<[u64; 2]>) {
+    pub fn step(&mut self, worker: u64) -> (u64, Option<Told>) {
         let (before, mut report) = (self.words().to_vec(), self.report());
         let (mut want, mut want_report) = (before.clone(), report.items().to_vec());
         let want_number = source::same_totals_step(&mut want, worker, &mut want_report);
@@ -133,8 +145,12 @@ impl<'a> Trial<'a> {
             self.figures.add_swap(&before, &want, worker);
         }
         self.figures.add("step", number);
-        let answered = number >= TOTALS_ADDED && want_report.len() >= 2;
-        (number, answered.then(|| [want_report[0], want_report[1]]))
+        let told = want_report.first_chunk().copied().filter(|_| number >= TOTALS_ADDED);
+        if let Some(told) = told {
+            told_check(&before, worker, told);
+            self.figures.add_check(told);
+        }
+        (number, told)
     }
 
     /// Up to so many steps, held also against as many single steps on a copy of the words.
@@ -170,9 +186,9 @@ impl<'a> Trial<'a> {
         number
     }
 
-    /// A report of 0 to 3 places.
+    /// A report of 0 to 4 places.
     fn report(&mut self) -> Lent<u64> {
-        let items: Vec<u64> = (0..self.prng.below(4)).map(|_| self.prng.draw()).collect();
+        let items: Vec<u64> = (0..self.prng.below(5)).map(|_| self.prng.draw()).collect();
         Lent::new(&items, self.prng.draw())
     }
 
@@ -229,8 +245,22 @@ pub fn rows(w: &[u64]) -> Result<Vec<(u32, i64)>, u64> {
     listing(w, [(s.capacity << s.depth) as usize; 2])
 }
 
+/// The check that an answer tells is a matter of its steps alone, whatever the words held before the last of them: 0
+/// for a lookup; for an update as many of the four figures as are no greater. Only the last check comes at more steps.
+fn told_check(before: &[u64], worker: u64, [steps, _, check]: Told) {
+    let s = settings_of(before[HEADER_SETTINGS]);
+    if before[worker_at(s, worker as usize) + WORKER_KIND] == KIND_LOOKUP {
+        assert_eq!(check, 0, "a lookup of {steps} steps");
+        return;
+    }
+    let figures = steps_at_checks(s);
+    let passed: Vec<u64> = figures.into_iter().filter(|figure| *figure <= steps).collect();
+    assert_eq!(check, passed.len() as u64, "an update of {steps} steps");
+    assert!(passed.len() == figures.len() || passed.last() == Some(&steps), "an update of {steps} steps");
+}
+
 /// A run's number, what it tells, and the words it leaves.
-type Run = (u64, Option<[u64; 2]>, Vec<u64>);
+type Run = (u64, Option<Told>, Vec<u64>);
 
 /// What a run gives, by single steps. Nothing where a step changed the first two words: the next step checks them anew,
 /// a run checks them once.
@@ -243,7 +273,7 @@ fn steps(mut w: Vec<u64>, worker: u64, most: u64) -> Option<Run> {
     }
     let most = most.min(RUN);
     for k in 0..most {
-        let mut report = [0; 2];
+        let mut report = Told::default();
         let number = source::same_totals_step(&mut w, worker, &mut report);
         if head(&w) != first {
             return None;
@@ -251,9 +281,9 @@ fn steps(mut w: Vec<u64>, worker: u64, most: u64) -> Option<Run> {
         match number {
             TOTALS_MOVED => {}
             // the operation vanished
-            TOTALS_IDLE => return Some((TOTALS_MOVED, Some([k, 0]), w)),
+            TOTALS_IDLE => return Some((TOTALS_MOVED, Some([k, 0, 0]), w)),
             _ => return Some((number, Some(report), w)),
         }
     }
-    Some((TOTALS_MOVED, Some([most, 0]), w))
+    Some((TOTALS_MOVED, Some([most, 0, 0]), w))
 }

@@ -40,11 +40,15 @@ impl Lent<u64> {
     }
 }
 
-/// A report has what was told at its start, if it fits, and else what it had.
+/// A report has what was told at its start: all of it, or steps and total without a check, if it fits. What is past it
+/// is as before.
 pub fn told(report: &Lent<u64>, mut before: Vec<u64>, told: &[u64]) {
-    if told.len() <= before.len() {
-        before[..told.len()].copy_from_slice(told);
-    }
+    let places = match (told.len(), before.len()) {
+        (3, 2) => 2,
+        (words, places) if words <= places => words,
+        _ => 0,
+    };
+    before[..places].copy_from_slice(&told[..places]);
     report.holds(&before);
 }
 

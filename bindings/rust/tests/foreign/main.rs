@@ -11,7 +11,7 @@ use same::capi::fields::WORKER_KIND;
 use same::capi::interface::{Settings, KIND_INSERT, KIND_NONE};
 use same::capi::layout::addresses::worker_at;
 use totals::raw::*;
-use words::{any_word, words_needed};
+use words::{any_word, steps_at_checks, words_needed};
 
 /// What calls give over words of any kind, and what the listing does.
 const CALLED: [u64; 6] = [TOTALS_OK, TOTALS_STRANGER, TOTALS_BUSY, TOTALS_KIND, TOTALS_SPENT, TOTALS_STRANGE];
@@ -65,6 +65,7 @@ fn random_words() {
     gave(&figures, "step", &[&UNENDED[..], &UPDATED, &LOOKED_UP].concat());
     gave(&figures, "list", &LISTED);
     assert!(figures.carried > 1000 && figures.split > 100 && figures.compared > 1000);
+    assert!(figures.checks.iter().all(|updates| *updates > 100));
 }
 
 #[test]
@@ -82,6 +83,7 @@ fn damaged_tables() {
     gave(&figures, "run", &stepped);
     gave(&figures, "list", &LISTED);
     assert!(figures.carried > 1000 && figures.split > 1000 && figures.compared > 10_000);
+    assert!(figures.checks.iter().all(|updates| *updates > 100));
 }
 
 #[test]
@@ -94,6 +96,7 @@ fn misleading_words() {
     gave(&figures, "step", &[&UNENDED[..], &LOOKED_UP, &[TOTALS_CROWDED]].concat());
     gave(&figures, "list", &LISTED);
     assert!(figures.carried > 1000 && figures.split > 100 && figures.compared > 1000);
+    assert!(figures.checks.iter().all(|updates| *updates > 100));
 }
 
 #[test]
@@ -112,6 +115,15 @@ fn tables_that_nothing_damaged_are_never_strange() {
     assert!(figures.carried > 1000 && figures.split > 100);
 }
 
+/// The steps and the checks that an answer may come with: of one worker's update the first two.
+fn ends(s: Settings, number: u64) -> Vec<(u64, u64)> {
+    if LOOKED_UP.contains(&number) {
+        return vec![(TOTALS_LOOKUP_STEPS, 0)];
+    }
+    let checks = if s.workers == 1 { 2 } else { 4 };
+    steps_at_checks(s).into_iter().zip(1..=checks).collect()
+}
+
 /// A call on a table that nothing damaged: it is not strange, answers come at their steps, and the listing ascends.
 fn undamaged_call(trial: &mut Trial, s: Settings, prng: &mut Prng) {
     let worker = prng.below(s.workers);
@@ -122,13 +134,8 @@ fn undamaged_call(trial: &mut Trial, s: Settings, prng: &mut Prng) {
         2..=30 if idle => trial.any_operation(worker),
         _ => {
             let (number, told) = trial.step(worker);
-            let n = s.workers;
-            let ends = if LOOKED_UP.contains(&number) {
-                vec![2]
-            } else {
-                vec![2 * n + 11, 6 * n + 17, 8 * n + 27, 12 * n + 33]
-            };
-            assert!(told.is_none_or(|[steps, _]| ends.contains(&steps)), "answered {told:?}");
+            let told = told.map(|[steps, _, check]| (steps, check));
+            assert!(told.is_none_or(|told| ends(s, number).contains(&told)), "{number} with {told:?}");
             number
         }
     };

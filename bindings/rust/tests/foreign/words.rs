@@ -52,6 +52,12 @@ pub fn directory_swaps(s: Settings) -> [u64; 4] {
     in_passes(s, [4 * s.workers + 12, 6 * s.workers + 14])
 }
 
+/// An update's steps at each of its checks.
+pub fn steps_at_checks(s: Settings) -> [u64; 4] {
+    let n = s.workers;
+    [2 * n + 11, 6 * n + 17, 8 * n + 27, 12 * n + 33]
+}
+
 /// Words of any kind, each chosen alone.
 pub fn noise(length: usize, prng: &mut Prng) -> Vec<u64> {
     (0..length).map(|_| any_word(prng, length)).collect()
