@@ -16,9 +16,9 @@ impl Flat {
         Flat { words: Lent::new(&[], 0), prng: Prng::new(seed) }
     }
 
-    /// A report of 0 to 3 places.
+    /// A report of 0 to 4 places.
     fn report(&mut self) -> Lent<u64> {
-        let items: Vec<u64> = (0..self.prng.below(4)).map(|_| self.prng.draw()).collect();
+        let items: Vec<u64> = (0..self.prng.below(5)).map(|_| self.prng.draw()).collect();
         Lent::new(&items, self.prng.draw())
     }
 

@@ -1,6 +1,6 @@
 //! Random orders of calls, single steps, runs and listings by the safe interface and by the C functions, held against
-//! the second model: every refusal, answer, step count and listing is the model's. Damaged words are the business of
-//! `foreign`.
+//! the second model: every refusal, answer, step count, check and listing is the model's. Damaged words are the
+//! business of `foreign`.
 mod flat;
 #[path = "../foreign/lent.rs"]
 mod lent;
@@ -8,7 +8,7 @@ mod orders;
 mod safe;
 
 use flat::Flat;
-use model::machine::{Machine, Stepped};
+use model::machine::{Machine, Report, Stepped};
 use model::prng::Prng;
 use model::records::{Answer, GREATEST_TICKET, KIND_DELETE, KIND_INSERT, KIND_LOOKUP};
 use orders::{Entry, Orders};
@@ -23,8 +23,8 @@ pub type Rows = Vec<(u32, i64)>;
 pub enum Outcome {
     /// So many steps were given.
     Moved(u64),
-    /// The answer, and the operation's steps in all.
-    Answered(Answer, u64),
+    /// The answer, the operation's steps in all, and the check.
+    Answered(Answer, u64, u64),
     Refused(u8),
 }
 
@@ -37,17 +37,17 @@ impl Outcome {
     fn number(self) -> u64 {
         match self {
             Outcome::Moved(_) => TOTALS_MOVED,
-            Outcome::Answered(answer, _) => answer_number(answer),
+            Outcome::Answered(answer, ..) => answer_number(answer),
             Outcome::Refused(number) => u64::from(number),
         }
     }
 
     /// What a run tells in its report.
-    fn told(self) -> Option<[u64; 2]> {
+    fn told(self) -> Option<[u64; 3]> {
         match self {
-            Outcome::Moved(steps) => Some([steps, 0]),
-            Outcome::Answered(Answer::Found(total), steps) => Some([steps, total as u64]),
-            Outcome::Answered(_, steps) => Some([steps, 0]),
+            Outcome::Moved(steps) => Some([steps, 0, 0]),
+            Outcome::Answered(Answer::Found(total), steps, check) => Some([steps, total as u64, check]),
+            Outcome::Answered(_, steps, check) => Some([steps, 0, check]),
             Outcome::Refused(_) => None,
         }
     }
@@ -147,7 +147,7 @@ impl<I: Interface> Pair<I> {
     fn steps(&mut self, worker: u64, most: u64) -> Outcome {
         let w = worker as usize;
         if self.machine.workers.get(w).is_none_or(|worker| worker.task.is_none()) {
-            return outcome(self.machine.step(w).stepped);
+            return outcome(self.machine.step(w));
         }
         for _ in 0..most.min(TOTALS_GREATEST_RUN) {
             let report = self.machine.step(w);
@@ -155,7 +155,7 @@ impl<I: Interface> Pair<I> {
                 self.checks[check] += 1;
             }
             if report.stepped != Stepped::Moved {
-                return outcome(report.stepped);
+                return outcome(report);
             }
         }
         Outcome::Moved(most)
@@ -184,10 +184,12 @@ impl<I: Interface> Pair<I> {
     }
 }
 
-fn outcome(stepped: Stepped) -> Outcome {
-    match stepped {
+fn outcome(report: Report) -> Outcome {
+    match report.stepped {
         Stepped::Moved => Outcome::Moved(1),
-        Stepped::Answered { answer, steps } => Outcome::Answered(answer, steps),
+        Stepped::Answered { answer, steps, .. } => {
+            Outcome::Answered(answer, steps, u64::from(report.answering_check()))
+        }
         Stepped::Refused(number) => Outcome::Refused(number),
     }
 }

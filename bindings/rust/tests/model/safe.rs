@@ -40,8 +40,8 @@ impl Interface for Safe {
     fn step(&mut self, worker: u64, want: Outcome) {
         match (numbered(Table::over(&mut self.words).step(worker)), want) {
             (Ok(Stepped::Moved), Outcome::Moved(_)) => {}
-            (Ok(Stepped::Answered { answer, steps }), Outcome::Answered(wanted, want_steps)) => {
-                assert_eq!((answer.to_string(), steps), (answer_words(wanted), want_steps));
+            (Ok(Stepped::Answered { answer, steps, check }), Outcome::Answered(wanted, want_steps, want_check)) => {
+                assert_eq!((answer.to_string(), steps, check), (answer_words(wanted), want_steps, want_check));
             }
             (Err(number), Outcome::Refused(wanted)) => assert_eq!(number, wanted),
             (other, want) => panic!("{other:?}, but the model {want:?}"),
@@ -51,8 +51,8 @@ impl Interface for Safe {
     fn run(&mut self, worker: u64, most: u64, want: Outcome) {
         match (numbered(Table::over(&mut self.words).run(worker, most)), want) {
             (Ok(Ran::Moved(steps)), Outcome::Moved(want_steps)) => assert_eq!(steps, want_steps),
-            (Ok(Ran::Answered { answer, steps }), Outcome::Answered(wanted, want_steps)) => {
-                assert_eq!((answer.to_string(), steps), (answer_words(wanted), want_steps));
+            (Ok(Ran::Answered { answer, steps, check }), Outcome::Answered(wanted, want_steps, want_check)) => {
+                assert_eq!((answer.to_string(), steps, check), (answer_words(wanted), want_steps, want_check));
             }
             (Err(number), Outcome::Refused(wanted)) => assert_eq!(number, wanted),
             (other, want) => panic!("{other:?}, but the model {want:?}"),
