@@ -1,7 +1,8 @@
 /*
  * A report run: three workers post twelve invoices to a table of totals; a dispatcher gives each a few steps at a time.
  * Worker 2 is parked in the middle of an update until the others have finished: they carry it out. Nothing is
- * allocated. What a call returns is always looked at: a refusal, an invoice that the table has no room for, and a month
+ * allocated. The steps are planned by the most that an operation takes, and the checks that answered say how many were
+ * taken. What a call returns is always looked at: a refusal, an invoice that the table has no room for, and a month
  * whose invoices and totals differ end the run with a line on standard error and exit status 1.
  */
 #include <inttypes.h>
@@ -12,6 +13,8 @@
 
 enum { WORKERS = 3, CAPACITY = 4, DEPTH = 2, INVOICES = 4, NOBODY = WORKERS };
 enum { PLACES = CAPACITY << DEPTH }; /* the most accounts that the table can hold */
+enum { UPDATE_STEPS = TOTALS_GREATEST_STEPS(WORKERS), CHECKS = TOTALS_GREATEST_CHECK };
+enum { PLANNED = WORKERS * INVOICES * (TOTALS_LOOKUP_STEPS + UPDATE_STEPS) }; /* the most steps of the month */
 
 /*
  * Posting is a lookup, then an insert of the new total. Nobody else may post to the account in between: its invoices go
@@ -35,6 +38,7 @@ struct worker {
 };
 
 static struct worker workers[WORKERS];
+static unsigned answers[CHECKS + 1]; /* of the month, by their check: place 0 has the lookups */
 static uint64_t words[373]; /* as many as totals_words_needed(3, 4, 2) says; totals_open refuses fewer */
 static const size_t length = sizeof words / sizeof words[0];
 
@@ -79,18 +83,20 @@ static int add(int64_t *sum, int64_t amount)
 }
 
 /* After the lookup's answer comes the insert, after the insert's the next invoice. */
-static int answered(unsigned w, uint64_t answer, uint64_t steps, int64_t total)
+static int answered(unsigned w, uint64_t answer, const uint64_t report[3])
 {
     const struct invoice *invoice = &invoices[w][workers[w].invoice];
+    int64_t total = (int64_t)report[1]; /* 0 where the answer is TOTALS_NONE */
+    answers[report[2]]++;
     if (workers[w].stage == LOOKING_UP) {
-        workers[w].stage = POSTING; /* the total is 0 where the answer is TOTALS_NONE */
+        workers[w].stage = POSTING;
         return add(&total, invoice->cents) ||
                refused(totals_call(words, length, w, TOTALS_INSERT, invoice->account, total), "insert");
     }
     if (crowded(answer, w, invoice->account))
         return 1;
     printf("worker %u posts %" PRId64 " to %" PRIu32 ": %s, %" PRIu64 " steps\n", w, invoice->cents, invoice->account,
-           answer_word(answer), steps);
+           answer_word(answer), report[0]);
     workers[w].stage = RESTING;
     workers[w].invoice++;
     return 0;
@@ -99,17 +105,17 @@ static int answered(unsigned w, uint64_t answer, uint64_t steps, int64_t total)
 /* One turn: a resting worker starts on its next invoice; then up to so many steps. */
 static int turn(unsigned w, uint64_t steps)
 {
-    uint64_t report[2] = {0, 0};
+    uint64_t report[3] = {0, 0, 0};
     uint64_t number;
     if (workers[w].stage == RESTING) {
         if (refused(totals_call(words, length, w, TOTALS_LOOKUP, invoices[w][workers[w].invoice].account, 0), "lookup"))
             return 1;
         workers[w].stage = LOOKING_UP;
     }
-    number = totals_run(words, length, w, steps, report, 2);
+    number = totals_run(words, length, w, steps, report, 3);
     if (number == TOTALS_MOVED)
         return 0; /* a page break; the worker is parked until its next turn, wherever its operation is */
-    return number < TOTALS_ADDED ? refused(number, "run") : answered(w, number, report[0], (int64_t)report[1]);
+    return number < TOTALS_ADDED ? refused(number, "run") : answered(w, number, report);
 }
 
 /* How many invoices there still are to post, without the parked worker's. */
@@ -137,14 +143,14 @@ static int dispatch(unsigned turns, unsigned parked)
     return 0;
 }
 
-/* An operation from its call to its answer: no operation takes as many steps as TOTALS_GREATEST_RUN. */
+/* An operation from its call to its answer: none takes more steps than an update at most. */
 static int at_once(unsigned w, uint64_t kind, uint32_t account)
 {
     uint64_t report[2] = {0, 0};
     uint64_t number;
     if (refused(totals_call(words, length, w, kind, account, 0), "call"))
         return 1;
-    number = totals_run(words, length, w, TOTALS_GREATEST_RUN, report, 2);
+    number = totals_run(words, length, w, UPDATE_STEPS, report, 2);
     if (number == TOTALS_MOVED) {
         fprintf(stderr, "worker %u: no answer after %" PRIu64 " steps\n", w, report[0]);
         return 1;
@@ -192,13 +198,27 @@ static int check_month(int64_t totals)
     return sum != totals;
 }
 
+/* What the month took: each check that answered is so many steps. */
+static int show_steps(void)
+{
+    uint64_t taken = answers[0] * TOTALS_LOOKUP_STEPS;
+    unsigned check;
+    printf("updates by check:");
+    for (check = 1; check <= CHECKS; check++) {
+        printf(" %u", answers[check]);
+        taken += answers[check] * TOTALS_CHECK_STEPS(WORKERS, check);
+    }
+    printf("; steps: %" PRIu64 " of %d planned\n", taken, PLANNED);
+    return 0;
+}
+
 static int report_run(void)
 {
     int64_t sum;
     return refused(totals_open(words, length, WORKERS, CAPACITY, DEPTH), "open") || dispatch(30, NOBODY) ||
            show("worker 2 is parked, posting 450 to 1030", &sum) || dispatch(UINT_MAX, 2) ||
            show("worker 2 is still parked", &sum) || dispatch(UINT_MAX, NOBODY) ||
-           show("all is posted", &sum) || check_month(sum) || at_once(0, TOTALS_LOOKUP, 1010) ||
+           show("all is posted", &sum) || check_month(sum) || show_steps() || at_once(0, TOTALS_LOOKUP, 1010) ||
            at_once(1, TOTALS_DELETE, 4000000020) || show("at the end", &sum);
 }
 

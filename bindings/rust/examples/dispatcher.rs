@@ -1,13 +1,13 @@
 //! The report run of `examples/c/dispatcher.c`: three workers post twelve invoices; a dispatcher gives each a few steps
 //! at a time. Worker 2 is parked in the middle of an update until the others have finished: they carry it out. Nothing
-//! is allocated for the table. A refusal, an invoice that the table has no room for, and a month whose invoices and
-//! totals differ end the run with a line on standard error and exit status 1.
+//! is allocated for the table. The steps are planned by the most that an operation takes, and the checks that answered
+//! say how many were taken. A refusal, an invoice that the table has no room for, and a month whose invoices and totals
+//! differ end the run with a line on standard error and exit status 1.
 
 use std::error::Error;
 use std::io::{self, Write};
 use std::process::ExitCode;
 
-use totals::raw::TOTALS_GREATEST_RUN;
 use totals::{Answer, Ran, Settings, Table};
 
 const WORKERS: usize = 3;
@@ -59,8 +59,11 @@ fn add(sum: i64, amount: i64) -> Done<i64> {
 }
 
 struct Dispatcher<'a, W> {
+    settings: Settings,
     table: Table<'a>,
     workers: [Worker; WORKERS],
+    /// How many of the month's operations came to an answer by each check: place 0 has the lookups.
+    answers: [u64; Settings::GREATEST_CHECK as usize + 1],
     out: W,
 }
 
@@ -91,7 +94,10 @@ impl<W: Write> Dispatcher<'_, W> {
         match self.table.run(w as u64, steps)? {
             // a page break; the worker is parked until its next turn, wherever its operation is
             Ran::Moved(_) => Ok(()),
-            Ran::Answered { answer, steps } => self.answered(w, answer, steps),
+            Ran::Answered { answer, steps, check } => {
+                self.answers[check as usize] += 1;
+                self.answered(w, answer, steps)
+            }
         }
     }
 
@@ -112,11 +118,11 @@ impl<W: Write> Dispatcher<'_, W> {
         Ok(())
     }
 
-    /// The rest of a worker's operation: it never takes as many steps as this.
+    /// The rest of a worker's operation: it never takes more steps than these.
     fn finish(&mut self, w: usize, what: &str, account: u32) -> Done {
-        match self.table.run(w as u64, TOTALS_GREATEST_RUN)? {
+        match self.table.run(w as u64, self.settings.greatest_steps())? {
             Ran::Moved(steps) => Err(format!("worker {w}: no answer after {steps} steps").into()),
-            Ran::Answered { answer, steps } => {
+            Ran::Answered { answer, steps, .. } => {
                 not_crowded(answer, w, account)?;
                 Ok(writeln!(self.out, "worker {w} {what} {account}: {answer}, {steps} steps")?)
             }
@@ -142,6 +148,19 @@ impl<W: Write> Dispatcher<'_, W> {
         }
         Ok(writeln!(self.out, "the month: invoices and totals are {sum} each")?)
     }
+
+    /// What the month took, each check that answered being so many steps; and the most that it could have.
+    fn show_steps(&mut self) -> Done {
+        let [lookups, updates @ ..] = self.answers;
+        let figures = (1..=Settings::GREATEST_CHECK).filter_map(|check| self.settings.steps_at_check(check));
+        let of_updates: u64 = updates.iter().zip(figures).map(|(answers, steps)| answers * steps).sum();
+        let taken = lookups * Settings::LOOKUP_STEPS + of_updates;
+        let invoices = INVOICES.into_iter().flatten().count() as u64;
+        let planned = invoices * (Settings::LOOKUP_STEPS + self.settings.greatest_steps());
+        let [first, second, third, fourth] = updates;
+        write!(self.out, "updates by check: {first} {second} {third} {fourth}")?;
+        Ok(writeln!(self.out, "; steps: {taken} of {planned} planned")?)
+    }
 }
 
 fn report_run() -> Done {
@@ -149,7 +168,7 @@ fn report_run() -> Done {
     let mut words = [0; WORDS];
     let table = Table::open(&mut words, settings)?;
     let workers = [Worker { invoice: 0, stage: Stage::Resting }; WORKERS];
-    let mut run = Dispatcher { table, workers, out: io::stdout().lock() };
+    let mut run = Dispatcher { settings, table, workers, answers: Default::default(), out: io::stdout().lock() };
     run.dispatch(30, None)?;
     run.show("worker 2 is parked, posting 450 to 1030")?;
     run.dispatch(usize::MAX, Some(2))?;
@@ -157,6 +176,7 @@ fn report_run() -> Done {
     run.dispatch(usize::MAX, None)?;
     let totals = run.show("all is posted")?;
     run.check_month(totals)?;
+    run.show_steps()?;
     run.table.lookup(0, 1010)?;
     run.finish(0, "looks up", 1010)?;
     run.table.delete(1, 4000000020)?;
