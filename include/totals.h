@@ -143,8 +143,8 @@ uint64_t totals_call(uint64_t *words, size_t length, uint64_t worker, uint64_t k
  *                      at place 2 which of its checks answered an update, 1 to TOTALS_GREATEST_CHECK, or 0 where the
  *                      operation is a lookup.
  *                    What is past them stays. A report of two places has the first two of these, and a shorter one is
- *                    not touched. Over words that no opening left, the check of an update is how many of the figures
- *                    of TOTALS_CHECK_STEPS are no greater than the steps at place 0, and so 0 is possible too.
+ *                    not touched. Over words that no opening left, more steps than their figure may come with a lookup
+ *                    and with the last check, and with one worker all four checks may answer.
  * Or, tested in this order and with no word and no report changed:
  *   TOTALS_STRANGE   as in totals_call;
  *   TOTALS_STRANGER  worker is n or more;
