@@ -1,7 +1,7 @@
 #!/usr/bin/env bash
-# The interfaces for C and Rust: the header, the library's symbols, both examples, the Rust crate's tests, and the lines
-# of `totals` over the C interface against the second model. The last line is 'N passed, M failed'; the exit status is 0
-# only if M is 0.
+# The interfaces for C and Rust: the header, the library's symbols, both examples, the Rust crate's tests, reports of
+# every length, and the lines of `totals` over the C interface against the second model. The last line is
+# 'N passed, M failed'; the exit status is 0 only if M is 0.
 # interfaces.sh [SEED LINES]...: without arguments, fixed seeds of 600,000 lines in all.
 set -u
 cd "$(dirname "$0")/.." || exit 2
@@ -40,7 +40,7 @@ header() {
   done
 }
 
-# steps COMPILER OPTION...: what the header's macros give is right in itself; tests/header.rs has the figures
+# steps COMPILER OPTION...: the header's macros are well made; tests/header.rs holds their figures against the crate's
 steps() {
   "$@" "${strict[@]}" tests/c/steps.c -o "$run/steps" && "$run/steps" >"$run/figures" && [ -s "$run/figures" ]
   check $? "the header's figures of steps by $1"
@@ -97,6 +97,11 @@ crate() {
   failed=$((failed + f))
 }
 
+reports() {
+  cc -std=c99 "${strict[@]}" tests/c/reports.c "$library" -o "$run/reports" && "$run/reports"
+  check $? "reports of 0 to 4 places"
+}
+
 # compare PROGRAM SEED LINES TEXT: random lines are met with the same bytes by the program and by the model
 compare() {
   "$model" lines "$2" "$3" >"$run/input" && "$model" totals <"$run/input" >"$run/model" &&
@@ -121,7 +126,18 @@ lines() {
   check $? "every sort of line comes up, and no other"
 }
 
-# both C programs once more with the compiler's own checks of memory and arithmetic
+# each stored order is met with the stored output; by tests/orders.rs each check answers some of their updates
+stored() {
+  local order wrong=0 count=0
+  for order in model/orders/*.txt; do
+    "$run/lines" <"$order" >"$run/output" && cmp "$run/output" "${order%.txt}.out" || wrong=1
+    count=$((count + 1))
+  done
+  [ "$wrong" -eq 0 ] && [ "$count" -gt 0 ]
+  check $? "$count stored orders over the C interface"
+}
+
+# the C programs once more with the compiler's own checks of memory and arithmetic
 sanitized() {
   local checks=(-std=c99 -g -fsanitize=address,undefined -fno-sanitize-recover=all)
   printf 'int main(void) { return 0; }\n' >"$run/nothing.c"
@@ -132,6 +148,8 @@ sanitized() {
   cc "${checks[@]}" "${strict[@]}" examples/c/dispatcher.c "$library" -o "$run/dispatcher"
   check $? "the C example is built with -fsanitize=address,undefined"
   example "$run/dispatcher" "it prints the stored output"
+  cc "${checks[@]}" "${strict[@]}" tests/c/reports.c "$library" -o "$run/reports" && "$run/reports"
+  check $? "reports of 0 to 4 places with -fsanitize=address,undefined"
   cc "${checks[@]}" "${strict[@]}" tests/c/lines.c "$library" -o "$run/lines"
   check $? "the program for lines is built with -fsanitize=address,undefined"
   compare "$run/lines" 14 50000 "with these checks"
@@ -143,6 +161,8 @@ symbols
 examples
 shown
 crate
+reports
 lines "$@"
+stored
 sanitized
 finish

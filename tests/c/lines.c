@@ -1,7 +1,8 @@
 /*
- * The lines of `totals` over the C interface: reads them from standard input and answers each as the program does. What
- * it lends stands between pages that nobody can read or write, so that a call that left what it was lent would end the
- * program.
+ * The lines of `totals` over the C interface: reads them from standard input and answers each as the program does. The
+ * steps of an answer are held against the figure of its check; another one ends the program with a line on standard
+ * error. What it lends stands between pages that nobody can read or write, so that a call that left what it was lent
+ * would end the program.
  */
 #define _DEFAULT_SOURCE
 #include <inttypes.h>
@@ -12,8 +13,9 @@
 
 #include "totals.h"
 
-enum { WORDS = 8192, PLACES = TOTALS_GREATEST_COUNT, LONGEST = 64, SMALL = 65535, STEPS = 9999 };
+enum { WORDS = 8192, PLACES = TOTALS_GREATEST_COUNT, REPORT = 3, LONGEST = 64, SMALL = 65535, STEPS = 9999 };
 
+static uint64_t workers; /* of the last opening */
 static uint64_t *words, *report;
 static uint32_t *accounts;
 static int64_t *totals;
@@ -85,6 +87,25 @@ static int print_number(uint64_t number)
     return number == TOTALS_OK ? printf("ok\n") : printf("refused %" PRIu64 "\n", number);
 }
 
+static int print_open(uint64_t n, uint64_t b, uint64_t m)
+{
+    uint64_t number = totals_open(words, WORDS, n, b, m);
+    if (number == TOTALS_OK)
+        workers = n;
+    return print_number(number);
+}
+
+/* An update takes the steps of the check that answered it, a lookup 2 and no check. */
+static int right_steps(uint64_t answer)
+{
+    int lookup = answer == TOTALS_FOUND || answer == TOTALS_NONE;
+    uint64_t steps = !lookup ? TOTALS_CHECK_STEPS(workers, report[2]) : report[2] == 0 ? TOTALS_LOOKUP_STEPS : 0;
+    int right = report[0] == steps && steps > 0 && steps <= TOTALS_GREATEST_STEPS(workers);
+    if (!right)
+        fprintf(stderr, "%" PRIu64 " steps with check %" PRIu64 "\n", report[0], report[2]);
+    return right;
+}
+
 static int print_run(uint64_t number)
 {
     static const char *const answers[] = {"added", "replaced", "removed", "absent", "found",
@@ -93,6 +114,8 @@ static int print_run(uint64_t number)
         return printf("moved %" PRIu64 "\n", report[0]);
     if (number < TOTALS_ADDED)
         return print_number(number);
+    if (!right_steps(number))
+        return -1;
     if (number == TOTALS_FOUND)
         return printf("answered found %" PRId64 " %" PRIu64 "\n", (int64_t)report[1], report[0]);
     return printf("answered %s %" PRIu64 "\n", answers[number - TOTALS_ADDED], report[0]);
@@ -100,7 +123,7 @@ static int print_run(uint64_t number)
 
 static int print_list(void)
 {
-    uint64_t number = totals_list(words, WORDS, accounts, PLACES, totals, PLACES, report, 2);
+    uint64_t number = totals_list(words, WORDS, accounts, PLACES, totals, PLACES, report, REPORT);
     uint64_t i;
     if (number != TOTALS_OK)
         return print_number(number);
@@ -110,7 +133,7 @@ static int print_list(void)
     return printf("end %" PRIu64 "\n", report[0]);
 }
 
-/* Answers a line; below 0 where that could not be written. */
+/* Answers a line; below 0 where that could not be written, or is wrong. */
 static int answer(const char *text, size_t length)
 {
     struct rest line = {text + 1, text + length};
@@ -119,7 +142,7 @@ static int answer(const char *text, size_t length)
     switch (length > 0 && length <= LONGEST ? text[0] : '\0') {
     case 'O':
         if (field(&line, SMALL, &a) && field(&line, SMALL, &b) && field(&line, SMALL, &c) && line.next == line.end)
-            return print_number(totals_open(words, WORDS, a, b, c));
+            return print_open(a, b, c);
         break;
     case 'I':
     case 'D':
@@ -130,7 +153,7 @@ static int answer(const char *text, size_t length)
         break;
     case 'S':
         if (field(&line, SMALL, &a) && field(&line, STEPS, &b) && b > 0 && line.next == line.end)
-            return print_run(totals_run(words, WORDS, a, b, report, 2));
+            return print_run(totals_run(words, WORDS, a, b, report, REPORT));
         break;
     case 'T':
         if (length == 1)
@@ -146,7 +169,7 @@ int main(void)
     size_t length = 0;
     int byte;
     words = lend(WORDS * sizeof *words);
-    report = lend(2 * sizeof *report);
+    report = lend(REPORT * sizeof *report);
     accounts = lend(PLACES * sizeof *accounts);
     totals = lend(PLACES * sizeof *totals);
     /* a longer line is counted, not kept; the end of the input ends a line that has begun */
