@@ -55,7 +55,7 @@ static int wrong(const struct turn *turn, size_t places)
         errors += fprintf(stderr, "%" PRIu64 " came back and not %" PRIu64 "\n", number, turn->number);
     for (place = 0; place < LONGEST + 2; place++)
         if (report[place] != (place < told ? turn->told[place] : BEFORE + place))
-            errors += fprintf(stderr, "%" PRIu64 " at place %u of %u\n", report[place], (unsigned)place, (unsigned)places);
+            errors += fprintf(stderr, "place %d of %d: %" PRIu64 "\n", (int)place, (int)places, report[place]);
     return errors;
 }
 
@@ -68,7 +68,7 @@ int main(void)
             return 1;
         for (i = 0; i < sizeof turns / sizeof turns[0]; i++)
             if (wrong(&turns[i], places)) {
-                fprintf(stderr, "turn %u is wrong\n", (unsigned)i);
+                fprintf(stderr, "turn %d is wrong\n", (int)i);
                 errors = 1;
             }
     }
