@@ -1,4 +1,4 @@
-//! Runs a machine with every assertion after every step: moments, invariants, step bounds.
+//! Runs a machine with every assertion after every step: moments, invariants, tariff, step bounds.
 
 use crate::fault::Fault;
 use crate::invariants::Ledger;
@@ -6,6 +6,7 @@ use crate::machine::{Machine, Report, Stepped};
 use crate::moments::{Moment, Moments};
 use crate::records::{Answer, Kind};
 use crate::settings::Settings;
+use crate::tariff;
 use crate::task::StepKind;
 use crate::violation::Violation;
 
@@ -49,6 +50,8 @@ pub struct Checker {
     pub machine: Machine,
     pub moments: Moments,
     pub counts: Counts,
+    /// Per worker the checks that its operation has made.
+    made: Vec<u8>,
     ledger: Ledger,
 }
 
@@ -57,6 +60,7 @@ impl Checker {
         let machine = Machine::fresh(settings, fault);
         Checker {
             moments: Moments::new(&settings),
+            made: vec![0; settings.workers],
             ledger: Ledger::new(&machine),
             counts: Counts {
                 orders: 1,
@@ -87,23 +91,16 @@ impl Checker {
         Ok((report, moments))
     }
 
-    /// A lookup is answered at step 2; an update at its check's number of steps.
-    fn bounds(&self, w: usize, kind: Kind, report: &Report) -> Result<(), Violation> {
+    /// An answer is told by the tariff; an operation without one is before its bound.
+    fn bounds(&mut self, w: usize, kind: Kind, report: &Report) -> Result<(), Violation> {
         let settings = &self.machine.settings;
-        let check = usize::from(report.answering_check());
-        let held = match (report.stepped, kind) {
-            (Stepped::Answered { steps, .. }, Kind::Lookup) => check == 0 && steps == 2,
-            // With one worker only the first two checks answer.
-            (Stepped::Answered { .. }, _) if settings.workers == 1 && check > 2 => false,
-            (Stepped::Answered { steps, .. }, _) => {
-                check > 0 && settings.check_steps()[check - 1] == steps
-            }
-            _ => {
-                let task = self.machine.workers[w].task.as_ref();
-                task.is_some_and(|task| task.steps < bound(settings, kind))
-            }
-        };
-        if held {
+        self.made[w] += u8::from(matches!(report.kind, StepKind::CheckState { .. }));
+        if let Stepped::Answered { steps, check, .. } = report.stepped {
+            tariff::told(settings, w, kind, steps, check)?;
+            return tariff::made(w, kind, check, std::mem::take(&mut self.made[w]));
+        }
+        let task = self.machine.workers[w].task.as_ref();
+        if task.is_some_and(|task| task.steps < bound(settings, kind)) {
             return Ok(());
         }
         let detail = format!("worker {w}: {:?} by {:?}", report.stepped, report.kind);
@@ -135,7 +132,7 @@ impl Checker {
 /// The step at which an operation must have been answered.
 pub fn bound(settings: &Settings, kind: Kind) -> u64 {
     match kind {
-        Kind::Lookup => 2,
+        Kind::Lookup => tariff::LOOKUP_STEPS,
         _ => settings.update_bound(),
     }
 }

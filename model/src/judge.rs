@@ -8,6 +8,7 @@ use crate::machine::{Machine, Report, Stepped};
 use crate::moments::Moment;
 use crate::records::Kind;
 use crate::settings::Settings;
+use crate::tariff;
 use crate::totals::{LENT, PLACES};
 use crate::violation::Violation;
 
@@ -33,7 +34,7 @@ pub struct Event {
     pub moments: Vec<Moment>,
 }
 
-/// All assertions: moments, invariants, step bounds.
+/// All assertions: moments, invariants, tariff, step bounds.
 #[derive(Debug, Default)]
 pub struct Internal {
     pub fault: Fault,
@@ -116,7 +117,8 @@ impl Judge for Internal {
     }
 }
 
-/// The external statement: answers, listings asked for, and the step bounds of document 01.
+/// The external statement: answers, listings asked for, the tariff, and the step bounds of
+/// document 01.
 #[derive(Debug, Default)]
 pub struct External {
     pub fault: Fault,
@@ -144,10 +146,12 @@ impl External {
             match machine.step(worker).stepped {
                 Stepped::Refused(_) => return Ok(()),
                 Stepped::Moved => explainer.moved(),
-                Stepped::Answered { answer, steps } => {
-                    if steps > most || (kind == Kind::Lookup && steps != most) {
-                        return Err(late(worker, steps));
-                    }
+                Stepped::Answered {
+                    answer,
+                    steps,
+                    check,
+                } => {
+                    tariff::told(&machine.settings, worker, kind, steps, check)?;
                     return explainer.answered(worker, answer);
                 }
             }
@@ -213,6 +217,18 @@ impl Judge for External {
 fn task_of(machine: &Machine, worker: usize) -> Option<crate::records::Update> {
     let task = machine.workers.get(worker)?.task.as_ref()?;
     Some(task.operation)
+}
+
+/// The checks told with the answers of an order, in turn; every assertion has to hold.
+pub fn checks_told(lines: &[Line]) -> Result<Vec<u8>, (usize, Violation)> {
+    let mut all = Internal::new(Fault::None);
+    all.record = true;
+    judge(&mut all, lines)?;
+    let told = |event: &Event| match event.report.stepped {
+        Stepped::Answered { check, .. } => Some(check),
+        _ => None,
+    };
+    Ok(all.events.iter().filter_map(told).collect())
 }
 
 /// Judges a whole order; the place of the line at which it fails, from 0, and the violation.

@@ -23,6 +23,7 @@ pub mod settings;
 pub mod shrink;
 pub mod spoil;
 mod steps;
+pub mod tariff;
 pub mod task;
 pub mod totals;
 pub mod trace;

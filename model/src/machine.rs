@@ -18,7 +18,13 @@ pub struct Worker {
 #[derive(Clone, Copy, PartialEq, Eq, Debug)]
 pub enum Stepped {
     Moved,
-    Answered { answer: Answer, steps: u64 },
+    /// The answer, the operation's steps in all, and which check answered an update, 1 to 4; 0 with
+    /// any other operation's answer.
+    Answered {
+        answer: Answer,
+        steps: u64,
+        check: u8,
+    },
     Refused(u8),
 }
 
@@ -30,10 +36,10 @@ pub struct Report {
 }
 
 impl Report {
-    /// Which check answered an update, 1 to 4; 0 for anything else.
+    /// The check told with an answer; 0 where there is none.
     pub fn answering_check(&self) -> u8 {
-        match (self.stepped, self.kind) {
-            (Stepped::Answered { .. }, StepKind::CheckState { check }) => check,
+        match self.stepped {
+            Stepped::Answered { check, .. } => check,
             _ => 0,
         }
     }
@@ -118,10 +124,14 @@ impl Machine {
             return refused(refusal::IDLE);
         };
         task.steps += 1;
-        let (kind, answer) = self.fault.machine().perform(self, w, &mut task);
+        let (kind, told) = self.fault.machine().perform(self, w, &mut task);
         let steps = task.steps;
-        let stepped = match answer {
-            Some(answer) => Stepped::Answered { answer, steps },
+        let stepped = match told {
+            Some((answer, check)) => Stepped::Answered {
+                answer,
+                steps,
+                check,
+            },
             None => {
                 self.workers[w].task = Some(task);
                 Stepped::Moved

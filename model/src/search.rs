@@ -13,9 +13,9 @@ use crate::violation::Violation;
 /// Which statement an order is judged by.
 #[derive(Clone, Copy, PartialEq, Eq, Debug)]
 pub enum By {
-    /// Moments, invariants and step bounds.
+    /// Moments, invariants, tariff and step bounds.
     AllAssertions,
-    /// Answers, listings and step bounds only.
+    /// Answers, listings, tariff and step bounds only.
     External,
 }
 

@@ -9,8 +9,8 @@ use crate::task::{Position, StepKind, Task};
 use crate::working::Working;
 use std::rc::Rc;
 
-/// What a step did, and the answer if it ended the operation.
-pub type Done = (StepKind, Option<Answer>);
+/// What a step did; if it ended the operation, the answer and the check that is told with it.
+pub type Done = (StepKind, Option<(Answer, u8)>);
 
 /// The true machine.
 pub struct True;
@@ -53,7 +53,16 @@ pub trait Steps {
             Some(total) => Answer::Found(total),
             None => Answer::None,
         };
-        (StepKind::LookupState, Some(answer))
+        (StepKind::LookupState, Some((answer, self.told(task))))
+    }
+
+    /// The number told with an answer: that of the check under way, counted along the plan; 0 where
+    /// the operation is no update.
+    fn told(&self, task: &Task) -> u8 {
+        match task.is_update() {
+            true => task.check(),
+            false => 0,
+        }
     }
 
     fn announce(&self, machine: &mut Machine, w: usize, task: &Task) -> StepKind {
@@ -128,7 +137,8 @@ pub trait Steps {
         let kind = StepKind::CheckState {
             check: task.check(),
         };
-        (kind, self.check_answer(&machine.settings, w, task))
+        let answer = self.check_answer(&machine.settings, w, task);
+        (kind, answer.map(|answer| (answer, self.told(task))))
     }
 
     /// Settled there: the answer that stands there. Else crowded if full at depth M.

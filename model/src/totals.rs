@@ -87,7 +87,7 @@ impl Driver {
             match machine.step(worker).stepped {
                 Stepped::Moved => {}
                 Stepped::Refused(number) => return Err(number),
-                Stepped::Answered { answer, steps } => {
+                Stepped::Answered { answer, steps, .. } => {
                     return Ok(format!("answered {} {steps}\n", answer_words(answer)))
                 }
             }

@@ -1,29 +1,38 @@
 //! The cases of document 01, as driver lines and whole output, and its refusals.
 
 use model::fault::Fault;
+use model::judge::checks_told;
+use model::lines::{read_line, Line};
 use model::machine::{Machine, Stepped};
 use model::records::{Answer, Kind, GREATEST_TICKET, KIND_DELETE, KIND_INSERT, KIND_LOOKUP};
 use model::refusal;
 use model::settings::Settings;
 use model::totals::transcript;
 
-/// Left the input lines, right the output lines, as document 01 prints them.
-fn session(pairs: &[(&str, &str)]) {
+/// Left the input lines, right the output lines, as document 01 prints them; then the checks told
+/// with the answers, which are not printed.
+fn session(pairs: &[(&str, &str)], checks: &[u8]) {
     let input: String = pairs.iter().map(|(line, _)| format!("{line}\n")).collect();
     let expected: String = pairs.iter().map(|(_, out)| format!("{out}\n")).collect();
     let output = transcript(input.as_bytes(), Fault::None);
     assert_eq!(String::from_utf8(output).expect("text"), expected);
+    let read = |(line, _): &(&str, &str)| read_line(line.as_bytes()).expect("a line");
+    let lines: Vec<Line> = pairs.iter().map(read).collect();
+    assert_eq!(checks_told(&lines).expect("every assertion holds"), checks);
 }
 
 #[test]
 fn settings_outside_their_range_are_refused() {
-    session(&[
-        ("O 0 2 1", "refused 1"),
-        ("O 9 2 1", "refused 1"),
-        ("O 1 1 1", "refused 1"),
-        ("O 1 17 1", "refused 1"),
-        ("O 1 2 9", "refused 1"),
-    ]);
+    session(
+        &[
+            ("O 0 2 1", "refused 1"),
+            ("O 9 2 1", "refused 1"),
+            ("O 1 1 1", "refused 1"),
+            ("O 1 17 1", "refused 1"),
+            ("O 1 2 9", "refused 1"),
+        ],
+        &[],
+    );
 }
 
 #[test]
@@ -55,20 +64,23 @@ fn a_fresh_table_lists_nothing() {
         let machine = Machine::open(n, b, m, u64::MAX).expect("in range");
         assert_eq!(machine.listing(0, 0), Ok(Vec::new()));
     }
-    session(&[("O 2 2 1", "ok"), ("T", "end 0")]);
+    session(&[("O 2 2 1", "ok"), ("T", "end 0")], &[]);
 }
 
 #[test]
 fn the_session() {
-    session(&[
-        ("O 1 2 1", "ok"),
-        ("I 0 5 700", "ok"),
-        ("S 0 12", "moved 12"),
-        ("S 0 9", "answered added 13"),
-        ("L 0 5", "ok"),
-        ("S 0 2", "answered found 700 2"),
-        ("T", "5 700\nend 1"),
-    ]);
+    session(
+        &[
+            ("O 1 2 1", "ok"),
+            ("I 0 5 700", "ok"),
+            ("S 0 12", "moved 12"),
+            ("S 0 9", "answered added 13"),
+            ("L 0 5", "ok"),
+            ("S 0 2", "answered found 700 2"),
+            ("T", "5 700\nend 1"),
+        ],
+        &[1, 0],
+    );
 }
 
 /// One worker, holding 5 and 6.
@@ -92,7 +104,7 @@ fn a_split_then_crowded() {
         ("S 0 99", "answered crowded 13"),
         ("T", "5 50\n6 60\n2147483648 80\nend 3"),
     ]);
-    session(&pairs);
+    session(&pairs, &[1, 1, 2, 1, 1]);
 }
 
 #[test]
@@ -105,65 +117,77 @@ fn crowded_straight_away_and_the_split_stays() {
         ("D 0 5", "ok"),
         ("S 0 99", "answered crowded 13"),
     ]);
-    session(&pairs);
+    session(&pairs, &[1, 1, 2, 1]);
 }
 
 #[test]
 fn busy_idle_and_stranger() {
-    session(&[
-        ("O 2 2 1", "ok"),
-        ("S 0 1", "refused 5"),
-        ("I 0 5 7", "ok"),
-        ("I 0 5 7", "refused 4"),
-        ("L 0 5", "refused 4"),
-        ("I 2 5 7", "refused 3"),
-        ("S 2 1", "refused 3"),
-        ("S 1 1", "refused 5"),
-    ]);
+    session(
+        &[
+            ("O 2 2 1", "ok"),
+            ("S 0 1", "refused 5"),
+            ("I 0 5 7", "ok"),
+            ("I 0 5 7", "refused 4"),
+            ("L 0 5", "refused 4"),
+            ("I 2 5 7", "refused 3"),
+            ("S 2 1", "refused 3"),
+            ("S 1 1", "refused 5"),
+        ],
+        &[],
+    );
 }
 
 #[test]
 fn a_lookup_after_a_delete() {
-    session(&[
-        ("O 2 2 1", "ok"),
-        ("I 0 5 50", "ok"),
-        ("S 0 99", "answered added 15"),
-        ("L 1 5", "ok"),
-        ("S 1 1", "moved 1"),
-        ("D 0 5", "ok"),
-        ("S 0 99", "answered removed 15"),
-        ("S 1 1", "answered none 2"),
-    ]);
+    session(
+        &[
+            ("O 2 2 1", "ok"),
+            ("I 0 5 50", "ok"),
+            ("S 0 99", "answered added 15"),
+            ("L 1 5", "ok"),
+            ("S 1 1", "moved 1"),
+            ("D 0 5", "ok"),
+            ("S 0 99", "answered removed 15"),
+            ("S 1 1", "answered none 2"),
+        ],
+        &[1, 1, 0],
+    );
 }
 
 #[test]
 fn a_helped_insert() {
-    session(&[
-        ("O 2 2 1", "ok"),
-        ("I 1 9 90", "ok"),
-        ("S 1 3", "moved 3"),
-        ("I 0 5 50", "ok"),
-        ("S 0 99", "answered added 15"),
-        ("T", "5 50\n9 90\nend 2"),
-        ("S 1 99", "answered added 15"),
-    ]);
+    session(
+        &[
+            ("O 2 2 1", "ok"),
+            ("I 1 9 90", "ok"),
+            ("S 1 3", "moved 3"),
+            ("I 0 5 50", "ok"),
+            ("S 0 99", "answered added 15"),
+            ("T", "5 50\n9 90\nend 2"),
+            ("S 1 99", "answered added 15"),
+        ],
+        &[1, 1],
+    );
 }
 
 #[test]
 fn the_second_pass_is_needed() {
-    session(&[
-        ("O 2 2 1", "ok"),
-        ("I 0 5 50", "ok"),
-        ("S 0 99", "answered added 15"),
-        ("I 0 6 60", "ok"),
-        ("S 0 99", "answered added 15"),
-        ("I 0 2147483648 80", "ok"),
-        ("S 0 20", "moved 20"),
-        ("I 1 2147483649 90", "ok"),
-        ("S 1 13", "moved 13"),
-        ("S 0 99", "answered added 29"),
-        ("S 1 99", "answered added 43"),
-    ]);
+    session(
+        &[
+            ("O 2 2 1", "ok"),
+            ("I 0 5 50", "ok"),
+            ("S 0 99", "answered added 15"),
+            ("I 0 6 60", "ok"),
+            ("S 0 99", "answered added 15"),
+            ("I 0 2147483648 80", "ok"),
+            ("S 0 20", "moved 20"),
+            ("I 1 2147483649 90", "ok"),
+            ("S 1 13", "moved 13"),
+            ("S 0 99", "answered added 29"),
+            ("S 1 99", "answered added 43"),
+        ],
+        &[1, 1, 2, 3],
+    );
 }
 
 #[test]

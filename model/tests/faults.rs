@@ -108,9 +108,13 @@ fn the_second_directory_round_is_needed() {
     all.record = true;
     assert!(judge(&mut all, &order).is_ok());
     let last: &Event = all.events.last().expect("steps were made");
-    let (answer, steps) = (Answer::Crowded, 69);
+    let answered = Stepped::Answered {
+        answer: Answer::Crowded,
+        steps: 69,
+        check: 4,
+    };
     assert_eq!(last.worker, 0);
-    assert_eq!(last.report.stepped, Stepped::Answered { answer, steps });
+    assert_eq!(last.report.stepped, answered);
     assert_eq!(last.report.kind, StepKind::CheckState { check: 4 });
     assert_eq!(last.moments.len(), 1);
     let fault = Fault::OneDirectoryRound;
