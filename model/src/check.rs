@@ -6,7 +6,7 @@ use crate::machine::{Machine, Report, Stepped};
 use crate::moments::{Moment, Moments};
 use crate::records::{Answer, Kind};
 use crate::settings::Settings;
-use crate::tariff;
+use crate::tariff::{is_last_made, Meter};
 use crate::task::StepKind;
 use crate::violation::Violation;
 
@@ -50,6 +50,7 @@ pub struct Checker {
     pub machine: Machine,
     pub moments: Moments,
     pub counts: Counts,
+    meter: Meter,
     /// Per worker the checks that its operation has made.
     made: Vec<u8>,
     ledger: Ledger,
@@ -60,6 +61,7 @@ impl Checker {
         let machine = Machine::fresh(settings, fault);
         Checker {
             moments: Moments::new(&settings),
+            meter: Meter::new(settings),
             made: vec![0; settings.workers],
             ledger: Ledger::new(&machine),
             counts: Counts {
@@ -84,27 +86,23 @@ impl Checker {
         let Some(kind) = kind else {
             return Ok((report, Vec::new()));
         };
-        self.bounds(w, kind, &report)?;
+        self.tariff(w, kind, &report)?;
         let moments = self.moments.after_step(&self.machine, w, &report)?;
         self.ledger.after_step(&self.machine)?;
         self.count(w, kind, &report, &moments);
         Ok((report, moments))
     }
 
-    /// An answer is told by the tariff; an operation without one is before its bound.
-    fn bounds(&mut self, w: usize, kind: Kind, report: &Report) -> Result<(), Violation> {
-        let settings = &self.machine.settings;
+    /// The steps are as the tariff has them, and the check told is the one that was made.
+    fn tariff(&mut self, w: usize, kind: Kind, report: &Report) -> Result<(), Violation> {
+        self.meter.step(w, kind, report.stepped)?;
         self.made[w] += u8::from(matches!(report.kind, StepKind::CheckState { .. }));
-        if let Stepped::Answered { steps, check, .. } = report.stepped {
-            tariff::told(settings, w, kind, steps, check)?;
-            return tariff::made(w, kind, check, std::mem::take(&mut self.made[w]));
+        match report.stepped {
+            Stepped::Answered { check, .. } => {
+                is_last_made(w, kind, check, std::mem::take(&mut self.made[w]))
+            }
+            _ => Ok(()),
         }
-        let task = self.machine.workers[w].task.as_ref();
-        if task.is_some_and(|task| task.steps < bound(settings, kind)) {
-            return Ok(());
-        }
-        let detail = format!("worker {w}: {:?} by {:?}", report.stepped, report.kind);
-        Err(Violation::new("step bound", detail))
     }
 
     fn count(&mut self, w: usize, kind: Kind, report: &Report, moments: &[Moment]) {
@@ -126,13 +124,5 @@ impl Checker {
         }
         let overtaken = |m: &&Moment| m.operation.kind == Kind::Lookup && m.worker != w;
         counts.overtaken_lookups += moments.iter().filter(overtaken).count() as u64;
-    }
-}
-
-/// The step at which an operation must have been answered.
-pub fn bound(settings: &Settings, kind: Kind) -> u64 {
-    match kind {
-        Kind::Lookup => tariff::LOOKUP_STEPS,
-        _ => settings.update_bound(),
     }
 }

@@ -1,14 +1,14 @@
 //! Judges orders given as driver lines: with all assertions, or by the external statement.
 
-use crate::check::{bound, Checker, Counts};
+use crate::check::{Checker, Counts};
 use crate::explain::Explainer;
 use crate::fault::Fault;
 use crate::lines::Line;
 use crate::machine::{Machine, Report, Stepped};
 use crate::moments::Moment;
-use crate::records::Kind;
+use crate::records::Update;
 use crate::settings::Settings;
-use crate::tariff;
+use crate::tariff::Meter;
 use crate::totals::{LENT, PLACES};
 use crate::violation::Violation;
 
@@ -123,7 +123,7 @@ impl Judge for Internal {
 pub struct External {
     pub fault: Fault,
     counts: Counts,
-    present: Option<(Machine, Explainer)>,
+    present: Option<(Machine, Explainer, Meter)>,
 }
 
 impl External {
@@ -134,58 +134,46 @@ impl External {
         }
     }
 
+    fn open(&mut self, n: u64, b: u64, m: u64) {
+        if let Some(settings) = accepted(n, b, m) {
+            let machine = Machine::fresh(settings, self.fault);
+            let (explainer, meter) = (Explainer::new(&settings), Meter::new(settings));
+            self.present = Some((machine, explainer, meter));
+            self.counts.orders += 1;
+        }
+    }
+
     fn steps(&mut self, worker: usize, count: u64) -> Result<(), Violation> {
-        let Some((machine, explainer)) = self.present.as_mut() else {
+        let Some((machine, explainer, meter)) = self.present.as_mut() else {
             return Ok(());
         };
         for _ in 0..count {
-            let task = machine.workers.get(worker).and_then(|w| w.task.as_ref());
-            let kind = task.map_or(Kind::Lookup, |task| task.operation.kind);
-            let most = bound(&machine.settings, kind);
             self.counts.steps += 1;
-            match machine.step(worker).stepped {
-                Stepped::Refused(_) => return Ok(()),
-                Stepped::Moved => explainer.moved(),
-                Stepped::Answered {
-                    answer,
-                    steps,
-                    check,
-                } => {
-                    tariff::told(&machine.settings, worker, kind, steps, check)?;
-                    return explainer.answered(worker, answer);
-                }
-            }
-            let task = machine.workers[worker].task.as_ref();
-            if let Some(task) = task.filter(|task| task.steps >= most) {
-                return Err(late(worker, task.steps));
+            let Some(operation) = task_of(machine, worker) else {
+                return Ok(());
+            };
+            let stepped = machine.step(worker).stepped;
+            meter.step(worker, operation.kind, stepped)?;
+            match stepped {
+                Stepped::Answered { answer, .. } => return explainer.answered(worker, answer),
+                _ => explainer.moved(),
             }
         }
         Ok(())
     }
 }
 
-fn late(worker: usize, steps: u64) -> Violation {
-    let detail = format!("worker {worker} after {steps} steps");
-    Violation::new("step bound", detail)
-}
-
 impl Judge for External {
     fn take(&mut self, line: &Line) -> Result<(), Violation> {
         match *line {
-            Line::Open { n, b, m } => {
-                if let Some(settings) = accepted(n, b, m) {
-                    let machine = Machine::fresh(settings, self.fault);
-                    self.present = Some((machine, Explainer::new(&settings)));
-                    self.counts.orders += 1;
-                }
-            }
+            Line::Open { n, b, m } => self.open(n, b, m),
             Line::Call {
                 kind,
                 worker,
                 account,
                 total,
             } => {
-                let Some((machine, explainer)) = self.present.as_mut() else {
+                let Some((machine, explainer, _)) = self.present.as_mut() else {
                     return Ok(());
                 };
                 let called = machine.call(worker, kind.number(), account, total);
@@ -195,7 +183,7 @@ impl Judge for External {
             }
             Line::Step { worker, count } => self.steps(worker, count)?,
             Line::List => {
-                if let Some((machine, explainer)) = self.present.as_mut() {
+                if let Some((machine, explainer, _)) = self.present.as_mut() {
                     if let Ok(items) = machine.listing(PLACES, PLACES) {
                         explainer.listed(&items)?;
                     }
@@ -206,7 +194,7 @@ impl Judge for External {
     }
 
     fn machine(&self) -> Option<&Machine> {
-        self.present.as_ref().map(|(machine, _)| machine)
+        self.present.as_ref().map(|(machine, ..)| machine)
     }
 
     fn counts(&self) -> Counts {
@@ -214,7 +202,8 @@ impl Judge for External {
     }
 }
 
-fn task_of(machine: &Machine, worker: usize) -> Option<crate::records::Update> {
+/// The operation under way of a worker that has one.
+fn task_of(machine: &Machine, worker: usize) -> Option<Update> {
     let task = machine.workers.get(worker)?.task.as_ref()?;
     Some(task.operation)
 }
