@@ -1,5 +1,7 @@
 //! The wrong machines by name: each is wrong in one way (`wrong.rs`). They test the checker itself.
 
+use crate::off_tariff::OffTariff;
+
 /// `Fault::None` is the machine as it should be.
 #[derive(Clone, Copy, PartialEq, Eq, Debug, Default)]
 pub enum Fault {
@@ -41,10 +43,12 @@ pub enum Fault {
     AlwaysCrowded,
     /// Every answered update is answered added.
     AlwaysAdded,
+    /// Another check or another step than the tariff has (`off_tariff.rs`).
+    OffTariff(OffTariff),
 }
 
 impl Fault {
-    /// All faults, without `None`.
+    /// All faults, without `None` and those off the tariff.
     pub const ALL: [Fault; 18] = [
         Fault::OnePass,
         Fault::OneBucketRound,
@@ -65,6 +69,11 @@ impl Fault {
         Fault::AlwaysCrowded,
         Fault::AlwaysAdded,
     ];
+
+    /// The faults that the tariff shows.
+    pub fn off_tariff() -> impl Iterator<Item = Fault> {
+        OffTariff::ALL.into_iter().map(Fault::OffTariff)
+    }
 
     pub fn name(self) -> &'static str {
         match self {
@@ -87,11 +96,12 @@ impl Fault {
             Fault::AnnounceApplies => "announce-applies",
             Fault::AlwaysCrowded => "always-crowded",
             Fault::AlwaysAdded => "always-added",
+            Fault::OffTariff(fault) => fault.name(),
         }
     }
 
     pub fn from_name(name: &str) -> Option<Fault> {
-        let named = |fault: &&Fault| fault.name() == name;
-        Self::ALL.iter().find(named).copied()
+        let mut all = Self::ALL.into_iter().chain(Self::off_tariff());
+        all.find(|fault| fault.name() == name)
     }
 }

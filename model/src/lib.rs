@@ -12,6 +12,7 @@ pub mod lines;
 pub mod machine;
 pub mod moments;
 pub mod mutate;
+pub mod off_tariff;
 pub mod overtake;
 pub mod plain;
 pub mod prng;

@@ -1,5 +1,5 @@
 //! The wrong machines: each is the true one but for one function, or two where it would not end.
-//! Nothing else in this crate makes a step wrong.
+//! Nothing but this and `off_tariff.rs` makes a step wrong.
 
 use crate::fault::Fault;
 use crate::machine::Machine;
@@ -33,6 +33,7 @@ impl Fault {
             Fault::AnnounceApplies => &AnnounceApplies,
             Fault::AlwaysCrowded => &AlwaysCrowded,
             Fault::AlwaysAdded => &AlwaysAdded,
+            Fault::OffTariff(fault) => fault.machine(),
         }
     }
 }
@@ -47,7 +48,7 @@ impl Steps for OnePass {
 }
 
 /// A step that touches nothing and counts.
-fn idle(machine: &Machine, task: &mut Task) -> Done {
+pub(crate) fn idle(machine: &Machine, task: &mut Task) -> Done {
     task.advance(machine.settings.workers);
     (StepKind::Nothing, None)
 }

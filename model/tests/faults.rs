@@ -2,18 +2,20 @@
 //! stored order tells apart; each stored order is judged well on the true machine and gives the
 //! stored output.
 
+mod stored;
+
 use model::explain::UNDECIDED;
 use model::fault::Fault;
 use model::judge::{judge, Event, Internal};
-use model::lines::{read_line, Line};
+use model::lines::Line;
 use model::machine::Stepped;
+use model::off_tariff::OffTariff;
 use model::records::Answer;
 use model::search::{search, verdict, By};
 use model::task::StepKind;
-use model::totals::transcript;
 use model::trace::record::record;
 use model::trace::Step;
-use std::path::PathBuf;
+use stored::{lines, output, stored};
 
 /// Wrong machines that random search with this seed and budget does not catch by the external
 /// statement; their stored orders do.
@@ -27,31 +29,17 @@ const BUDGET: u64 = 100_000;
 
 /// Stored orders that are not named after a fault, with the fault whose output they tell apart
 /// from the true machine's.
-const MORE: [(&str, Fault); 5] = [
+const MORE: [(&str, Fault); 6] = [
     ("crowded-after-anothers-split", Fault::OneDirectoryRound),
     ("crowded-after-own-split", Fault::OneDirectoryRound),
     ("own-update-only-listing", Fault::OwnUpdateOnly),
     ("toggle-ignored-listing", Fault::ToggleIgnored),
     ("announce-applies-listing", Fault::AnnounceApplies),
+    (
+        "one-worker-splits",
+        Fault::OffTariff(OffTariff::FirstDirectoryPassIdle),
+    ),
 ];
-
-fn stored(name: &str, ending: &str) -> String {
-    let mut path = PathBuf::from(env!("CARGO_MANIFEST_DIR"));
-    path.push("orders");
-    path.push(format!("{name}.{ending}"));
-    std::fs::read_to_string(&path).unwrap_or_else(|error| panic!("{}: {error}", path.display()))
-}
-
-fn lines(name: &str) -> Vec<Line> {
-    let text = stored(name, "txt");
-    let read = |line: &str| read_line(line.as_bytes()).expect("a stored line can be read");
-    text.lines().map(read).collect()
-}
-
-fn output(name: &str, fault: Fault) -> String {
-    let bytes = transcript(stored(name, "txt").as_bytes(), fault);
-    String::from_utf8(bytes).expect("output is text")
-}
 
 /// Rejected by the external statement, and not merely undecided.
 fn is_rejected(fault: Fault, order: &[Line]) -> bool {
@@ -170,7 +158,7 @@ fn slots_read_backwards_show_in_a_listing() {
 
 #[test]
 fn fault_names_are_distinct_and_found_again() {
-    for fault in Fault::ALL {
+    for fault in Fault::ALL.into_iter().chain(Fault::off_tariff()) {
         assert_eq!(Fault::from_name(fault.name()), Some(fault));
     }
     assert_eq!(Fault::from_name("none"), None);

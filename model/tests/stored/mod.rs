@@ -1,0 +1,29 @@
+//! The stored orders: their lines, their outputs, and what `totals` prints for them.
+
+use model::fault::Fault;
+use model::lines::{read_line, Line};
+use model::totals::transcript;
+use std::path::PathBuf;
+
+pub fn folder() -> PathBuf {
+    PathBuf::from(env!("CARGO_MANIFEST_DIR")).join("orders")
+}
+
+pub fn stored(name: &str, ending: &str) -> String {
+    let path = folder().join(format!("{name}.{ending}"));
+    std::fs::read_to_string(&path).unwrap_or_else(|error| panic!("{}: {error}", path.display()))
+}
+
+pub fn lines(name: &str) -> Vec<Line> {
+    read_lines(&stored(name, "txt"))
+}
+
+pub fn read_lines(text: &str) -> Vec<Line> {
+    let read = |line: &str| read_line(line.as_bytes()).expect("a stored line can be read");
+    text.lines().map(read).collect()
+}
+
+pub fn output(name: &str, fault: Fault) -> String {
+    let bytes = transcript(stored(name, "txt").as_bytes(), fault);
+    String::from_utf8(bytes).expect("output is text")
+}
