@@ -107,7 +107,7 @@ fn write_lines(seed: u64, count: u64) -> io::Result<u8> {
     let mut input = Input::new(seed);
     for place in 1..=count {
         out.write_all(&input.next_line())?;
-        if place < count || seed % 2 == 0 {
+        if place < count || seed.is_multiple_of(2) {
             out.write_all(b"\n")?;
         }
     }
