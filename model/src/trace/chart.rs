@@ -5,7 +5,6 @@ use super::labels::{escape, width, Levels};
 use super::looks::{self, Look};
 use super::marks::{self, middle, Mark, COLUMN, MARGIN};
 use super::{words, List, Operation};
-use crate::totals::answer_words;
 
 /// Width of the rows' names.
 const NAMES: i32 = 92;
@@ -168,12 +167,8 @@ impl Chart<'_> {
             Some(_) => right(last) - 1,
             None => right(self.list.places),
         };
-        let steps = operation.steps.len();
         let name = words::operation(&operation.update);
-        let end = match operation.answer {
-            Some(answer) => format!("{}, {steps}", answer_words(answer)),
-            None => format!("no answer, {steps}"),
-        };
+        let end = words::end(operation);
         let both = width(&name) + width(&end) + INSET + 2 * COLUMN;
         let (name, end, until) = match both <= right - left {
             true => (name, Some(end), right - INSET),

@@ -25,7 +25,8 @@ pub struct Operation {
     pub call: usize,
     /// The places of its steps.
     pub steps: Vec<usize>,
-    pub answer: Option<Answer>,
+    /// With the check that gave it, 0 for a lookup's.
+    pub answer: Option<(Answer, u8)>,
 }
 
 /// An accepted step.

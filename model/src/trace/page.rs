@@ -115,7 +115,7 @@ fn legend() -> String {
     format!(
         "<h2>Legend</h2>\n<ul>\n{steps}</ul>\n<ul>\n{others}</ul>\n\
          <p class=\"notes\">A bar runs from its call (thick edge) to its answer; \
-         the number after the answer is that of its steps. \
+         its steps stand after the answer and, for an update, which of its four checks answered. \
          A bar without answer is open at its end. A white stretch of a bar: its worker is parked. \
          Time is counted in entries of the list: calls, steps of all workers and listings, the refused ones too; \
          an unread line takes a place as well. \

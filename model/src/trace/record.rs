@@ -131,8 +131,8 @@ impl Recorder {
         let own = self.last[worker];
         let operation = &mut self.list.operations[own];
         operation.steps.push(place);
-        if let Stepped::Answered { answer, .. } = report.stepped {
-            operation.answer = Some(answer);
+        if let Stepped::Answered { answer, check, .. } = report.stepped {
+            operation.answer = Some((answer, check));
         }
         self.list.steps.push(Step {
             place,

@@ -1,10 +1,11 @@
 //! What the page says of an operation, a bucket, a line or a step.
 
 use super::leaf::{leaves, Leaf, Split};
+use super::Operation;
 use crate::machine::Machine;
 use crate::records::{Bucket, Directory, Kind, Update};
 use crate::task::{StepKind, Task};
-use crate::totals::LONGEST;
+use crate::totals::{answer_words, LONGEST};
 use std::rc::Rc;
 
 /// A line's bytes as printable text; what no line can hold is cut.
@@ -19,6 +20,19 @@ pub fn operation(update: &Update) -> String {
         Kind::Insert => format!("insert {} = {}", update.account, update.total),
         Kind::Delete => format!("delete {}", update.account),
         Kind::Lookup => format!("lookup {}", update.account),
+    }
+}
+
+/// How an operation ended: its answer, its steps and, of an update, the check that answered.
+pub fn end(operation: &Operation) -> String {
+    let steps = match operation.steps.len() {
+        1 => "1 step".to_string(),
+        steps => format!("{steps} steps"),
+    };
+    match operation.answer {
+        None => format!("no answer, {steps}"),
+        Some((answer, 0)) => format!("{}, {steps}", answer_words(answer)),
+        Some((answer, check)) => format!("{}, {steps}, check {check}", answer_words(answer)),
     }
 }
 

@@ -69,6 +69,28 @@ fn the_pictures_are_small_and_the_text_shows_them() {
     }
 }
 
+/// On the page of these lines an operation has this end, in its hover text and in a label.
+fn assert_end(lines: &[u8], operation: &str, end: &str) {
+    let elements = elements(lines);
+    let whole = format!("{operation}: {end}");
+    assert!(titles(&elements, "operation").contains(&whole), "{whole}");
+    let mut labels = elements.iter().filter(|e| e.has_class("label"));
+    assert!(labels.any(|e| e.text == end || e.text == whole), "{whole}");
+}
+
+#[test]
+fn the_check_that_answered_is_said_on_the_page() {
+    let lines = input("second-pass");
+    assert_end(&lines, "insert 5 = 50", "added, 15 steps, check 1");
+    assert_end(&lines, "insert 2147483648 = 80", "added, 29 steps, check 2");
+    assert_end(&lines, "insert 2147483649 = 90", "added, 43 steps, check 3");
+    let lines = include_bytes!("../../orders/crowded-after-own-split.txt");
+    assert_end(lines, "insert 67108864 = 7", "crowded, 69 steps, check 4");
+    assert_end(&input("overtaken"), "lookup 5", "found 50, 2 steps");
+    let lines = b"O 1 2 0\nD 0 5\nS 0 1\n";
+    assert_end(lines, "delete 5", "no answer, 1 step");
+}
+
 #[test]
 fn the_second_pass_takes_up_what_the_first_lost() {
     let expected = ["added 15", "added 15", "added 29", "added 43"];

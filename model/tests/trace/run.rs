@@ -19,7 +19,7 @@ pub struct Run {
     pub steps: Vec<String>,
     /// The hover texts of the moments in their order.
     pub moments: Vec<String>,
-    /// The answered operations with answer and steps, ascending.
+    /// The answered operations with answer, steps and check, ascending.
     pub answered: Vec<String>,
     /// Bucket swaps that succeeded and failed, directory swaps likewise.
     swaps: [u64; 4],
@@ -29,7 +29,9 @@ pub struct Run {
     pub listings: Vec<String>,
     refused: u64,
     unread: u64,
-    /// Of the list under way: places, moments, what the plain table holds, and per worker its operation with its steps.
+    /// Of the list under way: its workers, places, moments, what the plain table holds, and per worker
+    /// its operation with its steps.
+    own_workers: u64,
     places: u64,
     numbered: u64,
     held: BTreeMap<u32, i64>,
@@ -82,6 +84,7 @@ impl Run {
         match *line {
             Line::Open { n, .. } if output == "ok\n" => {
                 self.workers += n;
+                self.own_workers = n;
                 self.places = 0;
                 self.numbered = 0;
                 self.held.clear();
@@ -98,9 +101,9 @@ impl Run {
             }
             Line::Step { worker, .. } => {
                 if let Some(answer) = output.strip_prefix("answered ") {
-                    let (answer, steps) = answer.trim_end().rsplit_once(' ').expect("steps");
                     let (name, _) = &self.under_way[&worker];
-                    self.answered.push(format!("{name}: {answer}, {steps}"));
+                    let end = end(self.own_workers, answer.trim_end());
+                    self.answered.push(format!("{name}: {end}"));
                 }
             }
             _ => {}
@@ -168,6 +171,15 @@ impl Run {
             moment.worker
         ));
     }
+}
+
+/// An answer with its steps, and the check that answers after so many: none after a lookup's two.
+fn end(n: u64, output: &str) -> String {
+    let (answer, steps) = output.rsplit_once(' ').expect("steps");
+    let figures = [2 * n + 11, 6 * n + 17, 8 * n + 27, 12 * n + 33];
+    let place = figures.iter().position(|due| due.to_string() == steps);
+    let check = place.map_or(String::new(), |place| format!(", check {}", place + 1));
+    format!("{answer}, {steps} steps{check}")
 }
 
 fn or_nothing(items: &[String]) -> String {
