@@ -8,7 +8,7 @@ mod orders;
 mod safe;
 
 use flat::Flat;
-use model::machine::{Machine, Report, Stepped};
+use model::machine::{Machine, Stepped};
 use model::prng::Prng;
 use model::records::{Answer, GREATEST_TICKET, KIND_DELETE, KIND_INSERT, KIND_LOOKUP};
 use orders::{Entry, Orders};
@@ -147,7 +147,7 @@ impl<I: Interface> Pair<I> {
     fn steps(&mut self, worker: u64, most: u64) -> Outcome {
         let w = worker as usize;
         if self.machine.workers.get(w).is_none_or(|worker| worker.task.is_none()) {
-            return outcome(self.machine.step(w));
+            return outcome(self.machine.step(w).stepped);
         }
         for _ in 0..most.min(TOTALS_GREATEST_RUN) {
             let report = self.machine.step(w);
@@ -155,7 +155,7 @@ impl<I: Interface> Pair<I> {
                 self.checks[check] += 1;
             }
             if report.stepped != Stepped::Moved {
-                return outcome(report);
+                return outcome(report.stepped);
             }
         }
         Outcome::Moved(most)
@@ -184,12 +184,10 @@ impl<I: Interface> Pair<I> {
     }
 }
 
-fn outcome(report: Report) -> Outcome {
-    match report.stepped {
+fn outcome(stepped: Stepped) -> Outcome {
+    match stepped {
         Stepped::Moved => Outcome::Moved(1),
-        Stepped::Answered { answer, steps, .. } => {
-            Outcome::Answered(answer, steps, u64::from(report.answering_check()))
-        }
+        Stepped::Answered { answer, steps, check } => Outcome::Answered(answer, steps, u64::from(check)),
         Stepped::Refused(number) => Outcome::Refused(number),
     }
 }
