@@ -7,8 +7,8 @@ use std::collections::HashMap;
 use std::hint::black_box;
 use std::sync::Mutex;
 
-// TOTALS_MOVED, a refusal's number, or an answer's number with the steps of the operation, the total found and the check
-// that answered.
+// TOTALS_MOVED, a refusal's number, or an answer's number with the steps of the operation, the total found and the
+// check that answered.
 #[derive(Clone, Copy, PartialEq, Eq, Debug)]
 pub struct Reply {
     pub code: u64,

@@ -3,7 +3,7 @@ ghost use mathlib.Core.Path.{_≡_};
 ghost use Prim.Native.Nat.{_+_, _≤_, _<_};
 ghost use Rattle.fields.specs.Fields.{stepsRange};
 ghost use Rattle.rules.specs.Rules.{answerOf};
-ghost use Rattle.ends.specs.Ends.{numbered, endIn, givenAs};
+ghost use Rattle.ends.specs.Ends.{endWord, endIn};
 use interface::ANSWER_ABSENT;
 use interface::ANSWER_ADDED;
 use interface::ANSWER_CROWDED;
@@ -58,7 +58,7 @@ pub fn update_ended(k: u64, end: u64) -> Completion
 // An answer's number with the check that gave it, after k own steps among n workers, in one word.
 pub fn with_check(number: u64, k: u64, n: u64) -> u64
     requires { ⌜ n ≤ 8 ⌝ }
-    ensures { λ r. ⌜ givenAs k r ≡ numbered n k number ⌝ }
+    ensures { λ r. ⌜ r ≡ endWord n k number ⌝ }
 {
     if number == GOES_ON {
         return GOES_ON;

@@ -20,7 +20,7 @@ use Rattle.machine.specs.Records.{Leaf, Worker, Machine, newBucket, firs
 use Rattle.machine.specs.DirectoryPass.{copyOf, nameOf}
 use Rattle.machine.specs.Steps.{step}
 use Rattle.machine.specs.Calls.{settings, listing, listingOf}
-use Rattle.machine.specs.Systems.{machines, Entry, calling, stepping, showing, reopening, next, asked, moves, callsTo}
+use Rattle.machine.specs.Systems.{machines, Entry, calling, stepping, showing, reopening, next, asked, callsTo}
 use Rattle.machine.specs.History.{Member, Distinct, serveIf, entryAt, stateAt, isCall, OpeningsRefused}
 use Rattle.machine.specs.History.{Ended, answersTo, tableAfter, tableAt, Linearizable, Demand3}
 use Rattle.machine.proofs.laws.Base.{no-both, if-true, and-parts, none-some, neither-less}
@@ -32,10 +32,10 @@ use Rattle.machine.proofs.invariant.Inv.{leafBody}
 use Rattle.machine.proofs.invariant.Tasks.{Good, opened-good}
 use Rattle.machine.proofs.moments.Explain.{Parts, status, outcome, serveAll, answersOf}
 use Rattle.machine.proofs.laws.Serving.{member-dec, member-answers}
-use Rattle.machine.proofs.list.Advance.{Advance, advance, answerIn, answerTo, accepted-step, ExplainedEntry, idle-status}
-use Rattle.machine.proofs.list.StepBounds.{good-at, steps-at, update-bound, lookup-bound, alone-bound, alone-told, steps-told}
+use Rattle.machine.proofs.list.Advance.{Advance, advance, answerIn, answerTo, ExplainedEntry, idle-status}
+use Rattle.machine.proofs.list.StepBounds.{good-at, last, known, steps-at, update-bound, lookup-bound, alone-bound, alone-told, steps-told}
 use Rattle.machine.proofs.list.Refusals.{calls-at, stepped-at, ends-once-at}
-use Rattle.machine.proofs.list.WorkerHistory.{WorkerChange, begins, moves-on, ends, no-change, step-within, at-next, lastCall, From, under-way, ended-last, last-here, last-before}
+use Rattle.machine.proofs.list.WorkerHistory.{WorkerChange, begins, moves-on, ends, no-change, step-within, at-next, lastCall, From, under-way, last-here, last-before}
 
 -- ---- lists
 
@@ -301,10 +301,10 @@ module _ (s : Settings) (range : inRange (s .workers) (s .capacity) (s .depth) �
   -- the step that ends an operation gives the answer that the plain table gave
   module _ (c i j : ℕ) (o : Operation) (r : Completion) (e : Ended s (machines s lent) m t es c i j o r) where
     ended : (at i .workers j .operation ≡ some o) × (lastCallAt i j ≡ c) × From s lent m t es c i j o
-    ended = ended-last s lent m t es refused idle c i j o r e
+    ended = last s range lent m t es refused good idle c i j o r e
 
     worker : j < s .workers
-    worker = accepted-step s (at i) j (ap moves (e .answered)) .worker
+    worker = known s range lent m t es refused good idle c i j o r e
 
     given : answerTo s (at i) (entry i) j ≡ some (r .answer)
     given = ap (λ (x : Entry). answerTo s (at i) x j) (e .entry) ∙ if-true _ _ (eq-eqb j j refl) ∙ ap answerIn (e .answered)

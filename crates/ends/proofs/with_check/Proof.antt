@@ -1,16 +1,15 @@
--- `with_check` puts an answer's number and its check into one word, which `givenAs` reads back.
+-- `with_check` puts an answer's number and its check into one word, as `endWord` says.
 -- Rests on the laws of such a word, and on the greatest number of a check.
 use native.Mathlib.Omega.{arith}
-use mathlib.Core.Path.{refl}
 use Rattle.machine.proofs.laws.PlanChecks.{number-most}
-use Rattle.ends.specs.Ends.{numbered, givenAs}
-use Rattle.ends.proofs.EndLaws.{given-with, none-beyond}
+use Rattle.ends.specs.Ends.{endWord}
+use Rattle.ends.proofs.EndLaws.{end-word-stored, end-word-beyond}
 use borrow.Author.Needs.{needs}
 use Rattle.ends.proofs.with_check.Statement.{statement}
 use Rattle.ends.proofs.with_check.Tie as tie
 
 returns : tie.Need-returns
-unfolding numbered givenAs
+unfolding endWord
 returns c = rw (c .if1 .taken)
 
 mul-checks : tie.Need-mul-checks
@@ -27,8 +26,7 @@ returns-2 : tie.Need-returns-2
 returns-2 c =
     let start = c .before .before .before in
     rw (c .before .check-number .ensures)
-    (given-with (start .args .n) (start .args .k) (start .args .number) (start .args .number) (c .before .before .if1 .left)
-    (c .before .before .if1 .left) (c .if2 .taken) refl)
+    (end-word-stored (start .args .n) (start .args .k) (start .args .number) (c .before .before .if1 .left) (c .if2 .taken))
 
 add-result-2 : tie.Need-add-result-2
 add-result-2 c =
@@ -39,8 +37,7 @@ returns-3 : tie.Need-returns-3
 returns-3 c =
     let start = c .before .before .before in
     rw (c .before .check-number .ensures)
-    (given-with (start .args .n) (start .args .k) (start .args .number) _ (c .before .before .if1 .left) (λ z. omega arith)
-    (omega arith) (none-beyond (start .args .number) (c .if2 .left)))
+    (end-word-beyond (start .args .n) (start .args .k) (start .args .number) (c .before .before .if1 .left) (c .if2 .left))
 
 pub with-check-spec : {M : Type 1} → statement M
 with-check-spec =

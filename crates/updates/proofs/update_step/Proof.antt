@@ -10,6 +10,7 @@ use Rattle.phases.specs.declared.Phase as Code
 use Rattle.phases.specs.Phases.{planned}
 use Rattle.updates.specs.Updates.{updateAt}
 use Rattle.ends.specs.Ends.{givenAs}
+use Rattle.ends.proofs.EndLaws.{word-said}
 use Rattle.updates.proofs.UpdateLaws.{slot-below, state-below, updated}
 use borrow.Author.Needs.{needs}
 use Rattle.updates.proofs.update_step.Statement.{statement}
@@ -83,7 +84,7 @@ returns c =
     let enum-told7 = check .before .before in
     let phase-of = enum-told7 .before .before in
     let settings-of = phase-of .before in
-    rw (← settings-of .settings-of .ensures, c .with-check .ensures)
+    rw (← settings-of .settings-of .ensures, c .with-check .ensures, word-said)
     (updated _ _ _ _ _ _ _ _ Code.Phase.Check (enum-told7 .enum-told7 .given .1) (phase-of .phase-of .ensures) (check .check .ensures _))
 
 copy-directory-requires : tie.Need-copy-directory-requires
