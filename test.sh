@@ -61,7 +61,7 @@ beside_proofs() {
   run definitions env RT_JOBS="$(nproc)" tests/definitions.sh --gate
 }
 
-of_program() { for script in compare spent edges; do run "$script" "tests/$script.sh"; done; }
+of_program() { for script in compare edges; do run "$script" "tests/$script.sh"; done; }
 
 echo "== layout: rt fmt --check"
 if rt fmt --check; then passed=$((passed + 1)); else failed=$((failed + 1)); fi
@@ -76,7 +76,7 @@ show second-model source-as-rust definitions
 
 run interfaces tests/interfaces.sh &
 of_program
-show compare spent edges
+show compare edges
 run benchmark benchmark
 wait
 show interfaces benchmark

@@ -50,8 +50,11 @@ extern "C" {
 #define TOTALS_GREATEST_WORDS 15169
 #define TOTALS_GREATEST_COUNT 4096
 
-/* How many updates one worker can make, and how many steps one totals_run gives at most. */
-#define TOTALS_GREATEST_UPDATES 65535
+/*
+ * The greatest ticket number. Each update of a worker takes its next one, from 1 on after an opening: so this is also
+ * how many updates one worker can make. And how many steps one totals_run gives at most.
+ */
+#define TOTALS_GREATEST_UPDATES UINT64_C(18446744073709551615)
 #define TOTALS_GREATEST_RUN 256
 
 /*
@@ -85,7 +88,7 @@ extern "C" {
 #define TOTALS_BUSY 4      /* a call to a worker whose operation has no answer yet */
 #define TOTALS_IDLE 5      /* a step for a worker without operation */
 #define TOTALS_KIND 6      /* not 1 insert, 2 delete, 3 lookup */
-#define TOTALS_SPENT 7     /* insert or delete by a worker that has made 65,535 of them */
+#define TOTALS_SPENT 7     /* insert or delete by a worker that has no ticket number left */
 #define TOTALS_STRANGE 8   /* the words are no table: see totals_call */
 #define TOTALS_NARROW 10   /* listing: accounts or totals list shorter than the count */
 
@@ -119,8 +122,9 @@ uint64_t totals_words_needed(uint64_t workers, uint64_t capacity, uint64_t depth
 uint64_t totals_open(uint64_t *words, size_t length, uint64_t workers, uint64_t capacity, uint64_t depth);
 
 /*
- * Hands an operation to an idle worker. It takes its steps later; an update takes its ticket here. total counts for an
- * insert only. Returns TOTALS_OK, or, tested in this order and with no word changed:
+ * Hands an operation to an idle worker. It takes its steps later; an update takes its ticket number here, the worker's
+ * last one and 1, a lookup takes none. total counts for an insert only. Returns TOTALS_OK, or, tested in this order and
+ * with no word changed:
  *   TOTALS_STRANGE   the words fail a check: there are fewer than 150; the first one has no mark of a table; the second
  *                    one, the words needed, is above length; they are too few for the workers that the first one names
  *                    and one record. Words of zeros always fail. Words that pass are served, whatever the rest of them
@@ -128,7 +132,8 @@ uint64_t totals_open(uint64_t *words, size_t length, uint64_t workers, uint64_t 
  *   TOTALS_STRANGER  worker is n or more;
  *   TOTALS_BUSY      the worker's operation has no answer yet;
  *   TOTALS_KIND      kind is none of TOTALS_INSERT, TOTALS_DELETE, TOTALS_LOOKUP;
- *   TOTALS_SPENT     an insert or a delete, and the worker has made 65,535 of them; a lookup is still accepted.
+ *   TOTALS_SPENT     an insert or a delete, and the worker has no ticket number left: its last one, which stands in the
+ *                    words, is TOTALS_GREATEST_UPDATES. A lookup is still accepted.
  */
 uint64_t totals_call(uint64_t *words, size_t length, uint64_t worker, uint64_t kind, uint32_t account, int64_t total);
 

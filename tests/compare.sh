@@ -19,7 +19,9 @@ compare() {
   cat "$run/totals" >>"$run/all"
 }
 
-# every sort of output line that document 01 has for the program, but 7 (tests/spent.sh), and no other
+# every sort of output line that document 01 has for the program, but 7, and no other: 7 would take a worker's 2^64 - 1
+# ticket numbers, since the program's words are zeros at first; words near that end are lent to the library by
+# tests/c/tickets.c, and by cases.rs, model and foreign of bindings/rust/tests
 sorts='ok
 refused 1
 refused 2

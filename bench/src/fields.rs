@@ -4,7 +4,7 @@
 pub const KIND_INSERT: u64 = 1;
 pub const KIND_DELETE: u64 = 2;
 pub const KIND_LOOKUP: u64 = 3;
-pub const GREATEST_TICKET: u32 = 65_535;
+pub const GREATEST_TICKET: u64 = u64::MAX;
 
 pub const GREATEST_WORKERS: usize = 8;
 pub const GREATEST_CAPACITY: usize = 16;

@@ -10,7 +10,7 @@ use std::rc::Rc;
 /// One worker: the ticket number last taken, and the operation under way.
 #[derive(Clone, Debug, Default)]
 pub struct Worker {
-    pub last_ticket: u32,
+    pub last_ticket: u64,
     pub task: Option<Task>,
 }
 

@@ -10,7 +10,7 @@ pub const KIND_DELETE: u64 = 2;
 pub const KIND_LOOKUP: u64 = 3;
 
 /// The greatest ticket number, and with it how many inserts and deletes one worker may make.
-pub const GREATEST_TICKET: u32 = 65_535;
+pub const GREATEST_TICKET: u64 = u64::MAX;
 
 /// What an operation does.
 #[derive(Clone, Copy, PartialEq, Eq, PartialOrd, Ord, Hash, Debug)]
@@ -55,13 +55,13 @@ pub struct Update {
     pub kind: Kind,
     pub account: u32,
     pub total: i64,
-    pub ticket: u32,
+    pub ticket: u64,
 }
 
 /// The last settled ticket (sequence number of the last applied update) and its answer.
 #[derive(Clone, Copy, PartialEq, Eq, Debug, Default)]
 pub struct Settled {
-    pub ticket: u32,
+    pub ticket: u64,
     pub answer: Option<Answer>,
 }
 
@@ -118,7 +118,7 @@ impl State {
     }
 
     /// A ticket is settled when the settled number is not below it.
-    pub fn is_settled(&self, worker: usize, ticket: u32) -> bool {
+    pub fn is_settled(&self, worker: usize, ticket: u64) -> bool {
         self.settled[worker].ticket >= ticket
     }
 

@@ -191,30 +191,6 @@ fn the_second_pass_is_needed() {
 }
 
 #[test]
-fn update_65535_is_accepted_and_the_next_is_spent() {
-    let mut input = String::from("O 1 2 1\n");
-    for _ in 0..GREATEST_TICKET {
-        input.push_str("I 0 5 7\nS 0 99\n");
-    }
-    input.push_str("I 0 5 7\nD 0 5\nS 0 1\nL 0 5\nS 0 2\n");
-    let output = String::from_utf8(transcript(input.as_bytes(), Fault::None)).expect("text");
-    let lines: Vec<&str> = output.lines().collect();
-    let updates = GREATEST_TICKET as usize;
-    let replaced = |line: &&&str| **line == "answered replaced 13";
-    assert_eq!(lines.iter().filter(replaced).count(), updates - 1);
-    let end = [
-        "ok",
-        "answered replaced 13",
-        "refused 7",
-        "refused 7",
-        "refused 5",
-        "ok",
-    ];
-    assert_eq!(lines[updates * 2 - 1..updates * 2 + 5], end);
-    assert_eq!(lines.last(), Some(&"answered found 7 2"));
-}
-
-#[test]
 fn refusals_of_a_call_come_in_order() {
     let mut machine = Machine::open(1, 2, 1, u64::MAX).expect("in range");
     assert_eq!(machine.call(1, 9, 5, 0), Err(refusal::STRANGER));

@@ -25,7 +25,7 @@ pub struct Update {
     pub kind: Kind,
     pub account: u32,
     pub total: i64,
-    pub ticket: u32,
+    pub ticket: u64,
 }
 
 // Accounts ascending with their totals, the first `count` of each. The version goes up at each swap of the state.
@@ -39,7 +39,7 @@ pub struct Bucket {
     pub count: usize,
     pub accounts: [u32; GREATEST_CAPACITY],
     pub totals: [i64; GREATEST_CAPACITY],
-    pub settled: [u32; GREATEST_WORKERS],
+    pub settled: [u64; GREATEST_WORKERS],
     pub answers: [Answer; GREATEST_WORKERS],
 }
 

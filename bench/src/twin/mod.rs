@@ -22,7 +22,7 @@ pub enum Stepped {
 #[derive(Clone)]
 struct Worker {
     operation: Option<Update>,
-    last_ticket: u32,
+    last_ticket: u64,
     steps: u32,
     checks: u8,
     bucket: usize,

@@ -18,7 +18,7 @@ pub const TOTALS_BUSY: u64 = 4;
 pub const TOTALS_IDLE: u64 = 5;
 /// No kind of operation.
 pub const TOTALS_KIND: u64 = 6;
-/// Insert or delete by a worker that has made all it can.
+/// Insert or delete by a worker that has no ticket number left.
 pub const TOTALS_SPENT: u64 = 7;
 /// The words are no table.
 pub const TOTALS_STRANGE: u64 = 8;
@@ -47,8 +47,8 @@ pub const TOTALS_NONE: u64 = 22;
 /// The greatest answer. Insert or delete: b accounts agree with this one in the first M bits.
 pub const TOTALS_CROWDED: u64 = 25;
 
-/// How many updates one worker can make.
-pub const TOTALS_GREATEST_UPDATES: u64 = 65_535;
+/// The greatest ticket number, and with it how many updates one worker can make.
+pub const TOTALS_GREATEST_UPDATES: u64 = 18_446_744_073_709_551_615;
 /// How many steps one run gives at most.
 pub const TOTALS_GREATEST_RUN: u64 = 256;
 /// How many steps a lookup takes.

@@ -27,7 +27,8 @@ pub enum Refusal {
     Idle,
     /// No kind of operation; the methods of [`Table`](crate::Table) never give one.
     Kind,
-    /// An insert or a delete by a worker that has made 65,535 of them.
+    /// An insert or a delete by a worker that has no ticket number left: each of its updates takes the next one, from 1
+    /// on after an opening, and 18,446,744,073,709,551,615 is the last. A lookup takes none.
     Spent,
     /// The words are no table.
     Strange,
@@ -92,7 +93,7 @@ impl Refusal {
             Refusal::Busy => "a call to a worker whose operation has no answer yet",
             Refusal::Idle => "a step for a worker without operation",
             Refusal::Kind => "not 1 insert, 2 delete, 3 lookup",
-            Refusal::Spent => "insert or delete by a worker that has made 65,535 of them",
+            Refusal::Spent => "insert or delete by a worker that has no ticket number left",
             Refusal::Strange => "memory fails the checks",
             Refusal::Narrow => "accounts or totals list shorter than the count",
         }

@@ -1,6 +1,9 @@
-//! Document 01's session and cases by the safe interface, every refusal, the words needed for all settings, and the
-//! steps at every check.
+//! Document 01's session and cases by the safe interface, every refusal, tickets at both ends of their 64 bits, the
+//! words needed for all settings, and the steps at every check.
+#[path = "model/tickets.rs"]
+mod tickets;
 
+use tickets::last_ticket;
 use totals::{Answer, Owned, Ran, Refusal, Settings, Stepped, Table};
 
 type Done = Result<(), Refusal>;
@@ -160,18 +163,63 @@ fn the_second_pass_is_needed() -> Done {
     ends(&mut table, 1, Answer::Added, 43, 3)
 }
 
-#[test]
-fn update_65535_is_accepted_and_the_next_is_spent() -> Done {
-    let mut owned = holding(1, &[5])?;
-    let mut table = owned.table();
-    for _ in 1..65_535 {
-        table.insert(0, 5, i64::MIN)?;
-        ends(&mut table, 0, Answer::Replaced, 13, 1)?;
+/// The words of a fresh table, in which each worker has taken this ticket last.
+fn words_after(capacity: u64, tickets: &[u64]) -> Result<Vec<u64>, Refusal> {
+    let settings = Settings::new(tickets.len() as u64, capacity, 1)?;
+    let mut words = vec![0; settings.words_needed()];
+    Table::open(&mut words, settings)?;
+    for (worker, ticket) in tickets.iter().enumerate() {
+        *last_ticket(&mut words, worker) = *ticket;
     }
+    Ok(words)
+}
+
+#[test]
+fn the_last_ticket_is_taken_and_the_next_update_is_spent() -> Done {
+    let mut words = words_after(2, &[u64::MAX - 1, 0])?;
+    let mut table = Table::over(&mut words);
+    table.insert(0, 5, i64::MIN)?;
+    ends(&mut table, 0, Answer::Added, 15, 1)?;
+    let before = words.clone();
+    let mut table = Table::over(&mut words);
     assert_eq!(table.insert(0, 5, 7), Err(Refusal::Spent));
     assert_eq!(table.delete(0, 5), Err(Refusal::Spent));
+    assert_eq!(table.step(0), Err(Refusal::Idle));
+    assert_eq!(words, before);
+    let mut table = Table::over(&mut words);
     table.lookup(0, 5)?;
-    ends(&mut table, 0, Answer::Found(i64::MIN), 2, 0)
+    ends(&mut table, 0, Answer::Found(i64::MIN), 2, 0)?;
+    table.insert(1, 6, 60)?;
+    ends(&mut table, 1, Answer::Added, 15, 1)?;
+    assert_eq!(table.listing()?, [(5, i64::MIN), (6, 60)]);
+    assert_eq!([0, 1].map(|worker| *last_ticket(&mut words, worker)), [u64::MAX, 1]);
+    Ok(())
+}
+
+#[test]
+fn tickets_from_1_and_from_2_to_63_on_in_one_bucket() -> Done {
+    let mut words = words_after(3, &[0, (1 << 63) - 1])?;
+    let mut table = Table::over(&mut words);
+    for (total, answer) in [(1, Answer::Added), (2, Answer::Replaced), (3, Answer::Replaced)] {
+        table.insert(1, 9, total)?;
+        assert_eq!(table.run(1, 3)?, Ran::Moved(3));
+        table.insert(0, 5, total)?;
+        ends(&mut table, 0, answer, 15, 1)?;
+        // worker 0 has helped worker 1
+        assert_eq!(table.listing()?, [(5, total), (9, total)]);
+        ends(&mut table, 1, answer, 15, 1)?;
+    }
+    table.insert(0, 2147483648, 4)?;
+    ends(&mut table, 0, Answer::Added, 15, 1)?;
+    // the bucket is full: worker 0 splits it for both
+    table.insert(1, 2147483649, 5)?;
+    assert_eq!(table.run(1, 3)?, Ran::Moved(3));
+    table.delete(0, 9)?;
+    ends(&mut table, 0, Answer::Removed, 29, 2)?;
+    assert_eq!(table.listing()?, [(5, 3), (2147483648, 4), (2147483649, 5)]);
+    ends(&mut table, 1, Answer::Added, 15, 1)?;
+    assert_eq!([0, 1].map(|worker| *last_ticket(&mut words, worker)), [5, (1 << 63) + 3]);
+    Ok(())
 }
 
 #[test]

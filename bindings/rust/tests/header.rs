@@ -9,12 +9,14 @@ fn repository(path: &str) -> PathBuf {
     Path::new(env!("CARGO_MANIFEST_DIR")).join("../..").join(path)
 }
 
-/// The header's constants without their prefix.
+/// The header's constants without their prefix. One of 64 bits is an argument of `UINT64_C`.
 fn constants() -> BTreeMap<String, u64> {
     let text = fs::read_to_string(repository("include/totals.h")).expect("the header");
     let define = |line: &str| {
         let mut fields = line.strip_prefix("#define TOTALS_")?.split_whitespace();
-        Some((fields.next()?.to_string(), fields.next()?.parse().ok()?))
+        let (name, number) = (fields.next()?, fields.next()?);
+        let wide = number.strip_prefix("UINT64_C(").and_then(|rest| rest.strip_suffix(')'));
+        Some((name.to_string(), wide.unwrap_or(number).parse().ok()?))
     };
     text.lines().filter_map(define).collect()
 }

@@ -56,7 +56,7 @@ isUpdateKind kind = eqb kind kindInsert || eqb kind kindDelete
 abbrev pub check6 : ℕ → Check
 check6 kind = (not (isUpdateKind kind || eqb kind kindLookup), Refusal.Kind)
 
--- "spent: insert or delete by a worker that has made 65,535 of them"
+-- spent: an insert or a delete "when a worker's numbers up to 18,446,744,073,709,551,615 don't suffice" (02, No. 6)
 abbrev pub check7 : List ℕ → ℕ → ℕ → Check
 check7 l w kind = (isUpdateKind kind && leb greatestTicket (ownWord l w workerTicket), Refusal.Spent)
 

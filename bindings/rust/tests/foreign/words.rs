@@ -30,6 +30,17 @@ pub fn any_account(prng: &mut Prng) -> u32 {
     }
 }
 
+/// Tickets of all 64 bits: small ones, the greatest, some about the least of 17, 32, 33 and 64 bits, and any.
+fn any_ticket(prng: &mut Prng) -> u64 {
+    let edge = prng.one_of(&[1 << 16, 1 << 31, 1 << 32, 1 << 63]);
+    match prng.below(4) {
+        0 => prng.below(60),
+        1 => GREATEST_TICKET - prng.below(3),
+        2 => edge + prng.below(4) - 2,
+        _ => prng.draw(),
+    }
+}
+
 /// How many words a table of these settings needs.
 pub fn words_needed(s: Settings) -> usize {
     unsafe { totals_words_needed(s.workers, s.capacity, s.depth) as usize }
@@ -87,17 +98,27 @@ fn marked(prng: &mut Prng) -> u64 {
     MARK * MARK_UNIT + workers + CAPACITY_UNIT * capacity + DEPTH_UNIT * depth
 }
 
-/// Every worker has some number of own steps, so that all kinds of step come up.
-fn spread_steps(w: &mut [u64], prng: &mut Prng) {
+/// A word of every worker whose record stands in the words, drawn anew for each.
+fn of_workers(w: &mut [u64], offset: usize, mut word: impl FnMut(Settings) -> u64) {
     let Some(first) = w.get(HEADER_SETTINGS).copied() else { return };
     let s = settings_of(first);
     for j in 0..s.workers as usize {
-        let at = worker_at(s, j) + WORKER_STEPS;
-        let steps = prng.below(12 * s.workers + 40) + STEPS_RANGE * u64::from(prng.one_in(4));
-        if at < w.len() {
-            w[at] = steps;
+        let drawn = word(s);
+        if let Some(at) = w.get_mut(worker_at(s, j) + offset) {
+            *at = drawn;
         }
     }
+}
+
+/// Every worker has some number of own steps, so that all kinds of step come up.
+fn spread_steps(w: &mut [u64], prng: &mut Prng) {
+    let steps = |s: Settings| prng.below(12 * s.workers + 40) + STEPS_RANGE * u64::from(prng.one_in(4));
+    of_workers(w, WORKER_STEPS, steps);
+}
+
+/// Every worker has some last ticket, so that some have none left.
+fn spread_tickets(w: &mut [u64], prng: &mut Prng) {
+    of_workers(w, WORKER_TICKET, |_| any_ticket(prng));
 }
 
 /// Random words of random lengths; most have the mark and a possible number of words needed.
@@ -112,10 +133,13 @@ pub fn random(prng: &mut Prng) -> Vec<u64> {
     w
 }
 
-/// Own steps, and workers just before a swap or a lookup's answer, where the words pass for a table's.
+/// Own steps and last tickets, and workers just before a swap or a lookup's answer, where the words pass for a table's.
 fn unrest(w: &mut [u64], prng: &mut Prng) {
     if prng.one_in(2) {
         spread_steps(w, prng);
+    }
+    if prng.one_in(2) {
+        spread_tickets(w, prng);
     }
     if strange_words(w) {
         return;
@@ -189,7 +213,8 @@ fn record_word(w: &mut [u64], s: Settings, prng: &mut Prng) {
     w[at] = if prng.one_in(2) { any_word(prng, w.len()) } else { prng.below(20) };
 }
 
-/// A worker just before a bucket swap or a directory swap that succeeds, with random slots read, bits and marks.
+/// A worker just before a bucket swap or a directory swap that succeeds, with random slots read, bits and marks, and
+/// random tickets settled in the record that it holds.
 fn poised(w: &mut [u64], s: Settings, prng: &mut Prng) {
     let (n, p) = (s.workers, any_worker(s, prng));
     let held = record_in(w, w[p + WORKER_HELD]);
@@ -202,8 +227,10 @@ fn poised(w: &mut [u64], s: Settings, prng: &mut Prng) {
         slot[SLOT_KIND] = prng.below(4);
         slot[SLOT_ACCOUNT] = account;
         slot[SLOT_TOTAL] = prng.draw();
-        slot[SLOT_TICKET] = prng.below(70_000);
+        slot[SLOT_TICKET] = any_ticket(prng);
     }
+    let settled = held + RECORD_ACCOUNTS + 2 * s.capacity as usize;
+    w[settled..][..n as usize].fill_with(|| any_ticket(prng));
     if prng.one_in(2) {
         ripe(w, s, p, prng);
     }
@@ -250,6 +277,7 @@ pub fn damaged(w: &[u64], prng: &mut Prng) -> Vec<u64> {
             16..=21 => record_word(&mut w, s, prng),
             22 => header(&mut w, prng),
             23..=25 => spread_steps(&mut w, prng),
+            26 => spread_tickets(&mut w, prng),
             _ => poised(&mut w, s, prng),
         }
     }
@@ -270,7 +298,8 @@ pub fn misleading(prng: &mut Prng) -> Vec<u64> {
     let length = LEAST_WORDS + prng.place(800);
     let end = length as u64;
     let (last, past) = (end - WIDEST_RECORD as u64, end - SPARE_WORDS as u64);
-    let constants = [0, u64::MAX, 1, 3, 5, 16, last, past, end, end + 1, 1 << 63, GREATEST_TICKET, STEPS_RANGE];
+    let tickets = [GREATEST_TICKET, GREATEST_TICKET - 1, 1 << 63, 1 << 32, u64::from(u32::MAX)];
+    let constants = [&[0, 1, 3, 5, 16, last, past, end, end + 1, STEPS_RANGE][..], &tickets].concat();
     let (x, y) = (prng.one_of(&constants), prng.one_of(&constants));
     let mut w: Vec<u64> = match prng.below(4) {
         0 => (0..end).collect(),
@@ -283,13 +312,7 @@ pub fn misleading(prng: &mut Prng) -> Vec<u64> {
     }
     unrest(&mut w, prng);
     if prng.one_in(4) {
-        let s = settings_of(w[HEADER_SETTINGS]);
-        for j in 0..s.workers as usize {
-            let at = worker_at(s, j) + WORKER_KIND;
-            if at < length {
-                w[at] = prng.below(5);
-            }
-        }
+        of_workers(&mut w, WORKER_KIND, |_| prng.below(5));
     }
     w
 }

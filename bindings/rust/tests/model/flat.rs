@@ -86,4 +86,8 @@ impl Interface for Flat {
         let report = self.report();
         lent::list(&self.words, [accounts, totals], report, want.map_err(u64::from));
     }
+
+    fn words(&mut self) -> &mut [u64] {
+        self.words.items_mut()
+    }
 }

@@ -1,19 +1,21 @@
 //! Random orders of calls, single steps, runs and listings by the safe interface and by the C functions, held against
-//! the second model: every refusal, answer, step count, check and listing is the model's. Damaged words are the
-//! business of `foreign`.
+//! the second model: every refusal, answer, step count, check and listing is the model's. Some start with last tickets
+//! set, in the words and in the model alike. Damaged words are the business of `foreign`.
 mod flat;
 #[path = "../foreign/lent.rs"]
 mod lent;
 mod orders;
 mod safe;
+mod tickets;
 
 use flat::Flat;
 use model::machine::{Machine, Stepped};
 use model::prng::Prng;
 use model::records::{Answer, GREATEST_TICKET, KIND_DELETE, KIND_INSERT, KIND_LOOKUP};
-use orders::{Entry, Orders};
+use orders::{Entry, Orders, EDGES};
 use safe::Safe;
 use std::collections::BTreeSet;
+use tickets::last_ticket;
 use totals::raw::*;
 
 pub type Rows = Vec<(u32, i64)>;
@@ -78,6 +80,7 @@ pub trait Interface {
     fn step(&mut self, worker: u64, want: Outcome);
     fn run(&mut self, worker: u64, most: u64, want: Outcome);
     fn list(&mut self, accounts: usize, totals: usize, want: Result<Rows, u8>);
+    fn words(&mut self) -> &mut [u64];
 }
 
 /// A table by an interface and by the model, and how often each call gave each number.
@@ -87,6 +90,8 @@ struct Pair<I> {
     counts: [[u64; TOTALS_CROWDED as usize + 1]; NAMES.len()],
     /// How many updates were answered by the first, second, third and fourth check.
     checks: [u64; 4],
+    /// How many workers took the ticket at each edge.
+    passed: [u64; EDGES.len()],
     /// Of the order under way.
     seed: u64,
 }
@@ -105,7 +110,8 @@ const NAMES: [&str; 5] = ["open", "call", "step", "run", "list"];
 impl<I: Interface> Pair<I> {
     fn new(table: I) -> Pair<I> {
         let machine = Machine::open(1, 2, 0, 150).expect("the least settings");
-        let mut pair = Pair { table, machine, counts: Default::default(), checks: [0; 4], seed: 0 };
+        let (counts, passed) = Default::default();
+        let mut pair = Pair { table, machine, counts, checks: [0; 4], passed, seed: 0 };
         pair.enter(Entry::Open([1, 2, 0], 150));
         pair
     }
@@ -161,6 +167,40 @@ impl<I: Interface> Pair<I> {
         Outcome::Moved(most)
     }
 
+    /// The workers, which are idle, have taken these tickets last.
+    fn set_tickets(&mut self, tickets: &[u64]) {
+        for (w, ticket) in tickets.iter().enumerate() {
+            self.machine.workers[w].last_ticket = *ticket;
+            *last_ticket(self.table.words(), w) = *ticket;
+        }
+    }
+
+    /// The tickets that the workers have taken last: in the words as in the model.
+    fn tickets(&mut self) -> Vec<u64> {
+        let words = self.table.words();
+        let in_words: Vec<u64> = (0..self.machine.workers.len()).map(|w| *last_ticket(words, w)).collect();
+        let in_model: Vec<u64> = self.machine.workers.iter().map(|worker| worker.last_ticket).collect();
+        assert_eq!(in_words, in_model);
+        in_words
+    }
+
+    /// A whole order; counts who takes the tickets at the edges.
+    fn order(&mut self, orders: &mut Orders) {
+        let opening = orders.opening();
+        self.enter(opening);
+        let first = orders.tickets();
+        self.set_tickets(&first);
+        for _ in 0..1000 {
+            let entry = orders.next(&self.machine);
+            self.enter(entry);
+        }
+        let last = self.tickets();
+        let passes = |edge| first.iter().zip(&last).filter(|(first, last)| **first < edge && edge <= **last).count();
+        for (passed, edge) in self.passed.iter_mut().zip(EDGES) {
+            *passed += passes(edge) as u64;
+        }
+    }
+
     fn calls(&self) -> u64 {
         self.counts.iter().flatten().sum()
     }
@@ -213,47 +253,42 @@ fn random_orders(title: &str, table: impl Interface, seeds: u64, any_kind: bool)
     for seed in 0..seeds {
         pair.seed = seed;
         let mut orders = Orders::new(seed, any_kind);
-        let opening = orders.opening();
         let s = orders.settings;
         values.extend([('n', s.workers), ('b', s.bucket_size), ('M', s.greatest_depth as usize)]);
-        pair.enter(opening);
-        for _ in 0..1000 {
-            let entry = orders.next(&pair.machine);
-            pair.enter(entry);
-        }
+        pair.order(&mut orders);
     }
     pair.print(title);
+    println!("  workers that took the ticket at each edge: {:?}", pair.passed);
     assert_eq!(values.len(), 8 + 15 + 9, "every n, b and M comes up");
     assert!(pair.calls() > 2_000_000 && pair.checks.iter().all(|updates| *updates > 10), "{:?}", pair.checks);
+    assert!(pair.passed.iter().all(|workers| *workers > 100), "{:?}", pair.passed);
     pair.gave("open", &[TOTALS_OK, TOTALS_SETTINGS, TOTALS_SHORT]);
-    let called = [TOTALS_OK, TOTALS_STRANGER, TOTALS_BUSY, TOTALS_KIND];
-    pair.gave("call", &called[..if any_kind { 4 } else { 3 }]);
+    let called = [TOTALS_OK, TOTALS_STRANGER, TOTALS_BUSY, TOTALS_SPENT, TOTALS_KIND];
+    pair.gave("call", &called[..if any_kind { 5 } else { 4 }]);
     pair.gave("step", &STEPPED);
     pair.gave("run", &STEPPED);
     pair.gave("list", &[TOTALS_OK, TOTALS_NARROW]);
 }
 
-/// Updates of worker 0 until it has none left, and after; worker 1 gets a few steps now and then.
+/// A call of a worker by some kind up to this one, of an account with any two first bits.
+fn any_call(prng: &mut Prng, worker: u64, greatest_kind: u64, total: i64) -> Entry {
+    let kind = prng.between(KIND_INSERT, greatest_kind);
+    let account = (prng.below(4) as u32) << 30 | prng.below(2) as u32;
+    Entry::Call { worker, kind, account, total }
+}
+
+/// Updates of worker 0 until it has no ticket left, and 200 more; worker 1 gets a few steps now and then.
 fn until_spent(title: &str, table: impl Interface) {
     let mut pair = Pair::new(table);
     let mut prng = Prng::new(7);
+    let (left, more) = (500, 200);
     pair.enter(Entry::Open([2, 3, 2], 400));
-    for update in 0..u64::from(GREATEST_TICKET) + 200 {
-        let account = |prng: &mut Prng| (prng.below(4) as u32) << 30 | prng.below(2) as u32;
-        pair.enter(Entry::Call {
-            worker: 0,
-            kind: prng.between(KIND_INSERT, KIND_DELETE),
-            account: account(&mut prng),
-            total: update as i64,
-        });
+    pair.set_tickets(&[GREATEST_TICKET - left, 0]);
+    for update in 0..left + more {
+        pair.enter(any_call(&mut prng, 0, KIND_DELETE, update as i64));
         pair.enter(Entry::Run(0, 99));
         if prng.percent(20) {
-            pair.enter(Entry::Call {
-                worker: 1,
-                kind: prng.between(KIND_INSERT, KIND_LOOKUP),
-                account: account(&mut prng),
-                total: -1,
-            });
+            pair.enter(any_call(&mut prng, 1, KIND_LOOKUP, -1));
             pair.enter(Entry::Run(1, prng.between(1, 30)));
         }
     }
@@ -262,7 +297,7 @@ fn until_spent(title: &str, table: impl Interface) {
     pair.enter(Entry::List(12, 12));
     pair.print(title);
     let spent = pair.counts[1][TOTALS_SPENT as usize];
-    assert_eq!((spent, pair.machine.workers[0].last_ticket), (200, GREATEST_TICKET));
+    assert_eq!((spent, pair.tickets()[0]), (more, GREATEST_TICKET));
 }
 
 #[test]

@@ -5,9 +5,12 @@ use model::lines::Line;
 use model::machine::Machine;
 use model::prng::Prng;
 use model::random::Generator;
-use model::records::{KIND_DELETE, KIND_INSERT, KIND_LOOKUP};
+use model::records::{GREATEST_TICKET, KIND_DELETE, KIND_INSERT, KIND_LOOKUP};
 use model::settings::Settings;
 use totals::raw::TOTALS_GREATEST_RUN as RUN;
+
+/// Tickets that orders are to reach: the first of 17, 32, 33 and 64 bits, and the last that there is.
+pub const EDGES: [u64; 5] = [1 << 16, 1 << 31, 1 << 32, 1 << 63, GREATEST_TICKET];
 
 /// One entry of an order.
 pub enum Entry {
@@ -52,6 +55,19 @@ impl Orders {
     /// The opening that the order starts with: as many words as are needed, or up to two more.
     pub fn opening(&mut self) -> Entry {
         Entry::Open(numbers(self.settings), self.settings.words() as usize + self.prng.below(3) as usize)
+    }
+
+    /// The tickets that the workers have taken last at the start of the order: none, in two orders of five; or of each
+    /// worker some number, mostly a few below an edge.
+    pub fn tickets(&mut self) -> Vec<u64> {
+        let fresh = self.prng.percent(40);
+        let mut ticket = || match self.prng.below(8) {
+            _ if fresh => 0,
+            0 => 0,
+            1 => self.prng.draw(),
+            _ => self.prng.one_of(&EDGES) - self.prng.below(30),
+        };
+        (0..self.settings.workers).map(|_| ticket()).collect()
     }
 
     /// The next entry for a machine in this state.

@@ -73,4 +73,8 @@ impl Interface for Safe {
             accounts[past..].iter().all(|account| *account == 7) && totals[past..].iter().all(|total| *total == -7)
         );
     }
+
+    fn words(&mut self) -> &mut [u64] {
+        &mut self.words
+    }
 }
