@@ -123,7 +123,7 @@ uint64_t totals_open(uint64_t *words, size_t length, uint64_t workers, uint64_t 
 
 /*
  * Hands an operation to an idle worker. It takes its steps later; an update takes its ticket number here, the worker's
- * last one and 1, a lookup takes none. total counts for an insert only. Returns TOTALS_OK, or, tested in this order and
+ * last plus 1, a lookup takes none. total counts for an insert only. Returns TOTALS_OK, or, tested in this order and
  * with no word changed:
  *   TOTALS_STRANGE   the words fail a check: there are fewer than 150; the first one has no mark of a table; the second
  *                    one, the words needed, is above length; they are too few for the workers that the first one names

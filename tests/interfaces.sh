@@ -1,7 +1,7 @@
 #!/usr/bin/env bash
 # The interfaces for C and Rust: the header, the library's symbols, both examples, the Rust crate's tests, reports of
-# every length, and the lines of `totals` over the C interface against the second model. The last line is
-# 'N passed, M failed'; the exit status is 0 only if M is 0.
+# every length, tickets of 64 bits, and the lines of `totals` over the C interface against the second model. The last
+# line is 'N passed, M failed'; the exit status is 0 only if M is 0.
 # interfaces.sh [SEED LINES]...: without arguments, fixed seeds of 600,000 lines in all.
 set -u
 cd "$(dirname "$0")/.." || exit 2
@@ -28,8 +28,11 @@ header() {
     check $? "the header as C99 by $compiler"
     steps "$compiler" -std=c99
   done
-  printf '#include "totals.h"\nint main() { return totals_words_needed(1, 2, 0) != TOTALS_LEAST_WORDS; }\n' \
-    >"$run/linked.cc"
+  {
+    echo '#include "totals.h"'
+    echo 'static_assert(TOTALS_GREATEST_UPDATES == UINT64_MAX, "the greatest ticket number");'
+    echo 'int main() { return totals_words_needed(1, 2, 0) != TOTALS_LEAST_WORDS; }'
+  } >"$run/linked.cc"
   for compiler in c++ clang++; do
     command -v "$compiler" >/dev/null || continue
     "$compiler" -std=c++11 "${strict[@]}" -fsyntax-only -x c++ "$run/header.h"
@@ -97,10 +100,17 @@ crate() {
   failed=$((failed + f))
 }
 
-reports() {
-  cc -std=c99 "${strict[@]}" tests/c/reports.c "$library" -o "$run/reports" && "$run/reports"
-  check $? "reports of 0 to 4 places"
+# sound NAME TEXT OPTION...: a program of tests/c finds nothing wrong with the library
+sound() {
+  local name=$1 text=$2
+  shift 2
+  cc -std=c99 "$@" "${strict[@]}" "tests/c/$name.c" "$library" -o "$run/$name" && "$run/$name"
+  check $? "$text${1:+ with $1}"
 }
+
+reports() { sound reports "reports of 0 to 4 places" "$@"; }
+
+tickets() { sound tickets "tickets near 2^64, and about 2^16, 2^31, 2^32 and 2^63 beside those from 1 on" "$@"; }
 
 # compare PROGRAM SEED LINES TEXT: random lines are met with the same bytes by the program and by the model
 compare() {
@@ -139,7 +149,7 @@ stored() {
 
 # the C programs once more with the compiler's own checks of memory and arithmetic
 sanitized() {
-  local checks=(-std=c99 -g -fsanitize=address,undefined -fno-sanitize-recover=all)
+  local checks=(-fsanitize=address,undefined -fno-sanitize-recover=all -std=c99 -g)
   printf 'int main(void) { return 0; }\n' >"$run/nothing.c"
   if ! { cc "${checks[@]}" "$run/nothing.c" -o "$run/nothing" && "$run/nothing"; } >/dev/null 2>&1; then
     echo "        -fsanitize=address,undefined is not available: not tried"
@@ -148,8 +158,8 @@ sanitized() {
   cc "${checks[@]}" "${strict[@]}" examples/c/dispatcher.c "$library" -o "$run/dispatcher"
   check $? "the C example is built with -fsanitize=address,undefined"
   example "$run/dispatcher" "it prints the stored output"
-  cc "${checks[@]}" "${strict[@]}" tests/c/reports.c "$library" -o "$run/reports" && "$run/reports"
-  check $? "reports of 0 to 4 places with -fsanitize=address,undefined"
+  reports "${checks[@]}"
+  tickets "${checks[@]}"
   cc "${checks[@]}" "${strict[@]}" tests/c/lines.c "$library" -o "$run/lines"
   check $? "the program for lines is built with -fsanitize=address,undefined"
   compare "$run/lines" 14 50000 "with these checks"
@@ -162,6 +172,7 @@ examples
 shown
 crate
 reports
+tickets
 lines "$@"
 stored
 sanitized
