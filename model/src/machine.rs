@@ -1,7 +1,7 @@
 //! The machine: the shared cells, and the calls open, call, step and listing.
 
 use crate::fault::Fault;
-use crate::records::{Answer, Bucket, Directory, Kind, State, Update, GREATEST_TICKET};
+use crate::records::{Answer, Bucket, Directory, Kind, State, Update};
 use crate::refusal;
 use crate::settings::Settings;
 use crate::task::{StepKind, Task};
@@ -92,16 +92,12 @@ impl Machine {
             return Err(refusal::BUSY);
         }
         let kind = Kind::of(kind).ok_or(refusal::KIND)?;
+        let mut ticket = 0;
         if kind != Kind::Lookup {
-            if worker.last_ticket == GREATEST_TICKET {
-                return Err(refusal::SPENT);
-            }
-            worker.last_ticket += 1;
+            let next = self.fault.machine().next_ticket(worker.last_ticket);
+            ticket = next.ok_or(refusal::SPENT)?;
+            worker.last_ticket = ticket;
         }
-        let ticket = match kind {
-            Kind::Lookup => 0,
-            _ => worker.last_ticket,
-        };
         worker.task = Some(Task::new(Update {
             kind,
             account,

@@ -3,7 +3,7 @@
 
 use crate::machine::{Machine, Report, Stepped};
 use crate::plain::Plain;
-use crate::records::{Answer, Bucket, Update};
+use crate::records::{Answer, Bucket, Kind, Update};
 use crate::settings::Settings;
 use crate::task::{Position, Task};
 use crate::violation::Violation;
@@ -115,7 +115,7 @@ impl Moments {
         let mut done = Vec::new();
         for (j, entry) in self.under_way.iter().enumerate() {
             let Some(before) = entry else { continue };
-            if before.operation.ticket == 0 || before.done {
+            if before.operation.kind == Kind::Lookup || before.done {
                 continue;
             }
             if is_done(machine, j, &before.operation) {
@@ -136,7 +136,7 @@ impl Moments {
             return None;
         };
         let before = self.under_way[w].as_ref()?;
-        let crowded = before.operation.ticket != 0 && answer == Answer::Crowded;
+        let crowded = before.operation.kind != Kind::Lookup && answer == Answer::Crowded;
         (crowded || before.held_is_current).then_some(w)
     }
 

@@ -1,6 +1,6 @@
 //! The steps as document 01 has them. Each touches at most one shared cell; private work goes with
 //! it. The true machine takes all of them as they stand here; a wrong one (`wrong.rs`) has another
-//! function in place of one of them.
+//! function in place of one of them. So have the two rules of tickets, which stand here too.
 
 use crate::machine::Machine;
 use crate::records::{prefix_of, Answer, Bucket, State, Update};
@@ -18,6 +18,18 @@ pub struct True;
 impl Steps for True {}
 
 pub trait Steps {
+    /// Document 01: the ticket number of an update "is the worker's last plus 1, taken at the call".
+    /// Document 02: the numbers are 1 to 18,446,744,073,709,551,615; none, which is refusal 7, is
+    /// given exactly when they do not suffice.
+    fn next_ticket(&self, last: u64) -> Option<u64> {
+        last.checked_add(1)
+    }
+
+    /// Document 01: "A ticket is settled in a bucket when that number is not below it."
+    fn is_settled(&self, state: &State, worker: usize, ticket: u64) -> bool {
+        state.is_settled(worker, ticket)
+    }
+
     /// Performs the step to come of a task that was taken out of its worker.
     fn perform(&self, machine: &mut Machine, w: usize, task: &mut Task) -> Done {
         let done = match task.next {
@@ -117,7 +129,7 @@ pub trait Steps {
         for (j, slot) in task.slots.iter().enumerate() {
             let Some(update) = slot else { continue };
             let flipped = task.toggle[j] != read.applied[j];
-            let pending = flipped && !copy.is_settled(j, update.ticket);
+            let pending = flipped && !self.is_settled(&copy, j, update.ticket);
             if pending && !copy.is_full(settings.bucket_size) {
                 copy.carry_out(j, update);
             }
@@ -145,7 +157,7 @@ pub trait Steps {
     fn check_answer(&self, settings: &Settings, w: usize, task: &Task) -> Option<Answer> {
         let bucket = task.own_bucket();
         let state = bucket.current();
-        if state.is_settled(w, task.operation.ticket) {
+        if self.is_settled(&state, w, task.operation.ticket) {
             return state.settled[w].answer;
         }
         let deepest = bucket.depth == settings.greatest_depth;
@@ -195,7 +207,7 @@ pub trait Steps {
             return 0;
         }
         working.found.push((Rc::clone(bucket), Rc::clone(&state)));
-        let unsettled = |k: usize, update: &Update| !state.is_settled(k, update.ticket);
+        let unsettled = |k: usize, update: &Update| !self.is_settled(&state, k, update.ticket);
         if !slots[j].is_some_and(|update| unsettled(j, &update)) {
             return 0;
         }
