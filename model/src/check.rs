@@ -1,11 +1,11 @@
-//! Runs a machine with every assertion after every step: moments, invariants, tariff, step bounds.
+//! Runs a machine with every assertion: at every call refusal 7, after every step moments,
+//! invariants, tariff, step bounds.
 
-use crate::fault::Fault;
 use crate::invariants::Ledger;
 use crate::machine::{Machine, Report, Stepped};
 use crate::moments::{Moment, Moments};
 use crate::records::{Answer, Kind};
-use crate::settings::Settings;
+use crate::spent::{Called, Numbers};
 use crate::tariff::{is_last_made, Meter};
 use crate::task::StepKind;
 use crate::violation::Violation;
@@ -50,6 +50,7 @@ pub struct Checker {
     pub machine: Machine,
     pub moments: Moments,
     pub counts: Counts,
+    numbers: Numbers,
     meter: Meter,
     /// Per worker the checks that its operation has made.
     made: Vec<u8>,
@@ -57,10 +58,12 @@ pub struct Checker {
 }
 
 impl Checker {
-    pub fn new(settings: Settings, fault: Fault) -> Checker {
-        let machine = Machine::fresh(settings, fault);
+    /// A table that was just opened.
+    pub fn new(machine: Machine) -> Checker {
+        let settings = machine.settings;
         Checker {
             moments: Moments::new(&settings),
+            numbers: Numbers::new(&machine),
             meter: Meter::new(settings),
             made: vec![0; settings.workers],
             ledger: Ledger::new(&machine),
@@ -72,9 +75,16 @@ impl Checker {
         }
     }
 
-    /// A call; it takes no moment and changes no shared cell.
-    pub fn call(&mut self, w: usize, kind: u64, account: u32, total: i64) -> Result<(), u8> {
-        self.machine.call(w, kind, account, total)
+    /// A call, refused 7 exactly where it is due; it takes no moment and changes no shared cell.
+    pub fn call(
+        &mut self,
+        w: usize,
+        kind: u64,
+        account: u32,
+        total: i64,
+    ) -> Result<Called, Violation> {
+        let machine = &mut self.machine;
+        self.numbers.call(machine, w, kind, account, total)
     }
 
     /// A step with all assertions; the moments of the step in their order.

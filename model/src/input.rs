@@ -1,7 +1,6 @@
 //! Random input for `totals`, all a function of the seed: lists for every setting that fits the lent
 //! words, with lines that are refused or cannot be read in between.
 
-use crate::fault::Fault;
 use crate::lines::Line;
 use crate::prng::Prng;
 use crate::random::Generator;
@@ -44,7 +43,7 @@ impl Input {
     pub fn new(seed: u64) -> Input {
         Input {
             prng: Prng::new(seed),
-            driver: Driver::with_fault(Fault::None),
+            driver: Driver::default(),
             left: 10,
             orders: None,
             settings: Settings {

@@ -6,10 +6,11 @@ use crate::fault::Fault;
 use crate::lines::Line;
 use crate::machine::{Machine, Report, Stepped};
 use crate::moments::Moment;
-use crate::records::Update;
-use crate::settings::Settings;
+use crate::records::{Kind, Update};
+use crate::spent::Numbers;
+use crate::starts::Start;
 use crate::tariff::Meter;
-use crate::totals::{LENT, PLACES};
+use crate::totals::PLACES;
 use crate::violation::Violation;
 
 /// Takes driver lines one at a time.
@@ -20,12 +21,6 @@ pub trait Judge {
     fn counts(&self) -> Counts;
 }
 
-/// The settings of an accepted opening.
-fn accepted(n: u64, b: u64, m: u64) -> Option<Settings> {
-    let settings = Settings::new(n, b, m).ok()?;
-    (settings.words() <= LENT).then_some(settings)
-}
-
 /// One accepted step of a judged order, for traces.
 #[derive(Clone, PartialEq, Eq, Debug)]
 pub struct Event {
@@ -34,10 +29,10 @@ pub struct Event {
     pub moments: Vec<Moment>,
 }
 
-/// All assertions: moments, invariants, tariff, step bounds.
+/// All assertions: refusal 7, moments, invariants, tariff, step bounds.
 #[derive(Debug, Default)]
 pub struct Internal {
-    pub fault: Fault,
+    start: Start,
     /// Kept only if `record` is set.
     pub events: Vec<Event>,
     pub record: bool,
@@ -46,17 +41,17 @@ pub struct Internal {
 }
 
 impl Internal {
-    pub fn new(fault: Fault) -> Internal {
+    pub fn new(start: impl Into<Start>) -> Internal {
         Internal {
-            fault,
+            start: start.into(),
             ..Internal::default()
         }
     }
 
     fn open(&mut self, n: u64, b: u64, m: u64) {
-        if let Some(settings) = accepted(n, b, m) {
+        if let Ok(machine) = self.start.open(n, b, m) {
             self.before = self.counts();
-            self.checker = Some(Checker::new(settings, self.fault));
+            self.checker = Some(Checker::new(machine));
         }
     }
 
@@ -92,9 +87,10 @@ impl Judge for Internal {
                 account,
                 total,
             } => {
-                // A refused call changes nothing; the refusals are the driver's tests' business.
+                // A refused call changes nothing; the refusals but for 7 are the driver's tests'
+                // business.
                 if let Some(checker) = self.checker.as_mut() {
-                    let _ = checker.call(worker, kind.number(), account, total);
+                    let _ = checker.call(worker, kind.number(), account, total)?;
                 }
             }
             Line::Step { worker, count } => self.steps(worker, count)?,
@@ -117,47 +113,72 @@ impl Judge for Internal {
     }
 }
 
-/// The external statement: answers, listings asked for, the tariff, and the step bounds of
-/// document 01.
+/// A machine with what its outputs are held against.
+#[derive(Debug)]
+struct Seen {
+    machine: Machine,
+    explainer: Explainer,
+    numbers: Numbers,
+    meter: Meter,
+}
+
+/// The external statement: answers, listings asked for, refusal 7, the tariff, and the step bounds
+/// of document 01.
 #[derive(Debug, Default)]
 pub struct External {
-    pub fault: Fault,
+    start: Start,
     counts: Counts,
-    present: Option<(Machine, Explainer, Meter)>,
+    present: Option<Seen>,
 }
 
 impl External {
-    pub fn new(fault: Fault) -> External {
+    pub fn new(start: impl Into<Start>) -> External {
         External {
-            fault,
+            start: start.into(),
             ..External::default()
         }
     }
 
     fn open(&mut self, n: u64, b: u64, m: u64) {
-        if let Some(settings) = accepted(n, b, m) {
-            let machine = Machine::fresh(settings, self.fault);
-            let (explainer, meter) = (Explainer::new(&settings), Meter::new(settings));
-            self.present = Some((machine, explainer, meter));
+        if let Ok(machine) = self.start.open(n, b, m) {
+            self.present = Some(Seen {
+                explainer: Explainer::new(&machine.settings),
+                numbers: Numbers::new(&machine),
+                meter: Meter::new(machine.settings),
+                machine,
+            });
             self.counts.orders += 1;
         }
     }
 
     fn steps(&mut self, worker: usize, count: u64) -> Result<(), Violation> {
-        let Some((machine, explainer, meter)) = self.present.as_mut() else {
+        let Some(seen) = self.present.as_mut() else {
             return Ok(());
         };
         for _ in 0..count {
             self.counts.steps += 1;
-            let Some(operation) = task_of(machine, worker) else {
+            let Some(operation) = task_of(&seen.machine, worker) else {
                 return Ok(());
             };
-            let stepped = machine.step(worker).stepped;
-            meter.step(worker, operation.kind, stepped)?;
+            let stepped = seen.machine.step(worker).stepped;
+            seen.meter.step(worker, operation.kind, stepped)?;
             match stepped {
-                Stepped::Answered { answer, .. } => return explainer.answered(worker, answer),
-                _ => explainer.moved(),
+                Stepped::Answered { answer, .. } => return seen.explainer.answered(worker, answer),
+                _ => seen.explainer.moved(),
             }
+        }
+        Ok(())
+    }
+}
+
+impl Seen {
+    fn call(&mut self, w: usize, kind: Kind, account: u32, total: i64) -> Result<(), Violation> {
+        let machine = &mut self.machine;
+        let called = self
+            .numbers
+            .call(machine, w, kind.number(), account, total)?;
+        if let (Ok(()), Some(operation)) = (called, task_of(machine, w)) {
+            self.explainer.called(w, operation);
         }
         Ok(())
     }
@@ -173,19 +194,15 @@ impl Judge for External {
                 account,
                 total,
             } => {
-                let Some((machine, explainer, _)) = self.present.as_mut() else {
-                    return Ok(());
-                };
-                let called = machine.call(worker, kind.number(), account, total);
-                if let (Ok(()), Some(task)) = (called, task_of(machine, worker)) {
-                    explainer.called(worker, task);
+                if let Some(seen) = self.present.as_mut() {
+                    seen.call(worker, kind, account, total)?;
                 }
             }
             Line::Step { worker, count } => self.steps(worker, count)?,
             Line::List => {
-                if let Some((machine, explainer, _)) = self.present.as_mut() {
-                    if let Ok(items) = machine.listing(PLACES, PLACES) {
-                        explainer.listed(&items)?;
+                if let Some(seen) = self.present.as_mut() {
+                    if let Ok(items) = seen.machine.listing(PLACES, PLACES) {
+                        seen.explainer.listed(&items)?;
                     }
                 }
             }
@@ -194,7 +211,7 @@ impl Judge for External {
     }
 
     fn machine(&self) -> Option<&Machine> {
-        self.present.as_ref().map(|(machine, ..)| machine)
+        self.present.as_ref().map(|seen| &seen.machine)
     }
 
     fn counts(&self) -> Counts {

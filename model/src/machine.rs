@@ -14,6 +14,9 @@ pub struct Worker {
     pub task: Option<Task>,
 }
 
+/// The ticket that each worker took last, of as many as there are.
+pub type LastTickets = [u64; Settings::GREATEST_WORKERS as usize];
+
 /// The outcome of a step.
 #[derive(Clone, Copy, PartialEq, Eq, Debug)]
 pub enum Stepped {

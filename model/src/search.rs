@@ -4,49 +4,56 @@ use crate::check::Counts;
 use crate::fault::Fault;
 use crate::judge::{External, Internal, Judge};
 use crate::lines::Line;
+use crate::machine::LastTickets;
 use crate::mutate::variation;
 use crate::prng::Prng;
 use crate::random::Generator;
 use crate::shrink::shrink;
+use crate::starts::Start;
 use crate::violation::Violation;
 
 /// Which statement an order is judged by.
 #[derive(Clone, Copy, PartialEq, Eq, Debug)]
 pub enum By {
-    /// Moments, invariants, tariff and step bounds.
+    /// Refusal 7, moments, invariants, tariff and step bounds.
     AllAssertions,
-    /// Answers, listings, tariff and step bounds only.
+    /// Refusal 7, answers, listings, tariff and step bounds only.
     External,
 }
 
-/// A failing order, as drawn and as shrunk.
+/// A failing order, as drawn and as shrunk, and the machine that it fails on.
 #[derive(Clone, Debug)]
 pub struct Failure {
+    pub start: Start,
     pub violation: Violation,
     pub drawn: Vec<Line>,
     pub shrunk: Vec<Line>,
 }
 
-pub fn new_judge(by: By, fault: Fault) -> Box<dyn Judge> {
+pub fn new_judge(by: By, start: impl Into<Start>) -> Box<dyn Judge> {
     match by {
-        By::AllAssertions => Box::new(Internal::new(fault)),
-        By::External => Box::new(External::new(fault)),
+        By::AllAssertions => Box::new(Internal::new(start)),
+        By::External => Box::new(External::new(start)),
     }
 }
 
 /// Judges a whole order.
-pub fn verdict(by: By, fault: Fault, lines: &[Line]) -> Result<Counts, (usize, Violation)> {
-    crate::judge::judge(new_judge(by, fault).as_mut(), lines)
+pub fn verdict(
+    by: By,
+    start: impl Into<Start>,
+    lines: &[Line],
+) -> Result<Counts, (usize, Violation)> {
+    crate::judge::judge(new_judge(by, start).as_mut(), lines)
 }
 
 /// Draws and judges one order of about so many steps. Answers the lines as well.
 pub fn one_order(
     by: By,
-    fault: Fault,
+    start: impl Into<Start>,
     seed: u64,
     steps: u64,
 ) -> (Vec<Line>, Result<Counts, Violation>) {
-    let mut judge = new_judge(by, fault);
+    let mut judge = new_judge(by, start);
     let mut generator = Generator::new(seed, by == By::External);
     let mut lines = vec![generator.opening()];
     let mut line = lines[0];
@@ -66,15 +73,30 @@ pub fn one_order(
 }
 
 /// Judges a variation of a stored order.
-pub fn one_variation(by: By, fault: Fault, seed: u64) -> (Vec<Line>, Result<Counts, Violation>) {
+pub fn one_variation(
+    by: By,
+    start: impl Into<Start>,
+    seed: u64,
+) -> (Vec<Line>, Result<Counts, Violation>) {
     let lines = variation(&mut Prng::new(seed));
-    let outcome = verdict(by, fault, &lines).map_err(|(_, violation)| violation);
+    let outcome = verdict(by, start, &lines).map_err(|(_, violation)| violation);
     (lines, outcome)
 }
 
 /// Draws orders until so many steps were made or one failed. The counts include the last order
 /// only if it did not fail.
 pub fn search(by: By, fault: Fault, seed: u64, steps: u64) -> (Counts, Option<Failure>) {
+    search_from(by, fault, seed, steps, &|_| LastTickets::default())
+}
+
+/// The same, each order from the last tickets that are given for its seed.
+pub fn search_from(
+    by: By,
+    fault: Fault,
+    seed: u64,
+    steps: u64,
+    last_tickets: &dyn Fn(u64) -> LastTickets,
+) -> (Counts, Option<Failure>) {
     let mut seeds = Prng::new(seed);
     let mut counts = Counts::default();
     while counts.steps < steps {
@@ -84,23 +106,28 @@ pub fn search(by: By, fault: Fault, seed: u64, steps: u64) -> (Counts, Option<Fa
             By::External => seeds.between(50, 400),
         };
         let varies = by == By::AllAssertions && seeds.percent(40);
+        let start = Start {
+            fault,
+            last_tickets: last_tickets(order_seed),
+        };
         let (drawn, outcome) = match varies {
-            true => one_variation(by, fault, order_seed),
-            false => one_order(by, fault, order_seed, length),
+            true => one_variation(by, start, order_seed),
+            false => one_order(by, start, order_seed, length),
         };
         match outcome {
             Ok(more) => counts.add(&more),
-            Err(violation) => {
-                let fails = |lines: &[Line]| verdict(by, fault, lines).is_err();
-                let shrunk = shrink(&drawn, &fails);
-                let failure = Failure {
-                    violation,
-                    drawn,
-                    shrunk,
-                };
-                return (counts, Some(failure));
-            }
+            Err(violation) => return (counts, Some(failure(by, start, violation, drawn))),
         }
     }
     (counts, None)
+}
+
+fn failure(by: By, start: Start, violation: Violation, drawn: Vec<Line>) -> Failure {
+    let shrunk = shrink(&drawn, &|lines| verdict(by, start, lines).is_err());
+    Failure {
+        start,
+        violation,
+        drawn,
+        shrunk,
+    }
 }

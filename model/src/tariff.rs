@@ -53,7 +53,7 @@ fn bound(settings: &Settings, kind: Kind) -> u64 {
 }
 
 /// The words for a worker's operation.
-fn words(w: usize, kind: Kind) -> String {
+pub(crate) fn words(w: usize, kind: Kind) -> String {
     match kind {
         Kind::Insert => format!("insert of worker {w}"),
         Kind::Delete => format!("delete of worker {w}"),

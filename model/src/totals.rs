@@ -1,10 +1,10 @@
 //! Answers lines from a reader as the program `totals` must, byte for byte.
 
-use crate::fault::Fault;
 use crate::lines::{read_line, Line};
 use crate::machine::{Machine, Stepped};
 use crate::records::{Answer, Kind};
 use crate::refusal;
+use crate::starts::Start;
 use std::io::{self, BufRead, Write};
 
 /// Words that the program lends.
@@ -18,7 +18,7 @@ pub const LONGEST: usize = 64;
 #[derive(Debug, Default)]
 pub struct Driver {
     pub machine: Option<Machine>,
-    pub fault: Fault,
+    start: Start,
 }
 
 /// An answer as it is printed, with its total if found.
@@ -35,10 +35,10 @@ pub fn answer_words(answer: Answer) -> String {
 }
 
 impl Driver {
-    pub fn with_fault(fault: Fault) -> Driver {
+    pub fn new(start: impl Into<Start>) -> Driver {
         Driver {
             machine: None,
-            fault,
+            start: start.into(),
         }
     }
 
@@ -70,9 +70,7 @@ impl Driver {
     }
 
     fn open(&mut self, n: u64, b: u64, m: u64) -> Result<String, u8> {
-        let mut machine = Machine::open(n, b, m, LENT)?;
-        machine.fault = self.fault;
-        self.machine = Some(machine);
+        self.machine = Some(self.start.open(n, b, m)?);
         Ok("ok\n".to_string())
     }
 
@@ -129,8 +127,12 @@ pub fn next_line(input: &mut impl BufRead, line: &mut Vec<u8>) -> io::Result<boo
 }
 
 /// Answers every line of the input.
-pub fn run(mut input: impl BufRead, mut output: impl Write, fault: Fault) -> io::Result<()> {
-    let mut driver = Driver::with_fault(fault);
+pub fn run(
+    mut input: impl BufRead,
+    mut output: impl Write,
+    start: impl Into<Start>,
+) -> io::Result<()> {
+    let mut driver = Driver::new(start);
     let mut line = Vec::new();
     while next_line(&mut input, &mut line)? {
         output.write_all(driver.answer(&line).as_bytes())?;
@@ -139,8 +141,8 @@ pub fn run(mut input: impl BufRead, mut output: impl Write, fault: Fault) -> io:
 }
 
 /// The whole output for a whole input.
-pub fn transcript(input: &[u8], fault: Fault) -> Vec<u8> {
+pub fn transcript(input: &[u8], start: impl Into<Start>) -> Vec<u8> {
     let mut output = Vec::new();
-    run(input, &mut output, fault).expect("reading and writing memory does not fail");
+    run(input, &mut output, start).expect("reading and writing memory does not fail");
     output
 }

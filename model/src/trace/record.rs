@@ -4,7 +4,6 @@
 use super::leaf::{leaves, split};
 use super::{words, Effect, Leaf, List, Listing, Met, Operation, Split, Step};
 use crate::check::Checker;
-use crate::fault::Fault;
 use crate::lines::{read_line, Line};
 use crate::machine::{Machine, Report, Stepped};
 use crate::moments::Moment;
@@ -61,7 +60,7 @@ impl Recorder {
                 worker,
                 account,
                 total,
-            }) => self.call(worker, kind.number(), account, total),
+            }) => self.call(worker, kind.number(), account, total)?,
             Some(Line::List) => self.listing(),
             None => self.list.places += 1,
         }
@@ -75,9 +74,9 @@ impl Recorder {
     }
 
     fn open(&mut self, number: usize, n: u64, b: u64, m: u64) {
-        let settings = Machine::open(n, b, m, LENT).expect("accepted").settings;
-        let checker = Checker::new(settings, Fault::None);
-        self.present = Some((checker, Plain::new(&settings)));
+        let machine = Machine::open(n, b, m, LENT).expect("accepted");
+        let settings = machine.settings;
+        self.present = Some((Checker::new(machine), Plain::new(&settings)));
         self.last = vec![0; settings.workers];
         let fresh = List {
             opening: Some((number, settings)),
@@ -86,11 +85,16 @@ impl Recorder {
         self.lists.push(std::mem::replace(&mut self.list, fresh));
     }
 
-    fn call(&mut self, worker: usize, kind: u64, account: u32, total: i64) {
+    fn call(
+        &mut self,
+        worker: usize,
+        kind: u64,
+        account: u32,
+        total: i64,
+    ) -> Result<(), Violation> {
         let checker = self.checker();
-        checker
-            .call(worker, kind, account, total)
-            .expect("accepted");
+        let called = checker.call(worker, kind, account, total)?;
+        called.expect("accepted");
         let update = task(&checker.machine, worker).operation;
         self.list.places += 1;
         self.last[worker] = self.list.operations.len();
@@ -101,6 +105,7 @@ impl Recorder {
             steps: Vec::new(),
             answer: None,
         });
+        Ok(())
     }
 
     fn listing(&mut self) {
