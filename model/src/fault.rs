@@ -1,6 +1,7 @@
 //! The wrong machines by name: each is wrong in one way (`wrong.rs`). They test the checker itself.
 
 use crate::off_tariff::OffTariff;
+use crate::wrong_tickets::WrongTicket;
 
 /// `Fault::None` is the machine as it should be.
 #[derive(Clone, Copy, PartialEq, Eq, Debug, Default)]
@@ -45,10 +46,12 @@ pub enum Fault {
     AlwaysAdded,
     /// Another check or another step than the tariff has (`off_tariff.rs`).
     OffTariff(OffTariff),
+    /// Another rule of tickets (`wrong_tickets.rs`).
+    Ticket(WrongTicket),
 }
 
 impl Fault {
-    /// All faults, without `None` and those off the tariff.
+    /// All faults, without `None`, those off the tariff and those on tickets.
     pub const ALL: [Fault; 18] = [
         Fault::OnePass,
         Fault::OneBucketRound,
@@ -75,6 +78,17 @@ impl Fault {
         OffTariff::ALL.into_iter().map(Fault::OffTariff)
     }
 
+    /// The faults on tickets, which show only from last tickets other than 0.
+    pub fn on_tickets() -> impl Iterator<Item = Fault> {
+        WrongTicket::ALL.into_iter().map(Fault::Ticket)
+    }
+
+    /// All of these.
+    pub fn every() -> impl Iterator<Item = Fault> {
+        let listed = Self::ALL.into_iter().chain(Self::off_tariff());
+        listed.chain(Self::on_tickets())
+    }
+
     pub fn name(self) -> &'static str {
         match self {
             Fault::None => "none",
@@ -97,11 +111,11 @@ impl Fault {
             Fault::AlwaysCrowded => "always-crowded",
             Fault::AlwaysAdded => "always-added",
             Fault::OffTariff(fault) => fault.name(),
+            Fault::Ticket(fault) => fault.name(),
         }
     }
 
     pub fn from_name(name: &str) -> Option<Fault> {
-        let mut all = Self::ALL.into_iter().chain(Self::off_tariff());
-        all.find(|fault| fault.name() == name)
+        Self::every().find(|fault| fault.name() == name)
     }
 }

@@ -33,3 +33,4 @@ pub mod trace;
 pub mod violation;
 pub mod working;
 mod wrong;
+pub mod wrong_tickets;

@@ -95,12 +95,12 @@ impl Machine {
             return Err(refusal::BUSY);
         }
         let kind = Kind::of(kind).ok_or(refusal::KIND)?;
-        let mut ticket = 0;
-        if kind != Kind::Lookup {
-            let next = self.fault.machine().next_ticket(worker.last_ticket);
-            ticket = next.ok_or(refusal::SPENT)?;
-            worker.last_ticket = ticket;
-        }
+        let last = self.fault.machine().last_ticket(kind, worker.last_ticket);
+        worker.last_ticket = last.ok_or(refusal::SPENT)?;
+        let ticket = match kind {
+            Kind::Lookup => 0,
+            _ => worker.last_ticket,
+        };
         worker.task = Some(Task::new(Update {
             kind,
             account,

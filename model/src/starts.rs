@@ -4,6 +4,7 @@
 use crate::fault::Fault;
 use crate::machine::{LastTickets, Machine};
 use crate::prng::Prng;
+use crate::records::GREATEST_TICKET;
 use crate::totals::LENT;
 
 /// What every opening of an order leaves.
@@ -36,13 +37,12 @@ impl Start {
     }
 }
 
-/// The first number, those that 16, 31, 32 and 63 bits do not hold any more, and the one that no
-/// ticket has.
-pub const EDGES: [u128; 6] = [0, 1 << 16, 1 << 31, 1 << 32, 1 << 63, 1 << 64];
+/// The first ticket, those that are the first to need more than 16, 31, 32 and 63 bits, and the last.
+pub const EDGES: [u64; 6] = [1, 1 << 16, 1 << 31, 1 << 32, 1 << 63, GREATEST_TICKET];
 
 /// So many numbers are near an edge, and so many of them below it.
 const NEAR: u64 = 8;
-const BELOW: u128 = 5;
+const BELOW: u64 = 5;
 
 /// For each worker a number near some edge. A function of the seed, but not drawn as an order with
 /// that seed is.
@@ -52,6 +52,6 @@ pub fn near_edges(seed: u64) -> LastTickets {
 }
 
 fn near_edge(prng: &mut Prng) -> u64 {
-    let above = prng.one_of(&EDGES) + u128::from(prng.below(NEAR));
-    u64::try_from(above.saturating_sub(BELOW)).unwrap_or(u64::MAX)
+    let least = prng.one_of(&EDGES).saturating_sub(BELOW);
+    least.saturating_add(prng.below(NEAR))
 }

@@ -3,7 +3,7 @@
 //! function in place of one of them. So have the two rules of tickets, which stand here too.
 
 use crate::machine::Machine;
-use crate::records::{prefix_of, Answer, Bucket, State, Update};
+use crate::records::{prefix_of, Answer, Bucket, Kind, State, Update};
 use crate::settings::Settings;
 use crate::task::{Position, StepKind, Task};
 use crate::working::Working;
@@ -18,11 +18,14 @@ pub struct True;
 impl Steps for True {}
 
 pub trait Steps {
-    /// Document 01: the ticket number of an update "is the worker's last plus 1, taken at the call".
-    /// Document 02: the numbers are 1 to 18,446,744,073,709,551,615; none, which is refusal 7, is
-    /// given exactly when they do not suffice.
-    fn next_ticket(&self, last: u64) -> Option<u64> {
-        last.checked_add(1)
+    /// The worker's last ticket once it is called. Document 01: the ticket number of an update "is
+    /// the worker's last plus 1, taken at the call". Document 02: an update needs one number, a
+    /// lookup none; refusal 7 exactly when those up to 18,446,744,073,709,551,615 do not suffice.
+    fn last_ticket(&self, kind: Kind, before: u64) -> Option<u64> {
+        match kind {
+            Kind::Lookup => Some(before),
+            _ => before.checked_add(1),
+        }
     }
 
     /// Document 01: "A ticket is settled in a bucket when that number is not below it."

@@ -1,5 +1,5 @@
 //! The wrong machines: each is the true one but for one function, or two where it would not end.
-//! Nothing but this and `off_tariff.rs` makes a step wrong.
+//! Nothing but this, `off_tariff.rs` and `wrong_tickets.rs` makes a step or a call wrong.
 
 use crate::fault::Fault;
 use crate::machine::Machine;
@@ -34,6 +34,7 @@ impl Fault {
             Fault::AlwaysCrowded => &AlwaysCrowded,
             Fault::AlwaysAdded => &AlwaysAdded,
             Fault::OffTariff(fault) => fault.machine(),
+            Fault::Ticket(fault) => fault.machine(),
         }
     }
 }

@@ -158,7 +158,7 @@ fn slots_read_backwards_show_in_a_listing() {
 
 #[test]
 fn fault_names_are_distinct_and_found_again() {
-    for fault in Fault::ALL.into_iter().chain(Fault::off_tariff()) {
+    for fault in Fault::every() {
         assert_eq!(Fault::from_name(fault.name()), Some(fault));
     }
     assert_eq!(Fault::from_name("none"), None);
