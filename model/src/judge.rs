@@ -2,7 +2,6 @@
 
 use crate::check::{Checker, Counts};
 use crate::explain::Explainer;
-use crate::fault::Fault;
 use crate::lines::Line;
 use crate::machine::{Machine, Report, Stepped};
 use crate::moments::Moment;
@@ -226,8 +225,8 @@ fn task_of(machine: &Machine, worker: usize) -> Option<Update> {
 }
 
 /// The checks told with the answers of an order, in turn; every assertion has to hold.
-pub fn checks_told(lines: &[Line]) -> Result<Vec<u8>, (usize, Violation)> {
-    let mut all = Internal::new(Fault::None);
+pub fn checks_told(start: impl Into<Start>, lines: &[Line]) -> Result<Vec<u8>, (usize, Violation)> {
+    let mut all = Internal::new(start);
     all.record = true;
     judge(&mut all, lines)?;
     let told = |event: &Event| match event.report.stepped {

@@ -49,6 +49,12 @@ pub fn read_line(bytes: &[u8]) -> Option<Line> {
     }
 }
 
+/// Reads a text of lines; `None` if one of them cannot be read.
+pub fn read_lines(text: &str) -> Option<Vec<Line>> {
+    let lines = text.lines().map(|line| read_line(line.as_bytes()));
+    lines.collect()
+}
+
 fn call(kind: Kind, w: &[u8], account: &[u8], total: i64) -> Option<Line> {
     Some(Line::Call {
         kind,

@@ -1,6 +1,6 @@
 //! Variations of stored orders: random search near orders that reach rare states.
 
-use crate::lines::{read_line, Line};
+use crate::lines::{read_lines, Line};
 use crate::prng::Prng;
 
 /// Stored orders that reach the third and fourth check, or park a worker at a late swap.
@@ -17,8 +17,7 @@ const STORED: [&str; 7] = [
 /// A stored order with one to six random changes; its opening stays first.
 pub fn variation(prng: &mut Prng) -> Vec<Line> {
     let text = STORED[prng.below(STORED.len() as u64) as usize];
-    let read = |line: &str| read_line(line.as_bytes());
-    let mut lines: Vec<Line> = text.lines().filter_map(read).collect();
+    let mut lines = read_lines(text).expect("a stored order can be read");
     for _ in 0..prng.between(1, 6) {
         change(prng, &mut lines);
     }

@@ -1,24 +1,15 @@
 //! The cases of document 01, as driver lines and whole output, and its refusals.
 
+mod session;
+
 use model::fault::Fault;
-use model::judge::checks_told;
-use model::lines::{read_line, Line};
 use model::machine::{Machine, Stepped};
 use model::records::{Answer, Kind, GREATEST_TICKET, KIND_DELETE, KIND_INSERT, KIND_LOOKUP};
 use model::refusal;
 use model::settings::Settings;
-use model::totals::transcript;
 
-/// Left the input lines, right the output lines, as document 01 prints them; then the checks told
-/// with the answers, which are not printed.
 fn session(pairs: &[(&str, &str)], checks: &[u8]) {
-    let input: String = pairs.iter().map(|(line, _)| format!("{line}\n")).collect();
-    let expected: String = pairs.iter().map(|(_, out)| format!("{out}\n")).collect();
-    let output = transcript(input.as_bytes(), Fault::None);
-    assert_eq!(String::from_utf8(output).expect("text"), expected);
-    let read = |(line, _): &(&str, &str)| read_line(line.as_bytes()).expect("a line");
-    let lines: Vec<Line> = pairs.iter().map(read).collect();
-    assert_eq!(checks_told(&lines).expect("every assertion holds"), checks);
+    session::session(Fault::None.into(), pairs, checks);
 }
 
 #[test]

@@ -5,13 +5,13 @@ mod stored;
 
 use model::fault::Fault;
 use model::judge::checks_told;
-use model::lines::Line;
+use model::lines::{read_lines, Line};
 use model::machine::Stepped;
 use model::off_tariff::OffTariff;
 use model::search::{one_order, one_variation, search, verdict, By};
 use model::totals::{transcript, Driver};
 use std::collections::{BTreeMap, BTreeSet};
-use stored::{folder, lines, output, read_lines, stored};
+use stored::{folder, lines, output, stored};
 
 /// Every stored order with the checks told with its answers, in turn; `one-pass` is document 01's
 /// last case.
@@ -65,7 +65,7 @@ fn workers(order: &[Line]) -> u64 {
 fn the_stored_orders_are_told_these_checks() {
     for (name, checks) in CHECKS {
         let order = lines(name);
-        let told = checks_told(&order).expect("every assertion holds");
+        let told = checks_told(Fault::None, &order).expect("every assertion holds");
         assert_eq!(told, checks, "{name}");
         let printed = stored(name, "out");
         let answered = printed.lines().filter(|line| line.starts_with("answered"));
@@ -117,8 +117,8 @@ fn the_third_and_the_fourth_check_answer_for_every_number_of_workers() {
     assert_eq!(printed(&fourth_check(3)), Ok(own_split));
     let orders = (2..=8).map(|n| (n, 3, third_check(n)));
     for (n, check, text) in orders.chain((3..=8).map(|n| (n, 4, fourth_check(n)))) {
-        let order = read_lines(&text);
-        let told = checks_told(&order).expect("every assertion holds");
+        let order = read_lines(&text).expect("lines");
+        let told = checks_told(Fault::None, &order).expect("every assertion holds");
         assert_eq!(told.last(), Some(&check), "n {n}");
         let mut seen = Tally::new();
         tally(&order, &mut seen);

@@ -1,7 +1,7 @@
 //! The stored orders: their lines, their outputs, and what `totals` prints for them.
 
 use model::fault::Fault;
-use model::lines::{read_line, Line};
+use model::lines::{read_lines, Line};
 use model::totals::transcript;
 use std::path::PathBuf;
 
@@ -15,12 +15,7 @@ pub fn stored(name: &str, ending: &str) -> String {
 }
 
 pub fn lines(name: &str) -> Vec<Line> {
-    read_lines(&stored(name, "txt"))
-}
-
-pub fn read_lines(text: &str) -> Vec<Line> {
-    let read = |line: &str| read_line(line.as_bytes()).expect("a stored line can be read");
-    text.lines().map(read).collect()
+    read_lines(&stored(name, "txt")).expect("a stored order can be read")
 }
 
 pub fn output(name: &str, fault: Fault) -> String {
