@@ -47,7 +47,8 @@ impl Numbers {
         let needed = u128::from(kind != Kind::Lookup);
         let left = u128::from(GREATEST_TICKET) - self.used[w];
         if (called == Err(refusal::SPENT)) != (needed > left) {
-            let detail = format!("{}, with {left} numbers left: {called:?}", words(w, kind));
+            let told = called.map_or_else(|number| format!("refused {number}"), |()| "ok".into());
+            let detail = format!("{} told {told}, numbers left {left}", words(w, kind));
             return Err(Violation::new("spent", detail));
         }
         if called.is_ok() {

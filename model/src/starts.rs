@@ -1,4 +1,4 @@
-//! Where orders start: which machine an opening makes, and with which last tickets. Last tickets
+//! Where orders start: which machine an opening makes, and with which last tickets; and last tickets
 //! near the numbers at which a ticket of too few bits, or with a sign, goes wrong.
 
 use crate::fault::Fault;
@@ -7,14 +7,14 @@ use crate::prng::Prng;
 use crate::records::GREATEST_TICKET;
 use crate::totals::LENT;
 
-/// What every opening of an order leaves.
+/// The machine that every opening of an order makes. As opened, but for the last tickets.
 #[derive(Clone, Copy, PartialEq, Eq, Debug, Default)]
 pub struct Start {
     pub fault: Fault,
     pub last_tickets: LastTickets,
 }
 
-/// Last tickets 0, as an opening does leave them.
+/// Last tickets 0, as document 01 has them.
 impl From<Fault> for Start {
     fn from(fault: Fault) -> Start {
         let last_tickets = LastTickets::default();
@@ -37,7 +37,7 @@ impl Start {
     }
 }
 
-/// The first ticket, those that are the first to need more than 16, 31, 32 and 63 bits, and the last.
+/// The first ticket, the first ones that 16, 31, 32 and 63 bits do not hold, and the last.
 pub const EDGES: [u64; 6] = [1, 1 << 16, 1 << 31, 1 << 32, 1 << 63, GREATEST_TICKET];
 
 /// So many numbers are near an edge, and so many of them below it.
