@@ -57,7 +57,8 @@ pub fn one_order(
     let mut generator = Generator::new(seed, by == By::External);
     let mut lines = vec![generator.opening()];
     let mut line = lines[0];
-    // Every fourth line or more makes a step, so this many lines are enough.
+    // Every fourth line or more makes a step, so this many lines are enough; unless calls are
+    // refused 7, and the order has fewer steps.
     for _ in 0..4 * steps {
         if let Err(violation) = judge.take(&line) {
             return (lines, Err(violation));
@@ -106,10 +107,7 @@ pub fn search_from(
             By::External => seeds.between(50, 400),
         };
         let varies = by == By::AllAssertions && seeds.percent(40);
-        let start = Start {
-            fault,
-            last_tickets: last_tickets(order_seed),
-        };
+        let start = Start::new(fault, last_tickets(order_seed));
         let (drawn, outcome) = match varies {
             true => one_variation(by, start, order_seed),
             false => one_order(by, start, order_seed, length),

@@ -17,15 +17,18 @@ pub struct Start {
 /// Last tickets 0, as document 01 has them.
 impl From<Fault> for Start {
     fn from(fault: Fault) -> Start {
-        let last_tickets = LastTickets::default();
+        Start::new(fault, LastTickets::default())
+    }
+}
+
+impl Start {
+    pub fn new(fault: Fault, last_tickets: LastTickets) -> Start {
         Start {
             fault,
             last_tickets,
         }
     }
-}
 
-impl Start {
     /// The table of an opening over the words that `totals` lends: refusals 1 and 2.
     pub fn open(&self, n: u64, b: u64, m: u64) -> Result<Machine, u8> {
         let mut machine = Machine::open(n, b, m, LENT)?;

@@ -1,6 +1,6 @@
 //! The steps as document 01 has them. Each touches at most one shared cell; private work goes with
-//! it. The true machine takes all of them as they stand here; a wrong one (`wrong.rs`) has another
-//! function in place of one of them. So have the two rules of tickets, which stand here too.
+//! it. The two rules of tickets stand here as well. The true machine takes all of these as they
+//! stand here; a wrong one (`wrong.rs`) has another function in place of one of them.
 
 use crate::machine::Machine;
 use crate::records::{prefix_of, Answer, Bucket, Kind, State, Update};

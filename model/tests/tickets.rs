@@ -24,10 +24,7 @@ const HALF: u64 = 1 << 63;
 
 /// The true machine from these last tickets.
 fn from(last_tickets: LastTickets) -> Start {
-    Start {
-        last_tickets,
-        ..Start::default()
-    }
+    Start::new(Fault::None, last_tickets)
 }
 
 /// The true machine from these last tickets of the first workers.

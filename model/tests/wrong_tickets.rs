@@ -116,12 +116,11 @@ fn wrong_machines_show_from_their_number_on() {
 #[test]
 fn wrong_machines_are_found_near_the_edges_and_not_from_0() {
     for (fault, by) in Fault::on_tickets().flat_map(|fault| BOTH.map(|by| (fault, by))) {
-        let (_, failure) = search_from(by, fault, 1, 20_000, &near_edges);
+        let (_, failure) = search_from(by, fault, 1, 100_000, &near_edges);
         let failure = failure.unwrap_or_else(|| panic!("{} not found", fault.name()));
         assert_ne!(failure.violation.name, UNDECIDED, "{fault:?}");
         assert!(verdict(by, failure.start, &failure.shrunk).is_err());
-        let mut truth = failure.start;
-        truth.fault = Fault::None;
+        let truth = Start::new(Fault::None, failure.start.last_tickets);
         for by in BOTH {
             let failed = verdict(by, truth, &failure.shrunk).err();
             assert_eq!(failed, None, "{fault:?}");
