@@ -56,7 +56,7 @@ fn class(title: &str, seed: u64, calls: u64, more: impl Fn(&mut Prng, &mut Figur
 
 #[test]
 fn random_words() {
-    let figures = class("random words", 1, 400_000, |prng, figures| {
+    let figures = class("random words", 1, 600_000, |prng, figures| {
         let w = words::random(prng);
         calls_on(&w, 30, 4, prng, figures);
     });

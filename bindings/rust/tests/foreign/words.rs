@@ -2,6 +2,7 @@
 
 use crate::calls::{Figures, Trial};
 use model::prng::Prng;
+use model::starts::EDGES;
 use same::capi::fields::*;
 use same::capi::interface::{Settings, GREATEST_TICKET, KIND_INSERT, KIND_LOOKUP};
 use same::capi::layout::addresses::{record_in, record_of, worker_at};
@@ -30,13 +31,12 @@ pub fn any_account(prng: &mut Prng) -> u32 {
     }
 }
 
-/// Tickets of all 64 bits: small ones, the greatest, some about the least of 17, 32, 33 and 64 bits, and any.
+/// Tickets of all 64 bits: small ones, the greatest, some about the model's edges, and any.
 fn any_ticket(prng: &mut Prng) -> u64 {
-    let edge = prng.one_of(&[1 << 16, 1 << 31, 1 << 32, 1 << 63]);
     match prng.below(4) {
         0 => prng.below(60),
         1 => GREATEST_TICKET - prng.below(3),
-        2 => edge + prng.below(4) - 2,
+        2 => prng.one_of(&EDGES).saturating_add(prng.below(4)).saturating_sub(2),
         _ => prng.draw(),
     }
 }

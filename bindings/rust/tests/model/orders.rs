@@ -5,12 +5,10 @@ use model::lines::Line;
 use model::machine::Machine;
 use model::prng::Prng;
 use model::random::Generator;
-use model::records::{GREATEST_TICKET, KIND_DELETE, KIND_INSERT, KIND_LOOKUP};
+use model::records::{KIND_DELETE, KIND_INSERT, KIND_LOOKUP};
 use model::settings::Settings;
+use model::starts::EDGES;
 use totals::raw::TOTALS_GREATEST_RUN as RUN;
-
-/// Tickets that orders are to reach: the first of 17, 32, 33 and 64 bits, and the last that there is.
-pub const EDGES: [u64; 5] = [1 << 16, 1 << 31, 1 << 32, 1 << 63, GREATEST_TICKET];
 
 /// One entry of an order.
 pub enum Entry {
@@ -65,7 +63,7 @@ impl Orders {
             _ if fresh => 0,
             0 => 0,
             1 => self.prng.draw(),
-            _ => self.prng.one_of(&EDGES) - self.prng.below(30),
+            _ => self.prng.one_of(&EDGES).saturating_sub(self.prng.below(30)),
         };
         (0..self.settings.workers).map(|_| ticket()).collect()
     }
