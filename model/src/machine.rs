@@ -67,11 +67,11 @@ impl Machine {
         if lent < settings.words() {
             return Err(refusal::SHORT);
         }
-        Ok(Machine::fresh(settings, Fault::None))
+        Ok(Machine::fresh(settings))
     }
 
     /// Depth 0, one empty bucket, ticket numbers 0, all bits 0.
-    pub fn fresh(settings: Settings, fault: Fault) -> Machine {
+    pub fn fresh(settings: Settings) -> Machine {
         let bucket = Bucket::new(0, 0, State::empty(settings.workers));
         let directory = Rc::new(Directory {
             depth: 0,
@@ -79,7 +79,7 @@ impl Machine {
         });
         Machine {
             settings,
-            fault,
+            fault: Fault::None,
             directory,
             slots: vec![None; settings.workers],
             workers: vec![Worker::default(); settings.workers],

@@ -21,6 +21,10 @@ pub enum By {
     External,
 }
 
+impl By {
+    pub const BOTH: [By; 2] = [By::AllAssertions, By::External];
+}
+
 /// A failing order, as drawn and as shrunk, and the machine that it fails on.
 #[derive(Clone, Debug)]
 pub struct Failure {

@@ -1,7 +1,6 @@
 //! Assertions that no wrong machine makes fail: each holds in some reached state, and fails there
 //! after one private register or shared cell is falsified.
 
-use model::fault::Fault;
 use model::invariants::{all, Ledger, Scene};
 use model::lines::Line;
 use model::machine::{Machine, Stepped};
@@ -131,7 +130,7 @@ fn every_such_assertion_can_fail() {
             panic!("an order starts with its opening");
         };
         let settings = Settings::new(n, b, m).expect("in range");
-        let mut machine = Machine::fresh(settings, Fault::None);
+        let mut machine = Machine::fresh(settings);
         let mut ledger = Ledger::new(&machine);
         for place in 1..stored.len().max(60) {
             let line = match number % 2 {

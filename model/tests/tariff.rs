@@ -253,7 +253,7 @@ fn wrong_machines_are_found_in_stored_orders() {
 #[test]
 fn wrong_machines_are_found_by_random_search() {
     for fault in Fault::off_tariff() {
-        for by in [By::AllAssertions, By::External] {
+        for by in By::BOTH {
             let (_, failure) = search(by, fault, 1, 100_000);
             let failure = failure.unwrap_or_else(|| panic!("{} not found", fault.name()));
             assert_eq!(failure.violation.name, "tariff", "{fault:?}");

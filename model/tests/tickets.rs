@@ -17,8 +17,6 @@ use session::session;
 use std::array::from_fn;
 use std::rc::Rc;
 
-const BOTH: [By; 2] = [By::AllAssertions, By::External];
-
 /// The first ticket that 63 bits do not hold.
 const HALF: u64 = 1 << 63;
 
@@ -113,7 +111,7 @@ const HELPED: [(usize, usize); 2] = [(0, 1), (1, 0)];
 
 #[test]
 fn tickets_1_and_2_to_the_63_settle_in_one_bucket() {
-    for ((helped, helper), by) in HELPED.iter().flat_map(|pair| BOTH.map(|by| (pair, by))) {
+    for ((helped, helper), by) in HELPED.iter().flat_map(|pair| By::BOTH.map(|by| (pair, by))) {
         let mut all = new_judge(by, first(&[0, HALF - 1]));
         // The helped update has made three steps when both are settled.
         let text = format!(
@@ -136,7 +134,7 @@ fn tickets_1_and_2_to_the_63_settle_in_one_bucket() {
 
 #[test]
 fn tickets_1_and_2_to_the_63_settle_by_a_split() {
-    for ((helped, helper), by) in HELPED.iter().flat_map(|pair| BOTH.map(|by| (pair, by))) {
+    for ((helped, helper), by) in HELPED.iter().flat_map(|pair| By::BOTH.map(|by| (pair, by))) {
         let mut all = new_judge(by, first(&[0, HALF - 1]));
         let text = "O 3 2 1\nI 2 5 50\nS 2 99\nI 2 2147483648 80\nS 2 99\n";
         assert_eq!(settled_after(&mut *all, text), [[0, 0, 2]]);

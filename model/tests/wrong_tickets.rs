@@ -9,11 +9,6 @@ use model::search::{search, search_from, verdict, By};
 use model::starts::{near_edges, Start};
 use model::wrong_tickets::WrongTicket;
 
-const BOTH: [By; 2] = [By::AllAssertions, By::External];
-
-/// The first ticket that 63 bits do not hold.
-const HALF: u64 = 1 << 63;
-
 /// One worker's three updates and a lookup.
 const SHOWING: &str = "O 1 2 0\nI 0 5 50\nS 0 99\nL 0 5\nS 0 2\nI 0 5 51\nS 0 99\nD 0 5\nS 0 99\n";
 
@@ -78,13 +73,13 @@ const WRONG: [Wrong; 11] = [
     ),
     (
         WrongTicket::SettledSigned,
-        HALF - 3,
+        (1 << 63) - 3,
         "W0: worker 0",
         "no choice of moments explains: worker 0 got Replaced",
     ),
     (
         WrongTicket::SettledByDifference,
-        HALF,
+        1 << 63,
         "W0: worker 0",
         "step bound: insert of worker 0 without answer after 45 steps",
     ),
@@ -115,13 +110,13 @@ fn wrong_machines_show_from_their_number_on() {
 /// A short order from last tickets 0 has no ticket at which they go wrong.
 #[test]
 fn wrong_machines_are_found_near_the_edges_and_not_from_0() {
-    for (fault, by) in Fault::on_tickets().flat_map(|fault| BOTH.map(|by| (fault, by))) {
+    for (fault, by) in Fault::on_tickets().flat_map(|fault| By::BOTH.map(|by| (fault, by))) {
         let (_, failure) = search_from(by, fault, 1, 100_000, &near_edges);
         let failure = failure.unwrap_or_else(|| panic!("{} not found", fault.name()));
         assert_ne!(failure.violation.name, UNDECIDED, "{fault:?}");
         assert!(verdict(by, failure.start, &failure.shrunk).is_err());
         let truth = Start::new(Fault::None, failure.start.last_tickets);
-        for by in BOTH {
+        for by in By::BOTH {
             let failed = verdict(by, truth, &failure.shrunk).err();
             assert_eq!(failed, None, "{fault:?}");
         }
