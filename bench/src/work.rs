@@ -30,6 +30,13 @@ pub fn insert(account: u32, random: &mut Prng) -> Operation {
     }
 }
 
+fn delete(inserted: Operation) -> Operation {
+    Operation {
+        kind: KIND_DELETE,
+        ..inserted
+    }
+}
+
 // Accounts at random, no eight of them with the same first 8 bits: with b 8 and M 8 none is crowded.
 pub fn spread_accounts(count: usize, random: &mut Prng) -> Vec<u32> {
     let mut taken = [0; 256];
@@ -57,6 +64,7 @@ fn mixed_kind(random: &mut Prng) -> u64 {
 }
 
 // So many operations on 1,000 accounts, b 8, M 8. Growing is their first insert; the other works start after it.
+// Deletes are one of each account.
 pub fn work(name: &'static str, workers: u64, count: usize) -> Work {
     let mut random = Prng::new(88172645463325252);
     let accounts = spread_accounts(1000, &mut random);
@@ -75,6 +83,7 @@ pub fn work(name: &'static str, workers: u64, count: usize) -> Work {
     };
     let (filling, measured) = match name {
         "growing" => (Vec::new(), first),
+        "deletes" => (first.clone(), first.into_iter().map(delete).collect()),
         _ => (first, (0..count).map(&mut operation).collect()),
     };
     Work {
