@@ -1,13 +1,16 @@
 // Slices of words: an item put in or taken out, the later ones moved, and the search among ascending accounts. One
-// search serves a bucket's state, the update in place and the lookup. Each contract is an equality with a definition of
-// specs/.
+// search serves a bucket's state, the update in place and the lookup. It counts in a byte: a bucket has at most 16
+// accounts (docs/DECISIONS.md, 70, 71). Each contract is an equality with a definition of specs/.
 ghost use mathlib.Core.Path.{_≡_};
+ghost use Prim.Native.Nat.{_≤_};
+ghost use lib.ListN.{length};
+ghost use Rattle.interface.specs.Limits.{greatestCapacity};
 ghost use Rattle.arrays.specs.Arrays.{insertedIn, removedFrom, scan};
 
 // Where an account stands among ascending accounts, or before which it belongs.
 pub enum Position {
-    At(usize),
-    Before(usize),
+    At(u8),
+    Before(u8),
 }
 
 // v put at position i of a slice's first c items, the later ones moved up, where there is room.
@@ -49,11 +52,12 @@ pub fn lower(a: &mut [u64], c: usize, i: usize)
 
 // The first position whose account is not below this one.
 pub fn scan(accounts: &[u64], account: u64) -> Position
+    requires { ⌜ length (now accounts) ≤ greatestCapacity ⌝ }
     ensures { λ r. ⌜ r ≡ scan (now (accounts .entry)) account 0 ⌝ }
 {
-    let mut i: usize = 0;
-    while i < accounts.len() {
-        let x = accounts[i];
+    let mut i: u8 = 0;
+    while (i as usize) < accounts.len() {
+        let x = accounts[i as usize];
         if account <= x {
             if account == x {
                 return Position::At(i);

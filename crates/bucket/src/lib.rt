@@ -54,6 +54,7 @@ impl BucketState {
         let mut count = self.count;
         match p {
             Position::At(here) => {
+                let here = here as usize;
                 if here < ARRAY_SIZE {
                     totals[here] = total;
                 }
@@ -61,6 +62,7 @@ impl BucketState {
             Position::Before(next) => {
                 let n = self.size();
                 if n < ARRAY_SIZE {
+                    let next = next as usize;
                     raise(&mut accounts, n, next, account);
                     raise(&mut totals, n, next, total);
                     count = n as u64 + 1;
@@ -88,6 +90,7 @@ impl BucketState {
                 let settled = self.settled;
                 let answers = self.answers;
                 let n = self.size();
+                let i = i as usize;
                 lower(&mut accounts, n, i);
                 lower(&mut totals, n, i);
                 BucketState {

@@ -41,10 +41,11 @@ pub fn insert_own(
     match scan(&words[accounts..end], u.account) {
         Position::At(i) => {
             put_first(words, q, c as u64, toggle);
-            memory::put(words, totals + i, u.total);
+            memory::put(words, totals + i as usize, u.total);
             settle(words, g, q, j, u.ticket, ANSWER_REPLACED);
         }
         Position::Before(i) => {
+            let i = i as usize;
             put_first(words, q, c as u64 + 1, toggle);
             raise_in(words, accounts, c, i, u.account);
             raise_in(words, totals, c, i, u.total);
@@ -72,6 +73,7 @@ pub fn delete_own(
     let end = accounts + c;
     match scan(&words[accounts..end], u.account) {
         Position::At(i) => {
+            let i = i as usize;
             put_first(words, q, c as u64 - 1, toggle);
             lower_in(words, accounts, c, i);
             lower_in(words, totals, c, i);

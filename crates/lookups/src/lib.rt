@@ -32,7 +32,7 @@ fn look(words: &[u64], g: Settings, q: usize, account: u64) -> Answer
     let end = accounts + c;
     match scan(&words[accounts..end], account) {
         Position::At(i) => {
-            let at = accounts + g.capacity as usize + i;
+            let at = accounts + g.capacity as usize + i as usize;
             Answer::Found(memory::total_of(memory::get(words, at)))
         }
         Position::Before(_) => Answer::None,

@@ -4,7 +4,7 @@ use Prim.Native.Nat.{_+_, _<_}
 use native.Mathlib.Omega.{arith}
 use mathlib.Core.Path.{refl}
 use mathlib.Core.Logic.{_≢_}
-use lib.ListN.{length}
+use lib.ListN.{length, length-take}
 use borrow.Author.Needs.{needs}
 use Rattle.interface.specs.Numbers.{kindInsert}
 use Rattle.fields.specs.Fields.{totalsFrom}
@@ -27,6 +27,9 @@ found-at :
     (c : tie.After-i) → let s = c .before .before .before .before .before .before .args in
     (c .i .given .0 .0 < s .c) × (totalsFrom (s .q) (s .g .capacity) + s .c < length (s .words .now))
 found-at c = let y = begun (c .before .before) in (found-as y (At _) (c .i .given .1) .1, y .behind)
+
+scan-requires : tie.Need-scan-requires
+scan-requires c κs = rw length-take (omega arith)
 
 sub-put-first : tie.Need-sub-put-first
 sub-put-first c = let h = found-at (c .before .before) in omega arith
@@ -67,7 +70,7 @@ returns-2 c =
 pub delete-own-spec : {M : Type 1} → statement M
 delete-own-spec =
     tie.close (tie.spec (λ c. search needs) (λ c. search needs) (λ c. search needs) (λ c. search needs)
-    (λ c. search needs) (λ c. search needs) (λ c. search needs) (λ c κs. search needs) (λ c. search needs)
+    (λ c. search needs) (λ c. search needs) (λ c. search needs) scan-requires (λ c. search needs) (λ c. search needs)
     sub-put-first (λ c κs. search needs) lower-in-requires lower-in-requires-2 (λ c κs. search needs)
     (λ c. search needs) (λ c κs. search needs) (λ c κs. search needs) (λ c. search needs) returns (λ c. search needs)
     returns-2)

@@ -3,7 +3,7 @@
 use Prim.Native.Nat.{_+_, _≤_, _<_}
 use native.Mathlib.Omega.{arith}
 use mathlib.Core.Path.{_≡_, refl}
-use lib.ListN.{length}
+use lib.ListN.{length, length-take}
 use borrow.Author.Needs.{needs}
 use Rattle.interface.specs.Numbers.{kindInsert}
 use Rattle.fields.specs.Fields.{totalsFrom}
@@ -32,6 +32,9 @@ found-before :
     (c : tie.After-i2) → let s = c .before .before .before .before .before .before .args in
     (c .i2 .given .0 .0 ≤ s .c) × (totalsFrom (s .q) (s .g .capacity) + s .c < length (s .words .now))
 found-before c = let y = begun (c .before .before) in (found-as y (Before _) (c .i2 .given .1) .1, y .behind)
+
+scan-requires : tie.Need-scan-requires
+scan-requires c κs = rw length-take (omega arith)
 
 add-put : tie.Need-add-put
 add-put c =
@@ -82,7 +85,7 @@ returns-2 c =
 pub insert-own-spec : {M : Type 1} → statement M
 insert-own-spec =
     tie.close (tie.spec (λ c. search needs) (λ c. search needs) (λ c. search needs) (λ c. search needs)
-    (λ c. search needs) (λ c. search needs) (λ c. search needs) (λ c κs. search needs) (λ c. search needs)
-    (λ c κs. search needs) add-put put-requires (λ c κs. search needs) (λ c. search needs) (λ c. search needs)
-    (λ c κs. search needs) raise-in-requires raise-in-requires-2 (λ c κs. search needs) (λ c. search needs) returns
-    (λ c. search needs) returns-2)
+    (λ c. search needs) (λ c. search needs) (λ c. search needs) scan-requires (λ c. search needs)
+    (λ c κs. search needs) (λ c. search needs) add-put put-requires (λ c κs. search needs) (λ c. search needs)
+    (λ c. search needs) (λ c. search needs) (λ c κs. search needs) raise-in-requires raise-in-requires-2
+    (λ c κs. search needs) (λ c. search needs) returns (λ c. search needs) returns-2)

@@ -3,6 +3,7 @@
 use Prim.Native.Nat.{_≤_, _<_}
 use native.Mathlib.Omega.{arith}
 use mathlib.Core.Path.{_≡_, sym, _∙_, ap, subst}
+use lib.ListN.{length-take}
 use Rattle.interface.specs.Limits.{greatestCapacity}
 use Rattle.interface.specs.declared.Answer.{Answer}
 use Rattle.arrays.proofs.Laws.{Among}
@@ -46,6 +47,9 @@ mul-scan c = let h = few c in omega arith
 part-scan-end : tie.Need-part-scan-end
 part-scan-end c = let h = few c in omega arith
 
+scan-requires : tie.Need-scan-requires
+scan-requires c κs = let h = few (c .before) in rw length-take (omega arith)
+
 add-at-2 : tie.Need-add-at-2
 add-at-2 c = let h = found (c .before) in let k = few (c .before .before .before .before .before) in omega arith
 
@@ -66,5 +70,5 @@ returns-2 c = sym (here (c .before .before) ∙ ap (foundAt _ _ _) (c .enum-told
 pub look-spec : {M : Type 1} → statement M
 look-spec =
     tie.close (tie.spec (λ c κs. search needs) (λ c. search needs) add-end mul-scan (λ c. search needs)
-    (λ c. search needs) part-scan-end (λ c κs. search needs) (λ c. search needs) (λ c. search needs) add-at-2
+    (λ c. search needs) part-scan-end scan-requires (λ c. search needs) (λ c. search needs) (λ c. search needs) add-at-2
     get-requires (λ c κs. search needs) (λ c. search needs) returns returns-2)

@@ -3,7 +3,7 @@
 use Prim.Native.Nat.{ℕ, _-_, _≤_}
 use native.Mathlib.Omega.{arith}
 use mathlib.Core.Path.{_≡_, _∙_, ap}
-use lib.ListN.{length, take}
+use lib.ListN.{length, take, length-take}
 use borrow.Author.Needs.{needs}
 use Rattle.bucket.specs.State.{arraySize, sizeOf, searchOf}
 use Rattle.arrays.specs.Arrays.{scan}
@@ -11,11 +11,18 @@ use Rattle.bucket.proofs.Laws.{size-limit}
 use Rattle.bucket.proofs.BucketState.search.Statement.{statement}
 use Rattle.bucket.proofs.BucketState.search.Tie as tie
 
+-- no more accounts than an array has items
+few : (c : tie.After-size) → c .size .result ≤ arraySize
+few c = rw (c .size .ensures) (size-limit _)
+
 part-scan-end : tie.Need-part-scan-end
 part-scan-end c =
-    let few : c .before .size .result ≤ arraySize = rw (c .before .size .ensures) (size-limit _) in
+    let h = few (c .before) in
     let long : length (c .before .before .before .args .self .accounts) ≡ arraySize = search needs in
     omega arith
+
+scan-requires : tie.Need-scan-requires
+scan-requires c κs = let h = few (c .before .before) in rw length-take (omega arith)
 
 returns : tie.Need-returns
 unfolding searchOf
@@ -28,4 +35,4 @@ returns c =
 pub search-spec : {M : Type 1} → statement M
 search-spec =
     tie.close (tie.spec (λ c κs. search needs) (λ c. search needs) (λ c. search needs) part-scan-end
-    (λ c κs. search needs) returns)
+    scan-requires returns)
