@@ -1,5 +1,5 @@
-//! Document 01's session and cases by the safe interface, every refusal, tickets at both ends of their 64 bits, the
-//! words needed for all settings, and the steps at every check.
+//! Document 01's session and cases by the safe interface, every refusal, tickets at both ends of their 64 bits, every
+//! place of the largest bucket, the words needed for all settings, and the steps at every check.
 #[path = "model/tickets.rs"]
 mod tickets;
 
@@ -219,6 +219,49 @@ fn tickets_from_1_and_from_2_to_63_on_in_one_bucket() -> Done {
     assert_eq!(table.listing()?, [(5, 3), (2147483648, 4), (2147483649, 5)]);
     ends(&mut table, 1, Answer::Added, 15, 1)?;
     assert_eq!([0, 1].map(|worker| *last_ticket(&mut words, worker)), [5, (1 << 63) + 3]);
+    Ok(())
+}
+
+/// The account's total is found, or none.
+fn looks(table: &mut Table, account: u32, total: Option<i64>) -> Done {
+    table.lookup(0, account)?;
+    ends(table, 0, total.map_or(Answer::None, Answer::Found), 2, 0)
+}
+
+/// An account that is not there is added; if there is room for another, replaced, removed and added again, each time
+/// with another total. In the end its total is three times its number.
+fn updated(table: &mut Table, account: u32, room: bool) -> Done {
+    let updates = [(Answer::Added, 1), (Answer::Replaced, 2), (Answer::Removed, 0), (Answer::Added, 3)];
+    for (answer, times) in updates.into_iter().skip(if room { 0 } else { 3 }) {
+        let total = times * i64::from(account);
+        match answer {
+            Answer::Removed => table.delete(0, account)?,
+            _ => table.insert(0, account, total)?,
+        }
+        ends(table, 0, answer, 13, 1)?;
+        looks(table, account, (times > 0).then_some(total))?;
+    }
+    Ok(())
+}
+
+#[test]
+fn every_place_of_a_bucket_of_sixteen() -> Done {
+    for first in 0..16 {
+        let mut owned = opened(1, 16, 0)?;
+        let mut table = owned.table();
+        // 10, 20, .., 160, each once, in no order; each of them comes last for one `first`
+        let accounts: Vec<u32> = (first..first + 16).map(|i| 10 * (i * 7 % 16 + 1)).collect();
+        for (i, &account) in accounts.iter().enumerate() {
+            updated(&mut table, account, i < 15)?;
+            for (k, &other) in accounts.iter().enumerate() {
+                looks(&mut table, other, (k <= i).then_some(3 * i64::from(other)))?;
+                looks(&mut table, other + 5, None)?;
+            }
+        }
+        table.insert(0, 165, 4)?;
+        ends(&mut table, 0, Answer::Crowded, 13, 1)?;
+        assert_eq!(table.listing()?, (1..=16).map(|i| (10 * i, 30 * i64::from(i))).collect::<Vec<_>>());
+    }
     Ok(())
 }
 
