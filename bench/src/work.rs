@@ -30,10 +30,11 @@ pub fn insert(account: u32, random: &mut Prng) -> Operation {
     }
 }
 
-fn delete(inserted: Operation) -> Operation {
+fn delete(account: u32) -> Operation {
     Operation {
         kind: KIND_DELETE,
-        ..inserted
+        account,
+        total: 0,
     }
 }
 
@@ -83,7 +84,7 @@ pub fn work(name: &'static str, workers: u64, count: usize) -> Work {
     };
     let (filling, measured) = match name {
         "growing" => (Vec::new(), first),
-        "deletes" => (first.clone(), first.into_iter().map(delete).collect()),
+        "deletes" => (first, accounts.iter().map(|a| delete(*a)).collect()),
         _ => (first, (0..count).map(&mut operation).collect()),
     };
     Work {
@@ -105,11 +106,7 @@ pub fn even(depth: u64, count: usize) -> Work {
         filling.extend((0..1 << depth).map(|p| insert(account(p, i), &mut random)));
     }
     for i in [1, 3, 5] {
-        filling.extend((0..1 << depth).map(|p| Operation {
-            kind: KIND_DELETE,
-            account: account(p, i),
-            total: 0,
-        }));
+        filling.extend((0..1 << depth).map(|p| delete(account(p, i))));
     }
     let measured = (0..count)
         .map(|_| {

@@ -1,5 +1,5 @@
 //! Document 01's session and cases by the safe interface, every refusal, tickets at both ends of their 64 bits, every
-//! place of the largest bucket, the words needed for all settings, and the steps at every check.
+//! position in the largest bucket, the words needed for all settings, and the steps at every check.
 #[path = "model/tickets.rs"]
 mod tickets;
 
@@ -245,7 +245,7 @@ fn updated(table: &mut Table, account: u32, room: bool) -> Done {
 }
 
 #[test]
-fn every_place_of_a_bucket_of_sixteen() -> Done {
+fn every_position_in_a_bucket_of_sixteen() -> Done {
     for first in 0..16 {
         let mut owned = opened(1, 16, 0)?;
         let mut table = owned.table();

@@ -1,5 +1,5 @@
 -- An item put into an array or taken out of it, and a search among ascending accounts, for any items.
--- Rests on the type that src declares for a search's result.
+-- Rests on the type that src declares for a search's result: its position, in the code a byte, is a number here.
 use Prim.Native.Nat.{ℕ, suc, _-_}
 use mathlib.Core.List.{List, [], _∷_, _++_}
 use lib.Dec.{ltb, leb, eqb}

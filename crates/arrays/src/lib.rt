@@ -7,7 +7,7 @@ ghost use lib.ListN.{length};
 ghost use Rattle.interface.specs.Limits.{greatestCapacity};
 ghost use Rattle.arrays.specs.Arrays.{insertedIn, removedFrom, scan};
 
-// Where an account stands among ascending accounts, or before which it belongs.
+// Where an account stands among ascending accounts, or before which it belongs: document 02's place found, in a byte.
 pub enum Position {
     At(u8),
     Before(u8),
