@@ -16,8 +16,8 @@ sum-within :
     → headerSize + slotSize * n + n * workerSize n + P + (P + n + spareRecords) * recordSize b n + spareWords ≤ 16 * (2 * n + 1) * P * c
 sum-within n b P c e one two positive =
     let workers : n * workerSize n ≤ 4 * (n * c) = rw (← mul-left-comm n 4 c) (mul-le-mul-left n (omega arith)) in
-    let records : (P + n + spareRecords) * recordSize b n ≤ 2 * ((P + n + spareRecords) * c) =
-    rw (← mul-left-comm (P + n + spareRecords) 2 c) (mul-le-mul-left _ (omega arith)) in
+    let records : (P + n + spareRecords) * recordSize b n ≤ 3 * ((P + n + spareRecords) * c) =
+    rw (← mul-left-comm (P + n + spareRecords) 3 c) (mul-le-mul-left _ (omega arith)) in
     let spread : (P + n + spareRecords) * c ≡ P * c + n * c + spareRecords * c = simp add-mul in
     let limit : 16 * (2 * n + 1) * P * c ≡ 32 * (n * (P * c)) + 16 * (P * c) = simp (mul-assoc, add-mul) (omega arith) in
     let c≤ : c ≤ P * c = rw (mul-comm c P) at (le-mul-of-pos-right c positive) in
@@ -37,11 +37,16 @@ pub least-words : wordsNeeded (record { workers = leastWorkers; capacity = least
 unfolding wordsNeeded recordStart directoryStart poolSize
 least-words = refl
 
--- the greatest settings that the program's 8,192 words hold, and the greatest of all
-pub needed-at-depth-7 : wordsNeeded (record { workers = 8; capacity = 16; depth = 7 }) ≡ 8_129
+-- near the program's 8,192 words: the greatest capacity that they hold with 8 workers at depth 7, and settings that they do
+-- not hold; and the greatest of all
+pub needed-at-depth-7 : wordsNeeded (record { workers = 8; capacity = 12; depth = 7 }) ≡ 8_137
 unfolding wordsNeeded recordStart directoryStart poolSize
 needed-at-depth-7 = refl
 
-pub needed-at-depth-8 : wordsNeeded (record { workers = 8; capacity = 16; depth = 8 }) ≡ 15_169
+pub needed-past-the-program : wordsNeeded (record { workers = 5; capacity = 4; depth = 8 }) ≡ 8_200
+unfolding wordsNeeded recordStart directoryStart poolSize
+needed-past-the-program = refl
+
+pub needed-at-depth-8 : wordsNeeded (record { workers = 8; capacity = 16; depth = 8 }) ≡ 17_305
 unfolding wordsNeeded recordStart directoryStart poolSize
 needed-at-depth-8 = refl

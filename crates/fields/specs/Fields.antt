@@ -1,7 +1,7 @@
 -- The lent words by name: each word of the header, of a slot, of a worker's record and of a bucket's record, by its
 -- offset there. src/lib.rt has constants of the same names. Rests on the limits of the settings.
 use Prim.Native.Nat.{ℕ, _+_, _-_, _*_}
-use Rattle.interface.specs.Limits.{greatestWorkers, greatestCapacity}
+use Rattle.interface.specs.Limits.{greatestWorkers, greatestCapacity, greatestDepth}
 
 -- ---- the header
 
@@ -45,7 +45,14 @@ abbrev pub markUnit : ℕ
 markUnit = depthUnit * (deepest + 1)
 
 abbrev pub mark : ℕ
-mark = 6_004_514_763
+mark = 6_004_514_764
+
+-- the least and the greatest first word with the mark and a depth that settings have
+abbrev pub leastFirst : ℕ
+leastFirst = mark * markUnit
+
+abbrev pub greatestFirst : ℕ
+greatestFirst = leastFirst + (greatestDepth + 1) * depthUnit - 1
 
 -- ---- a slot: a worker's announced update, the field's operation descriptor
 
@@ -137,11 +144,11 @@ recordPrefix = 4
 abbrev pub recordNumber : ℕ
 recordNumber = 5
 
--- its accounts; behind them its totals, settled tickets and their answers
+-- its accounts; behind them its totals, settled tickets, their answers and what these have posted
 abbrev pub recordAccounts : ℕ
 recordAccounts = 6
 
--- where these four begin in the record at q, with b accounts at most and n workers
+-- where these five begin in the record at q, with b accounts at most and n workers
 abbrev pub accountsFrom : ℕ → ℕ
 accountsFrom q = q + recordAccounts
 
@@ -154,8 +161,11 @@ settledFrom q b = totalsFrom q b + b
 abbrev pub answersFrom : ℕ → ℕ → ℕ → ℕ
 answersFrom q b n = settledFrom q b + n
 
+abbrev pub postedFrom : ℕ → ℕ → ℕ → ℕ
+postedFrom q b n = answersFrom q b n + n
+
 abbrev pub recordSize : ℕ → ℕ → ℕ
-recordSize b n = 2 * b + 2 * n + recordAccounts
+recordSize b n = 2 * b + 3 * n + recordAccounts
 
 -- ---- sizes
 

@@ -15,7 +15,8 @@ pub const HEADER_SPARE: usize = 4;
 
 pub const HEADER_SIZE: usize = 16;
 
-// The first word: its units, the greatest depth it can keep, and the mark of an open table.
+// The first word: its units, the greatest depth it can keep, the mark of an open table, and from where to where it is
+// with that mark and no depth above the greatest setting.
 pub const CAPACITY_UNIT: u64 = Settings::GREATEST_WORKERS;
 
 pub const DEPTH_UNIT: u64 = CAPACITY_UNIT * Settings::GREATEST_CAPACITY;
@@ -24,7 +25,11 @@ pub const DEEPEST: u64 = 15;
 
 pub const MARK_UNIT: u64 = DEPTH_UNIT * (DEEPEST + 1);
 
-pub const MARK: u64 = 6004514763;
+pub const MARK: u64 = 6004514764;
+
+pub const LEAST_FIRST: u64 = MARK * MARK_UNIT;
+
+pub const GREATEST_FIRST: u64 = LEAST_FIRST + (Settings::GREATEST_DEPTH + 1) * DEPTH_UNIT - 1;
 
 // ---- a slot
 
@@ -86,10 +91,10 @@ const LEAST_WORKERS: usize = Settings::LEAST_WORKERS as usize;
 
 const LEAST_CAPACITY: usize = Settings::LEAST_CAPACITY as usize;
 
-const LEAST_RECORD: usize = 2 * LEAST_CAPACITY + 2 * LEAST_WORKERS + RECORD_ACCOUNTS;
+const LEAST_RECORD: usize = 2 * LEAST_CAPACITY + 3 * LEAST_WORKERS + RECORD_ACCOUNTS;
 
 pub const WIDEST_RECORD: usize = 2 * (Settings::GREATEST_CAPACITY as usize)
-    + 2 * (Settings::GREATEST_WORKERS as usize)
+    + 3 * (Settings::GREATEST_WORKERS as usize)
     + RECORD_ACCOUNTS;
 
 pub const SPARE_RECORDS: usize = 2;

@@ -8,7 +8,7 @@ use lib.IntN.{pos, negℤ}
 use Rattle.interface.specs.declared.Answer.{Answer}
 use Rattle.interface.specs.declared.Answer.the-variants.{Added, Replaced, Removed, Absent, Found, None, Crowded}
 use Rattle.machine.specs.Computing.{computing}
-use Rattle.machine.specs.Script.{Line, O, I, D, L, S, T, Reply, ok, refused, moved, answered, listed}
+use Rattle.machine.specs.Script.{Line, O, I, D, L, P, S, T, Reply, ok, refused, moved, answered, listed}
 use Rattle.machine.specs.Script.{Memory, zeros, holding, Lent, driver, run, memoryAfter}
 
 -- ---- rows
@@ -54,6 +54,7 @@ workerOf (O n b M) = 0
 workerOf (I w a v) = w
 workerOf (D w a) = w
 workerOf (L w a) = w
+workerOf (P w a v) = w
 workerOf (S w k) = w
 workerOf T = 0
 
@@ -81,13 +82,13 @@ settings-out-of-range =
 -- "n 8, b 16, M 8 over the words needed: opened."
 unfoldable pub greatest-settings : Case
 unfolding computing
-greatest-settings = lentCase (record { words = 15_169; accounts = 0; totals = 0 }) (O 8 16 8 ⟶ ok ∷ T ⟶ listed [] ∷ []) refl
+greatest-settings = lentCase (record { words = 17_305; accounts = 0; totals = 0 }) (O 8 16 8 ⟶ ok ∷ T ⟶ listed [] ∷ []) refl
 
 -- "2 short: fewer words lent than needed"; 1 is checked before 2
 unfoldable pub one-word-short : Case
 unfolding computing
 one-word-short =
-    lentCase (record { words = 15_168; accounts = 0; totals = 0 }) (O 8 16 8 ⟶ refused 2 ∷ O 8 16 9 ⟶ refused 1 ∷ T ⟶ refused 8 ∷ []) refl
+    lentCase (record { words = 17_304; accounts = 0; totals = 0 }) (O 8 16 8 ⟶ refused 2 ∷ O 8 16 9 ⟶ refused 1 ∷ T ⟶ refused 8 ∷ []) refl
 
 -- "P: a fresh table lists nothing, count 0."
 unfoldable pub fresh-table : Case
@@ -173,8 +174,8 @@ unfoldable pub memory-of-zeros : Case
 unfolding computing
 memory-of-zeros =
     driverCase (
-    I 0 5 (pos 7) ⟶ refused 8 ∷ D 0 5 ⟶ refused 8 ∷ L 0 5 ⟶ refused 8 ∷ S 0 1 ⟶ refused 8 ∷ T ⟶ refused 8
-    ∷ O 9 2 1 ⟶ refused 1 ∷ O 8 16 8 ⟶ refused 2 ∷ T ⟶ refused 8 ∷ O 8 16 7 ⟶ ok ∷ T ⟶ listed [] ∷ [])
+    I 0 5 (pos 7) ⟶ refused 8 ∷ D 0 5 ⟶ refused 8 ∷ L 0 5 ⟶ refused 8 ∷ P 0 5 (pos 7) ⟶ refused 8 ∷ S 0 1 ⟶ refused 8
+    ∷ T ⟶ refused 8 ∷ O 9 2 1 ⟶ refused 1 ∷ O 8 16 8 ⟶ refused 2 ∷ O 5 4 8 ⟶ refused 2 ∷ T ⟶ refused 8 ∷ O 8 12 7 ⟶ ok ∷ T ⟶ listed [] ∷ [])
     refl
 
 -- "All but 9 change no memory": a refused opening leaves the table and the operation under way as they were. An accepted one
@@ -508,10 +509,10 @@ caseRows [] = []
 caseRows (c ∷ cs) = c .row ∷ caseRows cs
 
 abbrev pub AllRows : (Row → Type 0) → List Row → Type 0
-AllRows P [] = Unit {0}
-AllRows P (r ∷ rs) = P r × AllRows P rs
+AllRows Q [] = Unit {0}
+AllRows Q (r ∷ rs) = Q r × AllRows Q rs
 
-all-right : (cs : List Case) → AllRows Right (caseRows cs)
+pub all-right : (cs : List Case) → AllRows Right (caseRows cs)
 all-right [] = tt
 all-right (c ∷ cs) = (c .right, all-right cs)
 

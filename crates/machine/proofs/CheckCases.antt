@@ -8,7 +8,7 @@ use Rattle.interface.specs.declared.Stepped.{Stepped}
 use Rattle.machine.specs.Computing.{computing}
 use Rattle.machine.specs.Records.{Machine}
 use Rattle.machine.specs.Steps.{step}
-use Rattle.machine.specs.Script.{Line, O, I, D, L, S, T, Lent, Memory, zeros, holding, responseTo}
+use Rattle.machine.specs.Script.{Line, O, I, D, L, P, S, T, Lent, Memory, zeros, holding, responseTo}
 use Rattle.machine.proofs.Cases.{Case, lookup-after-delete, crowded-straight-after, second-pass, fourth-check}
 
 -- the steps and the check that the answer comes with, among up to k steps of worker j, if there is one
@@ -28,6 +28,7 @@ endedBy (holding s m) (O n b M) = []
 endedBy (holding s m) (I j a v) = []
 endedBy (holding s m) (D j a) = []
 endedBy (holding s m) (L j a) = []
+endedBy (holding s m) (P j a v) = []
 endedBy (holding s m) (S j k) = ended s j k m
 endedBy (holding s m) T = []
 

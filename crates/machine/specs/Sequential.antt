@@ -1,21 +1,25 @@
--- The sequential specification: document 01's plain table. Rests on the enum of answers alone.
+-- The sequential specification: document 01's plain table, with document 02's posts. Rests on the enum of answers
+-- alone.
 use Prim.Native.Nat.{ℕ, _-_, _/_, _%_, _^_, _<_}
-use mathlib.Core.Bool.{Bool}
+use mathlib.Core.Bool.{Bool, _&&_}
 use mathlib.Core.List.{List, [], _∷_}
 use mathlib.Core.Option.{Option, none, some}
 use lib.Dec.{ltb, leb, eqb}
 use lib.ListN.{length}
-use lib.IntN.{ℤ}
+use lib.IntN.{ℤ, pos, negsuc, _+ℤ_}
+use lib.Signed.{leZ}
 use Rattle.interface.specs.declared.Answer.{Answer}
-use Rattle.interface.specs.declared.Answer.the-variants.{Added, Replaced, Removed, Absent, Found, None, Crowded}
+use Rattle.interface.specs.declared.Answer.the-variants.{Added, Replaced, Removed, Absent, Found, None, Posted, Crowded, Overrun}
 use Rattle.machine.specs.Choice.{if_then_else_}
 
 -- ---- operations
 
--- "Operations are insert, delete and lookup on accounts." An insert has a total. Inserts and deletes are updates.
+-- "Operations are insert, delete and lookup on accounts." An insert has a total. "Please add kind 4, post" (02, No. 1):
+-- a post has an amount. Inserts, deletes and posts are updates.
 pub data Update : Type 0 where
   insert : ℕ → ℤ → Update
   delete : ℕ → Update
+  post : ℕ → ℤ → Update
 
 pub data Operation : Type 0 where
   update : Update → Operation
@@ -25,6 +29,7 @@ pub data Operation : Type 0 where
 abbrev pub account : Update → ℕ
 account (insert a v) = a
 account (delete a) = a
+account (post a v) = a
 
 -- ---- the bits of an account
 
@@ -68,15 +73,38 @@ unfoldable pub present : Option ℤ → Answer → Answer → Answer
 present (some v) there missing = there
 present none there missing = missing
 
--- "Insert answers added, or replaced where the account was there; delete answers removed or absent."
+-- "an account not there starts from 0"
+unfoldable pub totalOr0 : Option ℤ → ℤ
+totalOr0 (some v) = v
+totalOr0 none = pos 0
+
+-- "the 64-bit signed range"
+abbrev pub leastTotal : ℤ
+leastTotal = negsuc 9_223_372_036_854_775_807
+
+abbrev pub greatestTotal : ℤ
+greatestTotal = pos 9_223_372_036_854_775_807
+
+unfoldable pub isTotal : ℤ → Bool
+isTotal v = leZ leastTotal v && leZ v greatestTotal
+
+-- "the amount is added to the account's total"
+unfoldable pub sum : Table → ℕ → ℤ → ℤ
+sum t a v = totalOr0 (find t a) +ℤ v
+
+-- "Insert answers added, or replaced where the account was there; delete answers removed or absent." A post's "answer
+-- is posted with the new total"; overrun is "given exactly for" a "sum outside the 64-bit signed range".
 unfoldable pub result : Update → Table → Answer
 result (insert a v) t = present (find t a) Replaced Added
 result (delete a) t = present (find t a) Removed Absent
+result (post a v) t = if isTotal (sum t a v) then Posted (sum t a v) else Overrun
 
--- "sets the account's total"; "takes the account out, or .. changes nothing"
+-- "sets the account's total"; "takes the account out, or .. changes nothing"; "an account not there .. is made, also by
+-- an amount of 0"; a sum outside the range "is turned down and the table stays as before"
 unfoldable pub changed : Update → Table → Table
 changed (insert a v) t = put t a v
 changed (delete a) t = remove t a
+changed (post a v) t = if isTotal (sum t a v) then put t a (sum t a v) else t
 
 -- ---- what the plain table does with one operation
 

@@ -5,17 +5,17 @@ use native.Mathlib.Omega.{arith}
 use native.Mathlib.Decide.{ℕ-discrete, decLt}
 use mathlib.Core.Path.{_≡_, refl, ap, sym, _∙_}
 use mathlib.Core.Logic.{_≢_, by-cases}
-use mathlib.Core.Bool.{true, false}
+use mathlib.Core.Bool.{Bool, true, false}
 use mathlib.Core.List.{[], _∷_}
 use mathlib.Core.Option.{Option, none, some}
 use lib.Dec.{ltb, leb, eqb}
 use lib.ListN.{length}
-use lib.IntN.{ℤ}
+use lib.IntN.{ℤ, _+ℤ_}
 use borrow.Author.Tests.{ltb-true, ltb-false}
 use Rattle.interface.specs.declared.Settings.{Settings}
-use Rattle.interface.specs.declared.Answer.the-variants.{Added, Replaced, Removed, Absent, Crowded}
+use Rattle.interface.specs.declared.Answer.the-variants.{Added, Replaced, Removed, Absent, Posted, Crowded, Overrun}
 use Rattle.machine.specs.Choice.{if_then_else_}
-use Rattle.machine.specs.Sequential.{Update, insert, delete, update, account, firstBits, Table, find, put, remove, having, present, result, changed, crowds, serve, AccountsAbove, Ascending}
+use Rattle.machine.specs.Sequential.{Update, insert, delete, post, update, account, firstBits, Table, find, put, remove, having, present, totalOr0, isTotal, sum, result, changed, crowds, serve, AccountsAbove, Ascending}
 use Rattle.machine.specs.Records.{Body}
 use Rattle.machine.specs.BucketPass.{full}
 use Rattle.machine.proofs.laws.Base.{if-elim, if-true, if-false, eq-elim, if-eq, if-ne, none-some}
@@ -99,6 +99,7 @@ pub ascending-changed : (u : Update) (t : Table) → Ascending t → Ascending (
 unfolding changed
 ascending-changed (insert a v) t h = ascending-put t a v h
 ascending-changed (delete a) t h = ascending-remove t a h
+ascending-changed (post a v) t h = if-elim Ascending _ _ _ (λ e. ascending-put t a _ h) (λ e. h)
 
 -- ---- what is found
 
@@ -151,20 +152,28 @@ find-having-out d q (e ∷ t) a h = having-elim (λ (l : Table). find l a ≡ no
     (λ g. find-tail e (having d q t) a (λ y. h (ap (firstBits d) (sym y) ∙ g)) ∙ find-having-out d q t a h)
     (λ g. find-having-out d q t a h)
 
--- what an update leaves at its account
-abbrev pub totalAfter : Update → Option ℤ
-totalAfter (insert a v) = some v
-totalAfter (delete a) = none
+-- what an update leaves at its account, where it finds so much
+unfoldable pub totalAfter : Update → Option ℤ → Option ℤ
+totalAfter (insert a v) x = some v
+totalAfter (delete a) x = none
+totalAfter (post a v) x = if isTotal (totalOr0 x +ℤ v) then some (totalOr0 x +ℤ v) else x
 
-pub find-changed-at : (u : Update) (t : Table) → Ascending t → find (changed u t) (account u) ≡ totalAfter u
-unfolding changed
+pub find-changed-at : (u : Update) (t : Table) → Ascending t → find (changed u t) (account u) ≡ totalAfter u (find t (account u))
+unfolding changed totalAfter sum if_then_else_
 find-changed-at (insert a v) t h = find-put-at t a v
 find-changed-at (delete a) t h = find-remove-at t a h
+find-changed-at (post a v) t h = posted (isTotal (sum t a v))
+  where
+    posted : (b : Bool) → find (if b then put t a (sum t a v) else t) a ≡ if b then some (sum t a v) else find t a
+    posted true = find-put-at t a (sum t a v)
+    posted false = refl
 
 pub find-changed-other : (u : Update) (t : Table) (c : ℕ) → c ≢ account u → find (changed u t) c ≡ find t c
 unfolding changed
 find-changed-other (insert a v) t c n = find-put-other t a v c n
 find-changed-other (delete a) t c n = find-remove-other t a c n
+find-changed-other (post a v) t c n =
+    if-elim (λ (x : Table). find x c ≡ find t c) (isTotal (sum t a v)) _ _ (λ e. find-put-other t a (sum t a v) c n) (λ e. refl)
 
 -- ---- ascending tables in which the same is found are the same
 
@@ -241,7 +250,9 @@ having-changed d u t s =
     asc = ascending-having d q t s
 
     go : (c : ℕ) → Dec (c ≡ account u) → find (having d q (changed u t)) c ≡ find (changed u part) c
-    go c (yes e) = rw e (find-having-in d q (changed u t) (account u) refl ∙ find-changed-at u t s ∙ sym (find-changed-at u part asc))
+    go c (yes e) = rw e (
+        find-having-in d q (changed u t) (account u) refl ∙ find-changed-at u t s
+        ∙ ap (totalAfter u) (sym (find-having-in d q t (account u) refl)) ∙ sym (find-changed-at u part asc))
     go c (no n) = part-elsewhere d q u t c n ∙ sym (find-changed-other u part c n)
 
 pub having-changed-other :
@@ -257,9 +268,12 @@ having-changed-other d q u t s n =
     go c (no m) = part-elsewhere d q u t c m
 
 pub result-having : (d : ℕ) (u : Update) (t : Table) → result u (having d (firstBits d (account u)) t) ≡ result u t
-unfolding result
+unfolding result sum
 result-having d (insert a v) t = ap (λ (x : Option ℤ). present x Replaced Added) (find-having-in d (firstBits d a) t a refl)
 result-having d (delete a) t = ap (λ (x : Option ℤ). present x Removed Absent) (find-having-in d (firstBits d a) t a refl)
+result-having d (post a v) t =
+    ap (λ (z : ℤ). if isTotal z then Posted z else Overrun)
+    (ap (λ (x : Option ℤ). totalOr0 x +ℤ v) (find-having-in d (firstBits d a) t a refl))
 
 -- ---- crowding
 

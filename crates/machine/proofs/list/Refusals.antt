@@ -115,7 +115,7 @@ module _ (s : Settings) (lent : ℕ) (m : Machine) (j : ℕ) where
       by (some o) = assign-elim (λ (w : Worker). w .last ≡ m .workers j .last) (m .workers) i _ j
           (λ e. counted-last _ _ _ ∙ ap (λ (k : ℕ). m .workers k .last) (sym e)) (λ d. refl)
 
-  -- an accepted insert or delete takes one
+  -- an accepted update takes one
   abbrev takes : Entry → Bool
   takes e = callsTo (machines s lent) m e j and isUpdate (asked e)
 
