@@ -2,11 +2,11 @@
 use Prim.Native.Nat.{ℕ, _+_, _-_, _*_, _/_, _%_, _≤_}
 use mathlib.Core.Bool.{Bool, _||_, not}
 use mathlib.Core.List.{List}
-use lib.Dec.{ltb, eqb}
+use lib.Dec.{ltb}
 use lib.ListN.{length, getD}
 use Rattle.interface.specs.declared.Settings.{Settings}
-use Rattle.interface.specs.Limits.{greatestWorkers, greatestCapacity}
-use Rattle.fields.specs.Fields.{headerSettings, headerNeeded, capacityUnit, depthUnit, deepest, markUnit, mark, widestRecord}
+use Rattle.interface.specs.Limits.{greatestWorkers, greatestCapacity, within}
+use Rattle.fields.specs.Fields.{headerSettings, headerNeeded, capacityUnit, depthUnit, deepest, leastFirst, greatestFirst, widestRecord}
 use Rattle.fields.specs.Regions.{directoryStart, wordsNeeded, leastWords}
 
 abbrev pub word : List ℕ → ℕ → ℕ
@@ -22,14 +22,14 @@ settingsOf x =
     }
 
 unfoldable pub firstWord : Settings → ℕ
-firstWord s = mark * markUnit + (s .workers - 1) + capacityUnit * (s .capacity - 1) + depthUnit * s .depth
+firstWord s = leastFirst + (s .workers - 1) + capacityUnit * (s .capacity - 1) + depthUnit * s .depth
 
--- The checks behind 8, strange, the field's unrecognised memory: too short for any table; no mark; a number of words
--- needed above the words lent; too short for the workers and one record.
+-- The checks behind 8, strange, the field's unrecognised memory: too short for any table; no mark, or a greatest depth
+-- above 8; a number of words needed above the words lent; too short for the workers and one record.
 unfoldable pub strange : List ℕ → Bool
 strange l =
     ltb (length l) leastWords
-    || not (eqb (word l headerSettings / markUnit) mark)
+    || not (within leastFirst (word l headerSettings) greatestFirst)
     || ltb (length l) (word l headerNeeded)
     || ltb (length l) (directoryStart (settingsOf (word l headerSettings) .workers) + widestRecord)
 

@@ -8,11 +8,11 @@ use crate::addresses::worker_at;
 use fields::CAPACITY_UNIT;
 use fields::DEEPEST;
 use fields::DEPTH_UNIT;
+use fields::GREATEST_FIRST;
 use fields::HEADER_NEEDED;
 use fields::HEADER_SETTINGS;
+use fields::LEAST_FIRST;
 use fields::LEAST_WORDS;
-use fields::MARK;
-use fields::MARK_UNIT;
 use fields::WIDEST_RECORD;
 use interface::Settings;
 
@@ -44,7 +44,10 @@ pub fn strange_words(words: &[u64]) -> bool
         return true;
     }
     let x = words[HEADER_SETTINGS];
-    if x / MARK_UNIT != MARK {
+    if x < LEAST_FIRST {
+        return true;
+    }
+    if GREATEST_FIRST < x {
         return true;
     }
     if (len as u64) < words[HEADER_NEEDED] {

@@ -6,9 +6,12 @@ use mathlib.Core.Bool.{Bool, not}
 use mathlib.Core.List.{List}
 use lib.Dec.{ltb, leb, eqb}
 use lib.ListN.{getD}
+use lib.IntN.{pos}
+use mir.Syntax.{w64}
+use mir.Val.{toZ}
 use Rattle.interface.specs.Numbers.{answerNumber}
 use Rattle.interface.specs.declared.Settings.{Settings}
-use Rattle.interface.specs.declared.Answer.the-variants.{Added, Replaced, Removed, Absent, None, Crowded}
+use Rattle.interface.specs.declared.Answer.the-variants.{Added, Replaced, Removed, Absent, None, Posted, Crowded, Overrun}
 use Rattle.fields.specs.Fields.{slotKind, slotAccount, slotTotal, slotTicket}
 use Rattle.machine.specs.Choice.{_and_, if_then_else_}
 use Rattle.rules.specs.declared.Descriptor.{Descriptor}
@@ -58,12 +61,18 @@ insertAnswer p = answerBy p (answerNumber Replaced) (answerNumber Added)
 unfoldable pub deleteAnswer : Position → ℕ
 deleteAnswer p = answerBy p (answerNumber Removed) (answerNumber Absent)
 
--- the answer to an update that a number stands for; none has been given for any other number
-unfoldable pub answerOf : ℕ → Answer
-answerOf k =
+-- the number of a post's answer where it is posted; its total stands elsewhere
+abbrev pub postedNumber : ℕ
+postedNumber = answerNumber (Posted (pos 0))
+
+-- The answer to an update that a number and the word of a total stand for: the total counts for posted alone. None has
+-- been given for any other number.
+unfoldable pub answerOf : ℕ → ℕ → Answer
+answerOf k total =
     if eqb k (answerNumber Added) then Added else if eqb k (answerNumber Replaced) then Replaced
     else if eqb k (answerNumber Removed) then Removed else if eqb k (answerNumber Absent) then Absent
-    else if eqb k (answerNumber Crowded) then Crowded else None
+    else if eqb k postedNumber then Posted (toZ w64 total) else if eqb k (answerNumber Crowded) then Crowded
+    else if eqb k (answerNumber Overrun) then Overrun else None
 
 -- ---- single bits
 

@@ -35,14 +35,14 @@ pool-bound s h k = let m = pow-mono k in omega arith
 
 module _ (s : Settings) (r : ℕ) (h : s .workers ≤ greatestWorkers) (k : s .capacity ≤ greatestCapacity) (m : s .depth ≤ deepest)
     (n : r ≤ poolSize s) where
-  pub product-bound : r * recordSize (s .capacity) (s .workers) ≤ 1_770_012
+  pub product-bound : r * recordSize (s .capacity) (s .workers) ≤ 2_032_236
   product-bound =
       let size : recordSize (s .capacity) (s .workers) ≤ widestRecord = omega arith in
       let most = pool-bound s h m in
       let few : r ≤ 32_778 = omega arith in
       mul-le-mul few size
 
-  pub record-start-bound : recordStart s r ≤ 1_803_276
+  pub record-start-bound : recordStart s r ≤ 2_065_500
   unfolding recordStart
   record-start-bound =
       let a = start-bound (s .workers) h in

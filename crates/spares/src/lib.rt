@@ -34,7 +34,7 @@ pub fn record_start(g: Settings, r: usize) -> usize
 {
     let n = g.workers as usize;
     let b = g.capacity as usize;
-    directory_start(g) + (1 << g.depth) + r * (2 * b + 2 * n + RECORD_ACCOUNTS)
+    directory_start(g) + (1 << g.depth) + r * (2 * b + 3 * n + RECORD_ACCOUNTS)
 }
 
 // The words that settings in range need.

@@ -1,15 +1,16 @@
 -- `strange_words` answers the checks behind 8: each `return` is a check that fails, and at the end the last one decides.
 -- Rests on the bounds of settings.
-use Prim.Native.Nat.{ℕ, _+_, _/_, _≤_}
+use Prim.Native.Nat.{ℕ, _+_, _≤_}
 use native.Mathlib.Omega.{arith}
 use mathlib.Core.Path.{_∙_, ap}
 use lib.Dec.{ltb}
 use lib.ListN.{length}
 use borrow.Author.Needs.{needs}
-use borrow.Author.Tests.{lt-ltb, le-ltb, eq-eqb, ne-eqb}
-use Rattle.interface.specs.Limits.{greatestWorkers}
+use borrow.Author.Tests.{lt-ltb, le-ltb, lt-leb, le-leb}
+use Rattle.interface.specs.Limits.{greatestWorkers, within}
 use Rattle.interface.specs.declared.Settings.{Settings}
-use Rattle.fields.specs.Fields.{headerSettings, headerNeeded, markUnit, mark, widestRecord}
+use Rattle.interface.proofs.Laws.{within-is}
+use Rattle.fields.specs.Fields.{headerSettings, headerNeeded, leastFirst, greatestFirst, widestRecord}
 use Rattle.fields.specs.Regions.{directoryStart, leastWords}
 use Rattle.layout.specs.Shape.{word, strange}
 use Rattle.layout.proofs.Positions.{settings-small, start-bound}
@@ -21,19 +22,29 @@ unfolding strange
 returns c = rw (lt-ltb (length (c .before .before .args .words .now)) leastWords (c .if1 .taken))
 
 returns-2 : tie.Need-returns-2
-unfolding strange
+unfolding strange within
 returns-2 c =
     let l = c .before .before .before .before .args .words .now in
-    rw (le-ltb (length l) leastWords (omega arith), ne-eqb (word l headerSettings / markUnit) mark (c .if2 .taken))
+    rw (le-ltb (length l) leastWords (omega arith), lt-leb leastFirst (word l headerSettings) (omega arith))
 
 returns-3 : tie.Need-returns-3
-unfolding strange
+unfolding strange within
 returns-3 c =
-    let l = c .before .before .before .before .before .before .args .words .now in
+    let l = c .before .before .before .before .before .args .words .now in
     rw (
       le-ltb (length l) leastWords (omega arith),
-      eq-eqb (word l headerSettings / markUnit) mark (omega arith),
-      lt-ltb (length l) (word l headerNeeded) (c .if3 .taken),
+      le-leb leastFirst (word l headerSettings) (omega arith),
+      lt-leb (word l headerSettings) greatestFirst (omega arith),
+    )
+
+returns-4 : tie.Need-returns-4
+unfolding strange
+returns-4 c =
+    let l = c .before .before .before .before .before .before .before .args .words .now in
+    rw (
+      le-ltb (length l) leastWords (omega arith),
+      within-is leastFirst (word l headerSettings) greatestFirst (omega arith) (omega arith),
+      lt-ltb (length l) (word l headerNeeded) (c .if4 .taken),
     )
 
 directory-start-requires : tie.Need-directory-start-requires
@@ -45,13 +56,13 @@ add-result c =
     let small : s .result .workers ≤ greatestWorkers = rw (s .ensures) (settings-small _) in
     omega (arith, start-bound (s .result .workers) small)
 
-returns-4 : tie.Need-returns-4
+returns-5 : tie.Need-returns-5
 unfolding strange
-returns-4 c =
-    let l = c .before .before .before .before .before .before .before .before .args .words .now in
+returns-5 c =
+    let l = c .before .before .before .before .before .before .before .before .before .args .words .now in
     rw (
       le-ltb (length l) leastWords (omega arith),
-      eq-eqb (word l headerSettings / markUnit) mark (omega arith),
+      within-is leastFirst (word l headerSettings) greatestFirst (omega arith) (omega arith),
       le-ltb (length l) (word l headerNeeded) (omega arith),
     )
     (ap (λ (k : ℕ). ltb (length l) (k + widestRecord)) (c .directory-start .ensures)
@@ -59,5 +70,5 @@ returns-4 c =
 
 pub strange-words-spec : {M : Type 1} → statement M
 strange-words-spec =
-    tie.close (tie.spec returns (λ c. search needs) returns-2 (λ c. search needs) returns-3 (λ c κs. search needs)
-    directory-start-requires add-result returns-4)
+    tie.close (tie.spec returns (λ c. search needs) returns-2 returns-3 (λ c. search needs) returns-4 (λ c κs. search needs)
+    directory-start-requires add-result returns-5)
