@@ -38,7 +38,15 @@ size-limit x =
 module _ (x : BucketState) (n i : ℕ) (e : n ≡ sizeOf x) where
   pub put-new :
       (a v : ℕ) (ks vs : List ℕ) → n < arraySize → ks ≡ insertedIn (x .accounts) n i a → vs ≡ insertedIn (x .totals) n i v
-      → record { accounts = ks; totals = vs; settled = x .settled; answers = x .answers; count = n + 1; applied = x .applied }
+      → record {
+        accounts = ks;
+        totals = vs;
+        settled = x .settled;
+        answers = x .answers;
+        posted = x .posted;
+        count = n + 1;
+        applied = x .applied;
+      }
       ≡ putOf x (Before i) a v
   unfolding putOf if_then_else_
   put-new a v ks vs h p q = let room : ltb (sizeOf x) arraySize ≡ true = rw e at (lt-ltb n arraySize h) in rw (room, p, q, e)
@@ -49,7 +57,15 @@ module _ (x : BucketState) (n i : ℕ) (e : n ≡ sizeOf x) where
 
   pub removed-at :
       (ks vs : List ℕ) (k : ℕ) → ks ≡ removedFrom (x .accounts) n i → vs ≡ removedFrom (x .totals) n i → k ≡ n - 1
-      → record { accounts = ks; totals = vs; settled = x .settled; answers = x .answers; count = k; applied = x .applied }
+      → record {
+        accounts = ks;
+        totals = vs;
+        settled = x .settled;
+        answers = x .answers;
+        posted = x .posted;
+        count = k;
+        applied = x .applied;
+      }
       ≡ removeOf x (At i)
   unfolding removeOf
   removed-at ks vs k p q r = rw (p, q, r, e)

@@ -19,13 +19,20 @@ pub record Sized (s : BucketState) : Type 0 where
   pub totals : length (s .totals) ≡ greatestCapacity
   pub settled : length (s .settled) ≡ greatestCapacity
   pub answers : length (s .answers) ≡ greatestCapacity
+  pub posted : length (s .posted) ≡ greatestCapacity
 
 -- ---- a state's arrays keep their items
 
 pub put-sized : (x : BucketState) (p : Position) (a v : ℕ) → Sized x → Sized (putOf x p a v)
 unfolding putOf
 put-sized x (At i) a v z =
-    record { accounts = z .accounts; totals = length-set (x .totals) i v ∙ z .totals; settled = z .settled; answers = z .answers }
+    record {
+      accounts = z .accounts;
+      totals = length-set (x .totals) i v ∙ z .totals;
+      settled = z .settled;
+      answers = z .answers;
+      posted = z .posted;
+    }
 put-sized x (Before i) a v z =
     if-elim Sized (ltb (sizeOf x) arraySize) _ x
     (λ t. record {
@@ -33,6 +40,7 @@ put-sized x (Before i) a v z =
       totals = length-inserted (x .totals) (sizeOf x) i v ∙ z .totals;
       settled = z .settled;
       answers = z .answers;
+      posted = z .posted;
     })
     (λ t. z)
 
@@ -44,17 +52,19 @@ remove-sized x (At i) z =
       totals = length-removed (x .totals) (sizeOf x) i ∙ z .totals;
       settled = z .settled;
       answers = z .answers;
+      posted = z .posted;
     }
 remove-sized x (Before i) z = z
 
-pub settle-sized : (x : BucketState) (j t a : ℕ) → Sized x → Sized (settleOf x j t a)
+pub settle-sized : (x : BucketState) (j t a v : ℕ) → Sized x → Sized (settleOf x j t a v)
 unfolding settleOf
-settle-sized x j t a z =
+settle-sized x j t a v z =
     record {
       accounts = z .accounts;
       totals = z .totals;
       settled = length-set (x .settled) j t ∙ z .settled;
       answers = length-set (x .answers) j a ∙ z .answers;
+      posted = length-set (x .posted) j v ∙ z .posted;
     }
 
 -- ---- the count

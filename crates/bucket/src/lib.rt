@@ -1,7 +1,7 @@
-// A bucket's state by value: search, put and remove, and a ticket settled. Every field is a word, so that a state is
-// loaded and stored by copying. Each contract is an equality with a definition of specs/, for any values.
+// A bucket's state by value: search, a total read, put and remove, and a ticket settled. Every field is a word, so that
+// a state is loaded and stored by copying. Each contract is an equality with a definition of specs/, for any values.
 ghost use mathlib.Core.Path.{_≡_};
-ghost use Rattle.bucket.specs.State.{sizeOf, searchOf, putOf, removeOf, settleOf};
+ghost use Rattle.bucket.specs.State.{sizeOf, searchOf, totalIn, putOf, removeOf, settleOf};
 use arrays::Position;
 use arrays::lower;
 use arrays::raise;
@@ -12,12 +12,14 @@ use interface::Settings;
 pub const ARRAY_SIZE: usize = Settings::GREATEST_CAPACITY as usize;
 
 // Accounts ascending with their totals, the first `count` of each; per worker the last settled ticket with its answer's
-// number; one applied bit per worker. A count above the arrays' size is read as their size.
+// number and the total that it has, 0 where it has none; one applied bit per worker. A count above the arrays' size is
+// read as their size.
 pub struct BucketState {
     pub accounts: [u64; ARRAY_SIZE],
     pub totals: [u64; ARRAY_SIZE],
     pub settled: [u64; ARRAY_SIZE],
     pub answers: [u64; ARRAY_SIZE],
+    pub posted: [u64; ARRAY_SIZE],
     pub count: u64,
     pub applied: u64,
 }
@@ -43,6 +45,20 @@ impl BucketState {
         scan(&accounts[0..n], account)
     }
 
+    // The total at the position that a search gave; 0 where the account is missing.
+    pub fn total(self, p: Position) -> u64
+        ensures { λ r. ⌜ r ≡ totalIn self p ⌝ }
+    {
+        let totals = self.totals;
+        match p {
+            Position::At(i) => {
+                let i = i as usize;
+                if i < ARRAY_SIZE { totals[i] } else { 0 }
+            }
+            Position::Before(_) => 0,
+        }
+    }
+
     // The account's total set at the position that a search gave; a new account only where there is room for it.
     pub fn put(self, p: Position, account: u64, total: u64) -> BucketState
         ensures { λ r. ⌜ r ≡ putOf self p account total ⌝ }
@@ -51,6 +67,7 @@ impl BucketState {
         let mut totals = self.totals;
         let settled = self.settled;
         let answers = self.answers;
+        let posted = self.posted;
         let mut count = self.count;
         match p {
             Position::At(here) => {
@@ -74,6 +91,7 @@ impl BucketState {
             totals,
             settled,
             answers,
+            posted,
             count,
             applied: self.applied,
         }
@@ -89,6 +107,7 @@ impl BucketState {
                 let mut totals = self.totals;
                 let settled = self.settled;
                 let answers = self.answers;
+                let posted = self.posted;
                 let n = self.size();
                 let i = i as usize;
                 lower(&mut accounts, n, i);
@@ -98,6 +117,7 @@ impl BucketState {
                     totals,
                     settled,
                     answers,
+                    posted,
                     count: if 0 < n { n as u64 - 1 } else { 0 },
                     applied: self.applied,
                 }
@@ -106,23 +126,26 @@ impl BucketState {
         }
     }
 
-    // Worker j's ticket settled with an answer's number.
-    pub fn settle(self, j: usize, ticket: u64, answer: u64) -> BucketState
-        ensures { λ r. ⌜ r ≡ settleOf self j ticket answer ⌝ }
+    // Worker j's ticket settled with an answer's number and total.
+    pub fn settle(self, j: usize, ticket: u64, answer: u64, total: u64) -> BucketState
+        ensures { λ r. ⌜ r ≡ settleOf self j ticket answer total ⌝ }
     {
         let accounts = self.accounts;
         let totals = self.totals;
         let mut settled = self.settled;
         let mut answers = self.answers;
+        let mut posted = self.posted;
         if j < ARRAY_SIZE {
             settled[j] = ticket;
             answers[j] = answer;
+            posted[j] = total;
         }
         BucketState {
             accounts,
             totals,
             settled,
             answers,
+            posted,
             count: self.count,
             applied: self.applied,
         }

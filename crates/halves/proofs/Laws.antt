@@ -84,7 +84,8 @@ unfolding keeps gathered
 halved-start l t d q = record { kept = refl; names = refl; sums = refl }
 
 pub halved-end : (x : BucketState) (d q i : ℕ) (ks vs : List ℕ) (k : ℕ) → Halved (x .accounts) (x .totals) d q i ks vs k → i ≡ sizeOf x
-    → record { accounts = ks; totals = vs; settled = x .settled; answers = x .answers; count = k; applied = 0 } ≡ halfOf x d q
+    → record { accounts = ks; totals = vs; settled = x .settled; answers = x .answers; posted = x .posted; count = k; applied = 0 }
+    ≡ halfOf x d q
 unfolding halfOf
 halved-end x d q i ks vs k h e = rw (h .names, h .sums, h .kept, e)
 
@@ -100,4 +101,5 @@ half-sized x d q z =
       totals = length-gathered (x .totals) _ (omega arith);
       settled = z .settled;
       answers = z .answers;
+      posted = z .posted;
     }

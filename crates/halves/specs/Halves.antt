@@ -18,7 +18,8 @@ keeps accounts d q (suc k) =
 unfoldable pub gathered : List ℕ → List ℕ → List ℕ
 gathered l positions = map (λ i. getD l i 0) positions ++ replicate (arraySize - length positions) 0
 
--- "all settled tickets and answers copied", applied bits 0, and the accounts with the first d bits q, in their order
+-- "all settled tickets and answers copied", an answer's total with it, applied bits 0, and the accounts with the first
+-- d bits q, in their order
 unfoldable pub halfOf : BucketState → ℕ → ℕ → BucketState
 halfOf x d q =
     let positions : List ℕ = keeps (x .accounts) d q (sizeOf x) in
@@ -27,6 +28,7 @@ halfOf x d q =
       totals = gathered (x .totals) positions;
       settled = x .settled;
       answers = x .answers;
+      posted = x .posted;
       count = length positions;
       applied = 0;
     }

@@ -13,6 +13,7 @@ pub fn half(state: BucketState, d: u64, q: u64) -> BucketState
     let old_totals = state.totals;
     let settled = state.settled;
     let answers = state.answers;
+    let posted = state.posted;
     let n = state.size();
     let mut accounts = [0u64; ARRAY_SIZE];
     let mut totals = [0u64; ARRAY_SIZE];
@@ -32,6 +33,7 @@ pub fn half(state: BucketState, d: u64, q: u64) -> BucketState
         totals,
         settled,
         answers,
+        posted,
         count: kept as u64,
         applied: 0,
     }

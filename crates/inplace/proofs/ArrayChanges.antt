@@ -10,7 +10,7 @@ use mathlib.Core.List.{List, [], _∷_}
 use lib.ListN.{length, getD, set, take}
 use lib.Seq.{length-take-le, getD-take, getD-set-other}
 use Rattle.interface.specs.Limits.{greatestCapacity}
-use Rattle.fields.specs.Fields.{recordCount, recordApplied, accountsFrom, totalsFrom, settledFrom, answersFrom}
+use Rattle.fields.specs.Fields.{recordCount, recordApplied, accountsFrom, totalsFrom, settledFrom, answersFrom, postedFrom}
 use Rattle.arrays.specs.Arrays.{insertedIn, removedFrom}
 use Rattle.lists.specs.Parts.{part, overlay}
 use Rattle.lists.proofs.PartLaws.{set-overlay, length-overlay, length-part, getD-part, part-ext, getD-overlay-in, getD-overlay-before, getD-overlay-after, overlay-ext}
@@ -147,17 +147,18 @@ next-array l {m} {w} {at} {c} {k} {F} to kept y h = (
   λ i g. y .run .elsewhere i (inr (omega arith)) ∙ kept i (omega arith),
 )
 
-module _ (l : List ℕ) (q b n c k bits : ℕ) (F G H K : List ℕ → List ℕ) (fit : k ≤ b) (m₁ m₂ m₃ m₄ m₅ : List ℕ)
+module _ (l : List ℕ) (q b n c k bits : ℕ) (F G H K L : List ℕ → List ℕ) (fit : k ≤ b) (m₁ m₂ m₃ m₄ m₅ m₆ : List ℕ)
     (e₁ : m₁ ≡ set (set l (q + recordCount) k) (q + recordApplied) bits) (y₂ : Changed m₁ m₂ (accountsFrom q) c k F)
     (y₃ : Changed m₂ m₃ (totalsFrom q b) c k G) (y₄ : Changed m₃ m₄ (settledFrom q b) n n H)
-    (y₅ : Changed m₄ m₅ (answersFrom q b n) n n K) where
+    (y₅ : Changed m₄ m₅ (answersFrom q b n) n n K) (y₆ : Changed m₅ m₆ (postedFrom q b n) n n L) where
   pub arrays-stored :
-      m₅
+      m₆
       ≡ storedState l q b n (record {
         accounts = F (copied l (accountsFrom q) c);
         totals = G (copied l (totalsFrom q b) c);
         settled = H (copied l (settledFrom q b) n);
         answers = K (copied l (answersFrom q b n) n);
+        posted = L (copied l (postedFrom q b n) n);
         count = k;
         applied = bits;
       })
@@ -169,5 +170,6 @@ module _ (l : List ℕ) (q b n c k bits : ℕ) (F G H K : List ℕ → List ℕ)
       let r₂ = next-array l (totalsFrom q b) first y₂ (omega arith) in
       let r₃ = next-array l (settledFrom q b) (r₂ .1) y₃ (omega arith) in
       let r₄ = next-array l (answersFrom q b n) (r₃ .1) y₄ (omega arith) in
-      let r₅ = next-array l (answersFrom q b n + n) (r₄ .1) y₅ (omega arith) in
-      state-stored l m₃ m₅ q b n k _ (sym (least-same k b fit)) (r₃ .0 ∙ rw (r₂ .0, e₁)) (r₅ .0 ∙ rw (r₄ .0))
+      let r₅ = next-array l (postedFrom q b n) (r₄ .1) y₅ (omega arith) in
+      let r₆ = next-array l (postedFrom q b n + n) (r₅ .1) y₆ (omega arith) in
+      state-stored l m₃ m₆ q b n k _ (sym (least-same k b fit)) (r₃ .0 ∙ rw (r₂ .0, e₁)) (r₆ .0 ∙ rw (r₅ .0, r₄ .0))

@@ -1,15 +1,20 @@
 -- A round on a bucket's record, and one worker's update alone, for any words. Rests on what a round makes of a bucket's
 -- state, and on the record's words.
-use Prim.Native.Nat.{ℕ, _+_, _*_}
+use Prim.Native.Nat.{ℕ, _+_, _*_, _≤_, _<_}
+use mathlib.Core.Path.{_≡_}
 use mathlib.Core.List.{List}
 use lib.Dec.{eqb}
+use lib.ListN.{length}
 use Rattle.interface.specs.declared.Settings.{Settings}
-use Rattle.fields.specs.Fields.{slotSize, workerToggle, workerSlots, recordApplied, recordDepth}
+use Rattle.fields.specs.Fields.{slotSize, workerToggle, workerSlots, recordCount, recordApplied, recordDepth, widestRecord}
 use Rattle.machine.specs.Choice.{if_then_else_}
 use Rattle.rounds.specs.Rounds.{carryOf, withApplied, roundOf}
 use Rattle.rules.specs.declared.Descriptor.{Descriptor}
+use Rattle.arrays.specs.declared.Position.{Position}
+use Rattle.bucket.specs.declared.BucketState.{BucketState}
+use Rattle.bucket.specs.State.{putOf, settleOf}
 use Rattle.lists.specs.Parts.{part}
-use Rattle.layout.specs.Shape.{word}
+use Rattle.layout.specs.Shape.{word, Fits}
 use Rattle.record.specs.Bucket.{bucketAt}
 use Rattle.storing.specs.Stores.{withBucketAt}
 
@@ -23,6 +28,20 @@ roundAt l s p q =
     then l
     else withBucketAt l s q (roundOf (bucketAt l s q) slots s (word l (q + recordDepth)) toggle)
 
--- the record at q after worker j's update alone, with other applied bits
+-- what an update in place requires of the words: they fit, the record at q is inside, with c accounts and room
+abbrev pub HasRoom : List ℕ → Settings → ℕ → ℕ → Type 0
+HasRoom l s q c =
+    Fits l s × ((q + widestRecord ≤ length l) × ((c ≡ word l (q + recordCount)) × (c < s .capacity)))
+
+-- the record at q in another state, with other applied bits
+abbrev pub recordAs : List ℕ → Settings → ℕ → ℕ → BucketState → List ℕ
+recordAs l s q bits x = withBucketAt l s q (withApplied x bits)
+
+-- after the update's total was set at position p, and worker j's ticket settled with an answer's number and total
+unfoldable pub putAt : List ℕ → Settings → ℕ → ℕ → ℕ → Position → Descriptor → ℕ → ℕ → List ℕ
+putAt l s q bits j p u answer posted =
+    recordAs l s q bits (settleOf (putOf (bucketAt l s q) p (u .account) (u .total)) j (u .ticket) answer posted)
+
+-- after worker j's update alone
 unfoldable pub ownAt : List ℕ → Settings → ℕ → ℕ → ℕ → Descriptor → List ℕ
-ownAt l s q bits j u = withBucketAt l s q (withApplied (carryOf (bucketAt l s q) j u) bits)
+ownAt l s q bits j u = recordAs l s q bits (carryOf (bucketAt l s q) j u)

@@ -7,17 +7,19 @@ use mathlib.Core.Path.{_≡_, refl, sym, _∙_, ap}
 use mathlib.Core.Logic.{_≢_}
 use mathlib.Core.List.{List}
 use lib.Dec.{ltb, eqb}
-use Rattle.interface.specs.Numbers.{kindInsert}
+use Rattle.interface.specs.Numbers.{kindInsert, kindPost}
 use Rattle.interface.specs.declared.Settings.{Settings}
 use Rattle.fields.specs.Fields.{slotSize}
 use Rattle.machine.proofs.laws.Base.{if-elim}
 use Rattle.bucket.specs.State.{arraySize, sizeOf, searchOf, putOf, removeOf, settleOf}
-use Rattle.rounds.specs.Rounds.{carryOf, helpOf, helpedOf, withApplied, roundOf}
+use Rattle.rounds.specs.Rounds.{postedOf, postOf, carryOf, helpOf, helpedOf, withApplied, roundOf}
 use Rattle.rules.specs.Rules.{descriptorIn, bit}
 use Rattle.bucket.specs.declared.BucketState.{BucketState}
 use Rattle.rules.specs.declared.Descriptor.{Descriptor}
 use Rattle.arrays.specs.declared.Position.{Position}
 use Rattle.arrays.specs.declared.Position.the-variants.{At, Before}
+use Rattle.sums.specs.declared.Sum.{Sum}
+use Rattle.sums.specs.declared.Sum.the-variants.{Within, Outside}
 use Rattle.rules.proofs.Laws.{pending-same}
 use Rattle.rounds.proofs.Laws.{help-left}
 
@@ -33,11 +35,18 @@ unfolding removeOf
 remove-applied x (At i) = refl
 remove-applied x (Before i) = refl
 
+posted-applied : (x : BucketState) (j : ℕ) (p : Position) (u : Descriptor) (v : Sum) → postedOf x j p u v .applied ≡ x .applied
+unfolding postedOf settleOf
+posted-applied x j p u (Within total) = put-applied x p (u .account) total
+posted-applied x j p u Outside = refl
+
 carry-applied : (x : BucketState) (j : ℕ) (u : Descriptor) → carryOf x j u .applied ≡ x .applied
-unfolding carryOf settleOf
+unfolding carryOf postOf settleOf
 carry-applied x j u =
-    if-elim (λ (y : BucketState). y .applied ≡ x .applied) (eqb (u .kind) kindInsert) _ _
-    (λ e. put-applied x (searchOf x (u .account)) (u .account) (u .total)) (λ e. remove-applied x (searchOf x (u .account)))
+    let p : Position = searchOf x (u .account) in
+    if-elim (λ (y : BucketState). y .applied ≡ x .applied) (eqb (u .kind) kindInsert) _ _ (λ e. put-applied x p (u .account) (u .total))
+    (λ e. if-elim (λ (y : BucketState). y .applied ≡ x .applied) (eqb (u .kind) kindPost) _ _ (λ f. posted-applied x j p u _)
+    (λ f. remove-applied x p))
 
 help-applied : (x : BucketState) (s : Settings) (d toggle j : ℕ) (u : Descriptor) → helpOf x s d toggle j u .applied ≡ x .applied
 unfolding helpOf

@@ -10,7 +10,7 @@ use mathlib.Core.List.{List}
 use lib.ListN.{length, getD, length-set}
 use borrow.Author.Tests.{le-ltb, lt-ltb, le-leb, leb-true}
 use Rattle.interface.specs.declared.Settings.{Settings}
-use Rattle.fields.specs.Fields.{slotKind, slotAccount, slotTotal, slotTicket, slotSize, workerToggle, workerSlots, recordCount, recordApplied, recordDepth, accountsFrom, totalsFrom, settledFrom, answersFrom, widestRecord}
+use Rattle.fields.specs.Fields.{slotKind, slotAccount, slotTotal, slotTicket, slotSize, workerToggle, workerSlots, recordCount, recordApplied, recordDepth, accountsFrom, totalsFrom, settledFrom, answersFrom, postedFrom, widestRecord}
 use Rattle.fields.specs.Regions.{readAt}
 use Rattle.machine.proofs.laws.Base.{if-false}
 use Rattle.rounds.specs.Rounds.{carryOf, withApplied}
@@ -29,11 +29,11 @@ use Rattle.record.proofs.States.{loaded-count}
 use Rattle.layout.specs.Shape.{word, Fits}
 use Rattle.record.specs.Bucket.{bucketAt, settledTicket}
 use Rattle.storing.specs.Stores.{withBucketAt}
-use Rattle.inplace.specs.InPlace.{ownAt, roundAt}
+use Rattle.inplace.specs.InPlace.{HasRoom, ownAt, roundAt}
 use Rattle.rules.proofs.Bits.{flip-own, flip-others}
 use Rattle.inplace.proofs.Rounds.{round-done}
 use Rattle.inplace.proofs.ArrayChanges.{array-kept, arrays-stored}
-use Rattle.inplace.proofs.OwnUpdate.{Required, firstIn}
+use Rattle.inplace.proofs.OwnUpdate.{firstIn}
 use Rattle.own.proofs.OneHelped.{helping, round-one}
 
 -- what a round of worker w, whose record is at p, has tested: the toggle that it has read differs from the applied bits by its own bit,
@@ -101,12 +101,13 @@ module _ {l : List ℕ} {s : Settings} {p q w toggle count : ℕ} {back : Bool} 
       let a = y .fits .workers in
       let c : ℕ = before .count in
       let h : c ≤ s .capacity = loaded-count l q (s .capacity) (s .workers) in
-      arrays-stored l q (s .capacity) (s .workers) c c toggle (λ v. v) (λ v. v) (λ v. v) (λ v. v) h m m m m m
+      arrays-stored l q (s .capacity) (s .workers) c c toggle (λ v. v) (λ v. v) (λ v. v) (λ v. v) (λ v. v) h m m m m m m
       (e ∙ ap (λ (o : ℕ). firstIn l q o toggle) counted)
       (array-kept m (accountsFrom q) c (omega arith) m refl (omega arith))
       (array-kept m (totalsFrom q (s .capacity)) c (omega arith) m refl (omega arith))
       (array-kept m (settledFrom q (s .capacity)) (s .workers) (omega arith) m refl (omega arith))
       (array-kept m (answersFrom q (s .capacity) (s .workers)) (s .workers) (omega arith) m refl (omega arith))
+      (array-kept m (postedFrom q (s .capacity) (s .workers)) (s .workers) (omega arith) m refl (omega arith))
 
   -- a full bucket's count is stored as its capacity
   pub own-full : {m : List ℕ} → back ≡ true → m ≡ firstIn l q (s .capacity) toggle → m ≡ roundAt l s p q
@@ -118,8 +119,8 @@ module _ {l : List ℕ} {s : Settings} {p q w toggle count : ℕ} {back : Bool} 
       round-is before (first-stored (s .capacity) n e)
       (help-back before s depth toggle w _ (le-leb (s .capacity) (before .count) (omega arith)))
 
-  pub own-required : {K : Type 0} → back ≡ false → K → Required l s q count w K
-  own-required t k = (y .fits, (y .worker, (y .inside, (y .counted, (room-left s depth count (sym (y .held) ∙ t), k)))))
+  pub own-required : {K : Type 0} → back ≡ false → K → HasRoom l s q count × ((w < s .workers) × K)
+  own-required t k = ((y .fits, (y .inside, (y .counted, room-left s depth count (sym (y .held) ∙ t)))), (y .worker, k))
 
   -- the bucket takes updates; u is what was read in the worker's own slot
   module _ (t : back ≡ false) {u : Descriptor} (read : u ≡ descriptorIn l (readAt p w)) {settled : ℕ}

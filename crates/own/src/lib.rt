@@ -10,7 +10,9 @@ use fields::RECORD_COUNT;
 use fields::RECORD_DEPTH;
 use inplace::delete_own;
 use inplace::insert_own;
+use inplace::post_own;
 use interface::KIND_INSERT;
+use interface::KIND_POST;
 use interface::Settings;
 use layout::addresses::slot_read;
 use record::settled_ticket;
@@ -35,6 +37,10 @@ pub fn own_round(words: &mut [u64], g: Settings, w: usize, q: usize, toggle: u64
     let c = count as usize;
     if u.kind == KIND_INSERT {
         insert_own(words, g, q, c, toggle, w, u);
+        return;
+    }
+    if u.kind == KIND_POST {
+        post_own(words, g, q, c, toggle, w, u);
         return;
     }
     delete_own(words, g, q, c, toggle, w, u);

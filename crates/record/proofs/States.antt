@@ -1,4 +1,4 @@
--- Laws of a bucket's state that is loaded in two loops: two arrays at a time, one item of each at a time.
+-- Laws of a bucket's state that is loaded in two loops: two or three arrays at a time, one item of each at a time.
 -- Rests on the laws of runs.
 use Prim.Native.Nat.{ℕ, _+_, _≤_, _<_}
 use mathlib.Core.Path.{_≡_, refl, _∙_}
@@ -7,7 +7,7 @@ use mathlib.Core.List.{List}
 use native.Mathlib.Nat.{add-assoc}
 use native.Mathlib.Omega.{arith}
 use lib.ListN.{getD, set}
-use Rattle.fields.specs.Fields.{recordCount, recordApplied, recordToggle, recordAccounts, accountsFrom, totalsFrom, settledFrom, answersFrom, recordSize}
+use Rattle.fields.specs.Fields.{recordCount, recordApplied, recordToggle, recordAccounts, accountsFrom, totalsFrom, settledFrom, answersFrom, postedFrom, recordSize}
 use Rattle.bucket.specs.declared.BucketState.{BucketState}
 use Rattle.memory.specs.Words.{least}
 use Rattle.record.specs.Loads.{copied, loadedState}
@@ -15,21 +15,30 @@ use Rattle.record.proofs.Runs.{copied-more, copied-same, length-copied}
 use Rattle.memory.proofs.Lesser.{least-bound}
 use Rattle.bucket.proofs.Sizes.{Sized}
 
--- the state after i accounts and j workers, c and d the count and the applied bits; p, t, u and v are the addresses of the four runs
-abbrev pub loading : List ℕ → ℕ → ℕ → ℕ → ℕ → ℕ → ℕ → ℕ → ℕ → BucketState
-loading l p t u v i j c d =
-    record { accounts = copied l p i; totals = copied l t i; settled = copied l u j; answers = copied l v j; count = c; applied = d }
+-- the state after i accounts and j workers, c and d the count and the applied bits; p, t, u, v and w are the addresses of the five runs
+abbrev pub loading : List ℕ → ℕ → ℕ → ℕ → ℕ → ℕ → ℕ → ℕ → ℕ → ℕ → BucketState
+loading l p t u v w i j c d =
+    record {
+      accounts = copied l p i;
+      totals = copied l t i;
+      settled = copied l u j;
+      answers = copied l v j;
+      posted = copied l w j;
+      count = c;
+      applied = d;
+    }
 
-module _ (s : BucketState) (l : List ℕ) (p t u v i j c d : ℕ) (e : s ≡ loading l p t u v i j c d) where
+module _ (s : BucketState) (l : List ℕ) (p t u v w i j c d : ℕ) (e : s ≡ loading l p t u v w i j c d) where
   pub account-loaded :
       record {
         accounts = set (s .accounts) i (getD l (p + i) 0);
         totals = set (s .totals) i (getD l (t + i) 0);
         settled = s .settled;
         answers = s .answers;
+        posted = s .posted;
         count = s .count;
         applied = s .applied;
-      } ≡ loading l p t u v (i + 1) j c d
+      } ≡ loading l p t u v w (i + 1) j c d
   account-loaded = rw (e, copied-more _ l p i refl, copied-more _ l t i refl)
 
   pub worker-loaded :
@@ -38,13 +47,15 @@ module _ (s : BucketState) (l : List ℕ) (p t u v i j c d : ℕ) (e : s ≡ loa
         totals = s .totals;
         settled = set (s .settled) j (getD l (u + j) 0);
         answers = set (s .answers) j (getD l (v + j) 0);
+        posted = set (s .posted) j (getD l (w + j) 0);
         count = s .count;
         applied = s .applied;
-      } ≡ loading l p t u v i (j + 1) c d
-  worker-loaded = rw (e, copied-more _ l u j refl, copied-more _ l v j refl)
+      } ≡ loading l p t u v w i (j + 1) c d
+  worker-loaded = rw (e, copied-more _ l u j refl, copied-more _ l v j refl, copied-more _ l w j refl)
 
 pub state-loaded : (s : BucketState) (l : List ℕ) (q b n c : ℕ) → c ≡ least (getD l (q + recordCount) 0) b
-    → s ≡ loading l (accountsFrom q) (totalsFrom q b) (settledFrom q b) (answersFrom q b n) c n c (getD l (q + recordApplied) 0)
+    → s ≡ loading l (accountsFrom q) (totalsFrom q b) (settledFrom q b) (answersFrom q b n) (postedFrom q b n) c n c
+    (getD l (q + recordApplied) 0)
     → s ≡ loadedState l q b n
 unfolding loadedState
 state-loaded s l q b n c e f = f ∙ simp e
@@ -52,7 +63,13 @@ state-loaded s l q b n c e f = f ∙ simp e
 pub loaded-sized : (l : List ℕ) (q b n : ℕ) → Sized (loadedState l q b n)
 unfolding loadedState
 loaded-sized l q b n =
-    record { accounts = length-copied l _ _; totals = length-copied l _ _; settled = length-copied l _ _; answers = length-copied l _ _ }
+    record {
+      accounts = length-copied l _ _;
+      totals = length-copied l _ _;
+      settled = length-copied l _ _;
+      answers = length-copied l _ _;
+      posted = length-copied l _ _;
+    }
 
 pub loaded-count : (l : List ℕ) (q b n : ℕ) → loadedState l q b n .count ≤ b
 unfolding loadedState
@@ -78,6 +95,7 @@ loaded-kept l m q p b n h =
       run (totalsFrom 0 b) (totalsFrom q b) (totalsFrom p b) c (omega arith) (omega arith) (omega arith) (omega arith),
       run (settledFrom 0 b) (settledFrom q b) (settledFrom p b) n (omega arith) (omega arith) (omega arith) (omega arith),
       run (answersFrom 0 b n) (answersFrom q b n) (answersFrom p b n) n (omega arith) (omega arith) (omega arith) (omega arith),
+      run (postedFrom 0 b n) (postedFrom q b n) (postedFrom p b n) n (omega arith) (omega arith) (omega arith) (omega arith),
       h recordApplied (omega arith) (inl (omega arith)),
     )
 

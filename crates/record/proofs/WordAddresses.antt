@@ -1,12 +1,12 @@
--- The addresses of a record's words, in numbers alone: they are inside the words, and fit 64 bits. So are those of the two words
--- that a loop copies at each step, the same item of two arrays. Rests on the fields of a bucket record.
+-- The addresses of a record's words, in numbers alone: they are inside the words, and fit 64 bits. So are those of the words that a
+-- loop copies at each step, the same item of two arrays or of three. Rests on the fields of a bucket record.
 use Prim.Native.Nat.{ℕ, _+_, _-_, _*_, _^_, _≤_, _<_}
 use native.Mathlib.Omega.{arith}
 use borrow.Author.Needs.{needs}
 use mir.Syntax.{w64}
 use mir.Val.{Fits}
 use Rattle.interface.specs.Limits.{greatestWorkers, greatestCapacity}
-use Rattle.fields.specs.Fields.{accountsFrom, totalsFrom, settledFrom, answersFrom, widestRecord}
+use Rattle.fields.specs.Fields.{accountsFrom, totalsFrom, settledFrom, answersFrom, postedFrom, widestRecord}
 
 -- a record at q inside `size` words, which are few enough for a slice
 pub record Room (q b n size : ℕ) : Type 0 where
@@ -33,6 +33,7 @@ pub record Begins (q b n : ℕ) : Type 0 where
   pub totals : Fits w64 (totalsFrom q b)
   pub settled : Fits w64 (settledFrom q b)
   pub answers : Fits w64 (answersFrom q b n)
+  pub posted : Fits w64 (postedFrom q b n)
 
 pub begins : {q b n size : ℕ} → Room q b n size → Begins q b n
 begins {q} {b} {n} {size} r =
@@ -40,7 +41,7 @@ begins {q} {b} {n} {size} r =
     let low = r .low in
     let few = r .capacity in
     let most = r .workers in
-    record { accounts = search needs; totals = search needs; settled = search needs; answers = search needs }
+    record { accounts = search needs; totals = search needs; settled = search needs; answers = search needs; posted = search needs }
 
 -- a step of a loop leaves fewer items
 pub nearer : {i c : ℕ} → i < c → c - (i + 1) < c - i
@@ -82,9 +83,16 @@ accounts-pair q b n i c size r h k =
     let few = r .capacity in
     pair q (accountsFrom q) (totalsFrom q b) i c size (r .inside) (r .low) h (omega arith) (omega arith) (omega arith)
 
-pub workers-pair :
-    (q b n j size : ℕ) → Room q b n size → j < n → Pair q (settledFrom q b) (answersFrom q b n) j
-workers-pair q b n j size r h =
-    let few = r .capacity in
-    let most = r .workers in
-    pair q (settledFrom q b) (answersFrom q b n) j n size (r .inside) (r .low) h (omega arith) (omega arith) (omega arith)
+-- a worker's ticket and answer, and the answer and its total
+module _ (q b n j size : ℕ) (r : Room q b n size) (h : j < n) where
+  pub workers-pair : Pair q (settledFrom q b) (answersFrom q b n) j
+  workers-pair =
+      let few = r .capacity in
+      let most = r .workers in
+      pair q (settledFrom q b) (answersFrom q b n) j n size (r .inside) (r .low) h (omega arith) (omega arith) (omega arith)
+
+  pub posted-pair : Pair q (answersFrom q b n) (postedFrom q b n) j
+  posted-pair =
+      let few = r .capacity in
+      let most = r .workers in
+      pair q (answersFrom q b n) (postedFrom q b n) j n size (r .inside) (r .low) h (omega arith) (omega arith) (omega arith)

@@ -4,7 +4,7 @@ use Prim.Native.Nat.{ℕ, _+_}
 use mathlib.Core.Bool.{Bool}
 use mathlib.Core.List.{List}
 use Rattle.interface.specs.declared.Settings.{Settings}
-use Rattle.fields.specs.Fields.{recordCount, recordDepth, settledFrom, answersFrom}
+use Rattle.fields.specs.Fields.{recordCount, recordDepth, settledFrom, answersFrom, postedFrom}
 use Rattle.rules.specs.Rules.{holdsBackBy, splittableBy, crowdedBy}
 use Rattle.bucket.specs.declared.BucketState.{BucketState}
 use Rattle.record.specs.Loads.{loadedState}
@@ -24,9 +24,12 @@ splittableAt l s q = splittableBy s (word l (q + recordDepth)) (word l (q + reco
 abbrev pub crowdedAt : List ℕ → Settings → ℕ → Bool
 crowdedAt l s q = crowdedBy s (word l (q + recordDepth)) (word l (q + recordCount))
 
--- worker j's last settled ticket, and its answer's number
+-- worker j's last settled ticket, its answer's number, and the word of the total that the answer has
 abbrev pub settledTicket : List ℕ → Settings → ℕ → ℕ → ℕ
 settledTicket l s q j = word l (settledFrom q (s .capacity) + j)
 
 abbrev pub settledAnswer : List ℕ → Settings → ℕ → ℕ → ℕ
 settledAnswer l s q j = word l (answersFrom q (s .capacity) (s .workers) + j)
+
+abbrev pub settledTotal : List ℕ → Settings → ℕ → ℕ → ℕ
+settledTotal l s q j = word l (postedFrom q (s .capacity) (s .workers) + j)

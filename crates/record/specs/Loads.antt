@@ -5,7 +5,7 @@ use mathlib.Core.List.{List}
 use lib.ListN.{getD, set, replicate}
 use Rattle.bucket.specs.declared.BucketState.{BucketState}
 use Rattle.interface.specs.Limits.{greatestCapacity}
-use Rattle.fields.specs.Fields.{recordCount, recordApplied, accountsFrom, totalsFrom, settledFrom, answersFrom}
+use Rattle.fields.specs.Fields.{recordCount, recordApplied, accountsFrom, totalsFrom, settledFrom, answersFrom, postedFrom}
 use Rattle.memory.specs.Words.{least}
 
 -- k words from `at` on, and zeros after them: an array of a state
@@ -22,6 +22,7 @@ loadedState l q b n =
       totals = copied l (totalsFrom q b) c;
       settled = copied l (settledFrom q b) n;
       answers = copied l (answersFrom q b n) n;
+      posted = copied l (postedFrom q b n) n;
       count = c;
       applied = getD l (q + recordApplied) 0;
     }

@@ -7,7 +7,7 @@ ghost use Rattle.interface.specs.Limits.{greatestWorkers, greatestCapacity};
 ghost use Rattle.fields.specs.Fields.{widestRecord};
 ghost use Rattle.layout.specs.Shape.{Fits};
 ghost use Rattle.record.specs.Loads.{loadedState};
-ghost use Rattle.record.specs.Bucket.{settledTicket, settledAnswer};
+ghost use Rattle.record.specs.Bucket.{settledTicket, settledAnswer, settledTotal};
 use bucket::ARRAY_SIZE;
 use bucket::BucketState;
 use fields::RECORD_ACCOUNTS;
@@ -28,6 +28,7 @@ pub fn load_state(words: &[u64], q: usize, b: usize, n: usize) -> BucketState
         totals: zeros,
         settled: zeros,
         answers: zeros,
+        posted: zeros,
         count: c as u64,
         applied: words[q + RECORD_APPLIED],
     };
@@ -41,10 +42,12 @@ pub fn load_state(words: &[u64], q: usize, b: usize, n: usize) -> BucketState
     }
     let settled = totals + b;
     let answers = settled + n;
+    let posted = answers + n;
     let mut j: usize = 0;
     while j < n {
         s.settled[j] = words[settled + j];
         s.answers[j] = words[answers + j];
+        s.posted[j] = words[posted + j];
         j += 1;
     }
     s
@@ -66,4 +69,14 @@ pub fn settled_answer(words: &[u64], g: Settings, q: usize, j: usize) -> u64
 {
     let b = g.capacity as usize;
     memory::get(words, q + RECORD_ACCOUNTS + b + b + g.workers as usize + j)
+}
+
+// The word of the total that this answer has.
+pub fn settled_total(words: &[u64], g: Settings, q: usize, j: usize) -> u64
+    requires { ⌜ Fits (now words) g × ((j < g .workers) × (q + widestRecord ≤ length (now words))) ⌝ }
+    ensures { λ r. ⌜ r ≡ settledTotal (now (words .entry)) g q j ⌝ }
+{
+    let b = g.capacity as usize;
+    let n = g.workers as usize;
+    memory::get(words, q + RECORD_ACCOUNTS + b + b + n + n + j)
 }

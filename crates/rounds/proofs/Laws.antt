@@ -12,18 +12,22 @@ use lib.Dec.{ltb, eqb}
 use lib.ListN.{length, getD, set, List·getD-eq-default}
 use lib.Seq.{getD-set-other}
 use borrow.Author.Tests.{eq-eqb, ne-eqb}
-use Rattle.interface.specs.Numbers.{kindInsert}
+use Rattle.interface.specs.Numbers.{kindInsert, kindPost, answerNumber}
+use Rattle.interface.specs.declared.Answer.the-variants.{Overrun}
 use Rattle.interface.specs.declared.Settings.{Settings}
 use Rattle.fields.specs.Fields.{slotTicket, slotSize}
 use Rattle.machine.specs.Choice.{if_then_else_}
 use Rattle.machine.proofs.laws.Base.{if-elim, if-true, if-false, if-ap, if-same, and-true, and-left-false, and-right-false}
-use Rattle.bucket.specs.State.{arraySize, sizeOf, searchOf, putOf, removeOf, settleOf}
-use Rattle.rounds.specs.Rounds.{carryOf, helpOf, helpedOf, withApplied, roundOf}
-use Rattle.rules.specs.Rules.{holdsBackBy, descriptorIn, insertAnswer, deleteAnswer, pendingBy}
+use Rattle.bucket.specs.State.{arraySize, sizeOf, searchOf, totalIn, putOf, removeOf, settleOf}
+use Rattle.rounds.specs.Rounds.{postedOf, postOf, carryOf, helpOf, helpedOf, withApplied, roundOf}
+use Rattle.rules.specs.Rules.{holdsBackBy, descriptorIn, insertAnswer, deleteAnswer, postedNumber, pendingBy}
 use Rattle.bucket.specs.declared.BucketState.{BucketState}
 use Rattle.rules.specs.declared.Descriptor.{Descriptor}
 use Rattle.arrays.specs.declared.Position.{Position}
 use Rattle.arrays.specs.declared.Position.the-variants.{At, Before}
+use Rattle.sums.specs.declared.Sum.{Sum}
+use Rattle.sums.specs.declared.Sum.the-variants.{Within, Outside}
+use Rattle.sums.specs.Sums.{sumOf}
 use Rattle.rules.proofs.Laws.{pending-settled}
 
 -- ---- one update
@@ -31,14 +35,42 @@ use Rattle.rules.proofs.Laws.{pending-settled}
 module _ (x y : BucketState) (j : ℕ) (u : Descriptor) (answer : ℕ) (p : Position) (e : p ≡ searchOf x (u .account)) where
   pub carry-insert :
       u .kind ≡ kindInsert → y ≡ putOf x p (u .account) (u .total) → answer ≡ insertAnswer p
-      → settleOf y j (u .ticket) answer ≡ carryOf x j u
+      → settleOf y j (u .ticket) answer 0 ≡ carryOf x j u
   unfolding carryOf if_then_else_
   carry-insert k g h = rw (g, h, e, eq-eqb (u .kind) kindInsert k)
 
   pub carry-delete :
-      u .kind ≢ kindInsert → y ≡ removeOf x p → answer ≡ deleteAnswer p → settleOf y j (u .ticket) answer ≡ carryOf x j u
+      (u .kind ≢ kindInsert) × (u .kind ≢ kindPost) → y ≡ removeOf x p → answer ≡ deleteAnswer p
+      → settleOf y j (u .ticket) answer 0 ≡ carryOf x j u
   unfolding carryOf if_then_else_
-  carry-delete k g h = rw (g, h, e, ne-eqb (u .kind) kindInsert k)
+  carry-delete k g h = rw (g, h, e, ne-eqb (u .kind) kindInsert (k .0), ne-eqb (u .kind) kindPost (k .1))
+
+-- a post, by what its sum is
+module _ (x : BucketState) (j : ℕ) (p : Position) (u : Descriptor) where
+  pub post-within :
+      (y : BucketState) (total : ℕ) → sumOf (totalIn x p) (u .total) ≡ Within total → y ≡ putOf x p (u .account) total
+      → settleOf y j (u .ticket) postedNumber total ≡ postOf x j p u
+  unfolding postOf postedOf
+  post-within y total e g = rw (e, g)
+
+  pub post-outside :
+      sumOf (totalIn x p) (u .total) ≡ Outside → settleOf x j (u .ticket) (answerNumber Overrun) 0 ≡ postOf x j p u
+  unfolding postOf postedOf
+  post-outside e = rw e
+
+  module _ (found : p ≡ searchOf x (u .account)) (kind : u .kind ≡ kindPost) where
+    pub carry-post : postOf x j p u ≡ carryOf x j u
+    unfolding carryOf if_then_else_
+    carry-post = rw (found, kind)
+
+    pub carry-posted :
+        (y : BucketState) (total : ℕ) → sumOf (totalIn x p) (u .total) ≡ Within total → y ≡ putOf x p (u .account) total
+        → settleOf y j (u .ticket) postedNumber total ≡ carryOf x j u
+    carry-posted y total e g = post-within y total e g ∙ carry-post
+
+    pub carry-overrun :
+        sumOf (totalIn x p) (u .total) ≡ Outside → settleOf x j (u .ticket) (answerNumber Overrun) 0 ≡ carryOf x j u
+    carry-overrun e = post-outside e ∙ carry-post
 
 -- ---- help
 
@@ -84,13 +116,20 @@ unfolding removeOf
 remove-settled x (At i) = refl
 remove-settled x (Before i) = refl
 
+posted-settled :
+    (x : BucketState) (j : ℕ) (p : Position) (u : Descriptor) (v : Sum) → postedOf x j p u v .settled ≡ set (x .settled) j (u .ticket)
+unfolding postedOf settleOf
+posted-settled x j p u (Within total) = ap (λ (l : List ℕ). set l j (u .ticket)) (put-settled x p (u .account) total)
+posted-settled x j p u Outside = refl
+
 carry-settled : (x : BucketState) (j : ℕ) (u : Descriptor) → carryOf x j u .settled ≡ set (x .settled) j (u .ticket)
-unfolding carryOf settleOf
+unfolding carryOf postOf settleOf
 carry-settled x j u =
     let p : Position = searchOf x (u .account) in
     if-elim (λ (y : BucketState). y .settled ≡ set (x .settled) j (u .ticket)) (eqb (u .kind) kindInsert) _ _
     (λ e. ap (λ (l : List ℕ). set l j (u .ticket)) (put-settled x p (u .account) (u .total)))
-    (λ e. ap (λ (l : List ℕ). set l j (u .ticket)) (remove-settled x p))
+    (λ e. if-elim (λ (y : BucketState). y .settled ≡ set (x .settled) j (u .ticket)) (eqb (u .kind) kindPost) _ _
+    (λ f. posted-settled x j p u _) (λ f. ap (λ (l : List ℕ). set l j (u .ticket)) (remove-settled x p)))
 
 help-settled :
     (x : BucketState) (s : Settings) (d toggle j : ℕ) (u : Descriptor) (i : ℕ) → i ≢ j

@@ -7,14 +7,16 @@ use lib.Dec.{eqb}
 use mathlib.Core.Path.{_≡_, refl, ap}
 use lib.ListN.{getD}
 use borrow.Author.Tests.{not-true}
-use Rattle.interface.specs.Numbers.{kindInsert}
+use Rattle.interface.specs.Numbers.{kindInsert, kindPost}
 use Rattle.interface.specs.declared.Settings.{Settings}
 use Rattle.machine.proofs.laws.Base.{if-elim, and-parts}
 use Rattle.bucket.specs.State.{searchOf, settleOf}
-use Rattle.rounds.specs.Rounds.{carryOf, helpOf, helpedOf, withApplied, roundOf}
+use Rattle.rounds.specs.Rounds.{postedOf, postOf, carryOf, helpOf, helpedOf, withApplied, roundOf}
 use Rattle.bucket.specs.declared.BucketState.{BucketState}
 use Rattle.rules.specs.declared.Descriptor.{Descriptor}
 use Rattle.arrays.specs.declared.Position.{Position}
+use Rattle.sums.specs.declared.Sum.{Sum}
+use Rattle.sums.specs.declared.Sum.the-variants.{Within, Outside}
 use Rattle.rounds.proofs.Laws.{help-left}
 use Rattle.bucket.proofs.Sizes.{Sized, put-sized, remove-sized, settle-sized, put-count, remove-count}
 use Rattle.rules.specs.Rules.{bit}
@@ -22,12 +24,18 @@ use Rattle.rules.proofs.Laws.{room-left, pending-same}
 
 -- ---- a state's arrays keep their items
 
+posted-sized : (x : BucketState) (j : ℕ) (p : Position) (u : Descriptor) (v : Sum) → Sized x → Sized (postedOf x j p u v)
+unfolding postedOf
+posted-sized x j p u (Within total) z = settle-sized _ j (u .ticket) _ total (put-sized x p (u .account) total z)
+posted-sized x j p u Outside z = settle-sized x j (u .ticket) _ 0 z
+
 pub carry-sized : (x : BucketState) (j : ℕ) (u : Descriptor) → Sized x → Sized (carryOf x j u)
-unfolding carryOf
+unfolding carryOf postOf
 carry-sized x j u z =
     let p : Position = searchOf x (u .account) in
-    if-elim Sized (eqb (u .kind) kindInsert) _ _ (λ e. settle-sized _ j (u .ticket) _ (put-sized x p (u .account) (u .total) z))
-    (λ e. settle-sized _ j (u .ticket) _ (remove-sized x p z))
+    if-elim Sized (eqb (u .kind) kindInsert) _ _ (λ e. settle-sized _ j (u .ticket) _ 0 (put-sized x p (u .account) (u .total) z))
+    (λ e. if-elim Sized (eqb (u .kind) kindPost) _ _ (λ f. posted-sized x j p u _ z)
+    (λ f. settle-sized _ j (u .ticket) _ 0 (remove-sized x p z)))
 
 helped-sized : (x : BucketState) (slots : List ℕ) (s : Settings) (d toggle n : ℕ) → Sized x → Sized (helpedOf x slots s d toggle n)
 unfolding helpedOf helpOf
@@ -40,17 +48,24 @@ pub round-sized : (x : BucketState) (slots : List ℕ) (s : Settings) (d toggle 
 unfolding roundOf withApplied
 round-sized x slots s d toggle z =
     let y = helped-sized x slots s d toggle (s .workers) z in
-    record { accounts = y .accounts; totals = y .totals; settled = y .settled; answers = y .answers }
+    record { accounts = y .accounts; totals = y .totals; settled = y .settled; answers = y .answers; posted = y .posted }
 
 -- ---- counts, and a round that changes nothing
 
 module _ (x : BucketState) where
+  posted-count : (j : ℕ) (p : Position) (u : Descriptor) (v : Sum) → postedOf x j p u v .count ≤ x .count + 1
+  unfolding postedOf settleOf
+  posted-count j p u (Within total) = put-count x p (u .account) total
+  posted-count j p u Outside = omega arith
+
   pub carry-count : (j : ℕ) (u : Descriptor) → carryOf x j u .count ≤ x .count + 1
-  unfolding carryOf settleOf
+  unfolding carryOf postOf settleOf
   carry-count j u =
       let p : Position = searchOf x (u .account) in
       if-elim (λ (z : BucketState). z .count ≤ x .count + 1) (eqb (u .kind) kindInsert) _ _
-      (λ e. put-count x p (u .account) (u .total)) (λ e. remove-count x p)
+      (λ e. put-count x p (u .account) (u .total))
+      (λ e. if-elim (λ (z : BucketState). z .count ≤ x .count + 1) (eqb (u .kind) kindPost) _ _ (λ f. posted-count j p u _)
+      (λ f. remove-count x p))
 
   pub help-count : (s : Settings) (d toggle j : ℕ) (u : Descriptor) → x .count ≤ s .capacity → helpOf x s d toggle j u .count ≤ s .capacity
   unfolding helpOf
@@ -87,6 +102,7 @@ module _ (x : BucketState) (slots : List ℕ) (s : Settings) (d toggle : ℕ) wh
           totals = h i .totals;
           settled = h i .settled;
           answers = h i .answers;
+          posted = h i .posted;
           count = h i .count;
           applied = e i;
         }

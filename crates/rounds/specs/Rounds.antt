@@ -5,25 +5,39 @@ use mathlib.Core.Bool.{not}
 use mathlib.Core.List.{List}
 use lib.Dec.{eqb}
 use lib.ListN.{getD}
-use Rattle.interface.specs.Numbers.{kindInsert}
+use Rattle.interface.specs.Numbers.{kindInsert, kindPost, answerNumber}
 use Rattle.interface.specs.declared.Settings.{Settings}
+use Rattle.interface.specs.declared.Answer.the-variants.{Overrun}
 use Rattle.fields.specs.Fields.{slotSize}
 use Rattle.machine.specs.Choice.{if_then_else_, _and_}
 use Rattle.bucket.specs.declared.BucketState.{BucketState}
 use Rattle.rules.specs.declared.Descriptor.{Descriptor}
 use Rattle.arrays.specs.declared.Position.{Position}
-use Rattle.rules.specs.Rules.{holdsBackBy, descriptorIn, insertAnswer, deleteAnswer, pendingBy}
-use Rattle.bucket.specs.State.{searchOf, putOf, removeOf, settleOf}
+use Rattle.rules.specs.Rules.{holdsBackBy, descriptorIn, insertAnswer, deleteAnswer, postedNumber, pendingBy}
+use Rattle.bucket.specs.State.{searchOf, totalIn, putOf, removeOf, settleOf}
+use Rattle.sums.specs.declared.Sum.{Sum}
+use Rattle.sums.specs.declared.Sum.the-variants.{Within, Outside}
+use Rattle.sums.specs.Sums.{sumOf}
 
 -- ---- one update
 
--- worker j's update carried out; any kind but an insert's is a delete
+-- worker j's post at position p settled, by what its sum is: posted with the new total, or overrun with nothing changed
+unfoldable pub postedOf : BucketState → ℕ → Position → Descriptor → Sum → BucketState
+postedOf x j p u (Within total) = settleOf (putOf x p (u .account) total) j (u .ticket) postedNumber total
+postedOf x j p u Outside = settleOf x j (u .ticket) (answerNumber Overrun) 0
+
+-- "the amount is added to the account's total, an account not there starts from 0 and is made"
+unfoldable pub postOf : BucketState → ℕ → Position → Descriptor → BucketState
+postOf x j p u = postedOf x j p u (sumOf (totalIn x p) (u .total))
+
+-- worker j's update carried out; any kind but an insert's and a post's is a delete; only posted has a total
 unfoldable pub carryOf : BucketState → ℕ → Descriptor → BucketState
 carryOf x j u =
     let p : Position = searchOf x (u .account) in
     if eqb (u .kind) kindInsert
-    then settleOf (putOf x p (u .account) (u .total)) j (u .ticket) (insertAnswer p)
-    else settleOf (removeOf x p) j (u .ticket) (deleteAnswer p)
+    then settleOf (putOf x p (u .account) (u .total)) j (u .ticket) (insertAnswer p) 0
+    else if eqb (u .kind) kindPost then postOf x j p u
+    else settleOf (removeOf x p) j (u .ticket) (deleteAnswer p) 0
 
 -- worker j's update carried out in a bucket of depth d if it is pending, unless the copy takes none
 unfoldable pub helpOf : BucketState → Settings → ℕ → ℕ → ℕ → Descriptor → BucketState
@@ -48,6 +62,7 @@ withApplied x w =
       totals = x .totals;
       settled = x .settled;
       answers = x .answers;
+      posted = x .posted;
       count = x .count;
       applied = w;
     }

@@ -1,24 +1,30 @@
-// What a round does with a bucket's state: one worker's update carried out, and a whole round.
+// What a round does with a bucket's state: one worker's update carried out, a post apart, and a whole round.
 // Each contract is an equality with a definition of specs/, for any values.
 ghost use mathlib.Core.Path.{_≡_};
 ghost use lib.ListN.{length, getD};
 ghost use Rattle.bucket.specs.State.{arraySize};
-ghost use Rattle.rounds.specs.Rounds.{carryOf, roundOf};
+ghost use Rattle.rounds.specs.Rounds.{postOf, carryOf, roundOf};
+use arrays::Position;
 use bucket::ARRAY_SIZE;
 use bucket::BucketState;
 use fields::SLOT_SIZE;
 use fields::SLOT_TICKET;
 use interface::ANSWER_ABSENT;
 use interface::ANSWER_ADDED;
+use interface::ANSWER_OVERRUN;
+use interface::ANSWER_POSTED;
 use interface::ANSWER_REMOVED;
 use interface::ANSWER_REPLACED;
 use interface::KIND_INSERT;
+use interface::KIND_POST;
 use interface::Settings;
 use rules::Descriptor;
 use rules::answer_number;
 use rules::descriptor_at;
 use rules::holds_back;
 use rules::pending;
+use sums::Sum;
+use sums::sum_of;
 
 // What stands at position j of an array, and 0 past the end.
 fn at(a: &[u64; ARRAY_SIZE], j: usize) -> u64
@@ -28,7 +34,21 @@ fn at(a: &[u64; ARRAY_SIZE], j: usize) -> u64
     if j < ARRAY_SIZE { a[j] } else { 0 }
 }
 
-// Worker j's update carried out; any kind but an insert's is a delete.
+// Worker j's post carried out, where a search gave position p.
+fn post(state: BucketState, j: usize, p: Position, u: Descriptor) -> BucketState
+    ensures { λ r. ⌜ r ≡ postOf state j p u ⌝ }
+{
+    match sum_of(state.total(p), u.total) {
+        Sum::Within(total) => {
+            state
+                .put(p, u.account, total)
+                .settle(j, u.ticket, ANSWER_POSTED, total)
+        }
+        Sum::Outside => state.settle(j, u.ticket, ANSWER_OVERRUN, 0),
+    }
+}
+
+// Worker j's update carried out; any kind but an insert's and a post's is a delete.
 pub fn carry(state: BucketState, j: usize, u: Descriptor) -> BucketState
     ensures { λ r. ⌜ r ≡ carryOf state j u ⌝ }
 {
@@ -38,9 +58,17 @@ pub fn carry(state: BucketState, j: usize, u: Descriptor) -> BucketState
             j,
             u.ticket,
             answer_number(p, ANSWER_REPLACED, ANSWER_ADDED),
+            0,
         )
+    } else if u.kind == KIND_POST {
+        post(state, j, p, u)
     } else {
-        state.remove(p).settle(j, u.ticket, answer_number(p, ANSWER_REMOVED, ANSWER_ABSENT))
+        state.remove(p).settle(
+            j,
+            u.ticket,
+            answer_number(p, ANSWER_REMOVED, ANSWER_ABSENT),
+            0,
+        )
     }
 }
 

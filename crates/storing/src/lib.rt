@@ -30,10 +30,12 @@ pub fn store_state(words: &mut [u64], q: usize, b: usize, n: usize, s: BucketSta
     }
     let settled = totals + b;
     let answers = settled + n;
+    let posted = answers + n;
     let mut j: usize = 0;
     while j < n {
         words[settled + j] = s.settled[j];
         words[answers + j] = s.answers[j];
+        words[posted + j] = s.posted[j];
         j += 1;
     }
 }

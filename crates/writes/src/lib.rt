@@ -4,7 +4,7 @@ ghost use mathlib.Core.Path.{_≡_};
 ghost use mathlib.Core.List.{_∷_};
 ghost use Prim.Native.Nat.{_+_, _-_, _≤_, _<_};
 ghost use lib.ListN.{length, set};
-ghost use Rattle.fields.specs.Fields.{recordCount, recordApplied, settledFrom, answersFrom, widestRecord};
+ghost use Rattle.fields.specs.Fields.{recordCount, recordApplied, settledFrom, answersFrom, postedFrom, widestRecord};
 ghost use Rattle.lists.specs.Parts.{part, overlay};
 ghost use Rattle.layout.specs.Shape.{Fits};
 use arrays::lower;
@@ -44,15 +44,26 @@ pub fn put_first(words: &mut [u64], q: usize, count: u64, applied: u64)
     memory::put(words, q + RECORD_APPLIED, applied);
 }
 
-// Worker j's ticket, settled in the record at q with an answer's number.
-pub fn settle(words: &mut [u64], g: Settings, q: usize, j: usize, ticket: u64, answer: u64)
+// Worker j's ticket, settled in the record at q with an answer's number and total.
+pub fn settle(
+    words: &mut [u64],
+    g: Settings,
+    q: usize,
+    j: usize,
+    ticket: u64,
+    answer: u64,
+    total: u64,
+)
     requires { ⌜ Fits (now words) g × ((j < g .workers) × (q + widestRecord ≤ length (now words))) ⌝ }
     ensures { λ _. ⌜ now (words .exit)
-        ≡ set (set (now (words .entry)) (settledFrom q (g .capacity) + j) ticket)
-        (answersFrom q (g .capacity) (g .workers) + j) answer ⌝ }
+        ≡ set (set (set (now (words .entry)) (settledFrom q (g .capacity) + j) ticket)
+        (answersFrom q (g .capacity) (g .workers) + j) answer)
+        (postedFrom q (g .capacity) (g .workers) + j) total ⌝ }
 {
     let b = g.capacity as usize;
+    let n = g.workers as usize;
     let at = q + RECORD_ACCOUNTS + b + b;
     memory::put(words, at + j, ticket);
-    memory::put(words, at + g.workers as usize + j, answer);
+    memory::put(words, at + n + j, answer);
+    memory::put(words, at + n + n + j, total);
 }

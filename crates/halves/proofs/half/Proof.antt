@@ -13,11 +13,11 @@ use Rattle.halves.proofs.half.Statement.{statement}
 use Rattle.halves.proofs.half.Tie as tie
 
 abbrev Inv-loop : tie.InvT-loop
-Inv-loop d q old-accounts old-totals settled answers n accounts₀ totals₀ kept₀ i₀ accounts totals kept i =
+Inv-loop d q old-accounts old-totals settled answers posted n accounts₀ totals₀ kept₀ i₀ accounts totals kept i =
     (n ≤ arraySize) × (i ≤ n) × (kept ≤ i) × Halved old-accounts old-totals d q i accounts totals kept
 
 abbrev μ-loop : tie.MeasureT-loop
-μ-loop d q old-accounts old-totals settled answers n accounts₀ totals₀ kept₀ i₀ accounts totals kept i = n - i
+μ-loop d q old-accounts old-totals settled answers posted n accounts₀ totals₀ kept₀ i₀ accounts totals kept i = n - i
 
 loop-holds : tie.Need-loop-holds Inv-loop μ-loop
 loop-holds c = (rw (c .size .ensures) (size-limit _), search needs, search needs, halved-start _ _ _ _)
@@ -38,7 +38,7 @@ loop-again c =
 returns : tie.Need-returns Inv-loop μ-loop
 returns c =
     let at-loop = c .before in
-    let s = at-loop .before .before .before .before .before .before .args in
+    let s = at-loop .before .before .before .before .before .before .before .args in
     let e = le-antisymm (at-loop .loop .inv .1) (c .loop-test .left) in
     halved-end (s .state) _ _ _ _ _ _ (at-loop .loop .inv .3) (e ∙ at-loop .before .size .ensures)
 

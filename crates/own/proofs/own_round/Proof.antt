@@ -53,18 +53,36 @@ returns-3 c =
     own-carried (held (room .before)) (room .if1 .left) (read .slot-read .ensures) (last .settled-ticket .ensures) (due .if2 .left)
     (done .insert-own .ensures)
 
-delete-own-requires : tie.Need-delete-own-requires
-delete-own-requires c κs =
+post-own-requires : tie.Need-post-own-requires
+post-own-requires c κs =
     let kind = c .before in
-    let due = kind .before .before in
+    let due = kind .before .before .before .before in
     let room = due .before .before .before .before .before .before in
-    own-required (held (room .before)) (room .if1 .left) (kind .if3 .left)
+    own-required (held (room .before)) (room .if1 .left) (kind .if4 .taken)
 
 returns-4 : tie.Need-returns-4
 returns-4 c =
     let done = c .before .before in
     let kind = done .before .before in
-    let due = kind .before .before in
+    let due = kind .before .before .before .before in
+    let last = due .before .before in
+    let read = last .before .before in
+    let room = read .before .before in
+    own-carried (held (room .before)) (room .if1 .left) (read .slot-read .ensures) (last .settled-ticket .ensures) (due .if2 .left)
+    (done .post-own .ensures)
+
+delete-own-requires : tie.Need-delete-own-requires
+delete-own-requires c κs =
+    let kind = c .before in
+    let due = kind .before .before .before .before in
+    let room = due .before .before .before .before .before .before in
+    own-required (held (room .before)) (room .if1 .left) (kind .before .before .if3 .left, kind .if4 .left)
+
+returns-5 : tie.Need-returns-5
+returns-5 c =
+    let done = c .before .before in
+    let kind = done .before .before in
+    let due = kind .before .before .before .before in
     let last = due .before .before in
     let read = last .before .before in
     let room = read .before .before in
@@ -76,4 +94,4 @@ own-round-spec =
     tie.close (tie.spec (λ c. search needs) (λ c κs. search needs) (λ c. search needs) (λ c κs. search needs)
     (λ c κs. search needs) (λ c κs. search needs) (λ c. search needs) returns (λ c κs. search needs)
     (λ c κs. search needs) (λ c κs. search needs) (λ c. search needs) returns-2 insert-own-requires
-    (λ c. search needs) returns-3 delete-own-requires (λ c. search needs) returns-4)
+    (λ c. search needs) returns-3 post-own-requires (λ c. search needs) returns-4 delete-own-requires (λ c. search needs) returns-5)

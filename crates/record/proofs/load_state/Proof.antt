@@ -1,4 +1,4 @@
--- `load_state` loads two arrays at a time. The loops' invariants: the items passed are copied; the measures: the items left.
+-- `load_state` loads two arrays at a time, then three. The loops' invariants: the items passed are copied; the measures: the items left.
 -- Rests on the laws of one item more, of the whole state, and of the addresses.
 use Prim.Native.Nat.{ℕ, _+_, _≤_, _<_, _-_}
 use mathlib.Core.Path.{_≡_, refl}
@@ -6,9 +6,9 @@ use native.Mathlib.Nat.{le-antisymm, le-trans}
 use native.Mathlib.Numerals.{add-one}
 use native.Mathlib.Omega.{arith}
 use lib.ListN.{length, getD}
-use Rattle.fields.specs.Fields.{recordCount, recordApplied, accountsFrom, totalsFrom, settledFrom, answersFrom, widestRecord}
+use Rattle.fields.specs.Fields.{recordCount, recordApplied, accountsFrom, totalsFrom, settledFrom, answersFrom, postedFrom, widestRecord}
 use Rattle.record.specs.Loads.{copied}
-use Rattle.record.proofs.WordAddresses.{Room, Addressed, Pair, addressed, begins, nearer, accounts-pair, workers-pair}
+use Rattle.record.proofs.WordAddresses.{Room, Addressed, Pair, addressed, begins, nearer, accounts-pair, workers-pair, posted-pair}
 use Rattle.record.proofs.States.{loading, account-loaded, worker-loaded, state-loaded}
 use Rattle.memory.proofs.Lesser.{count-bound}
 use borrow.Author.Needs.{needs}
@@ -17,24 +17,25 @@ use Rattle.record.proofs.load_state.Tie as tie
 
 abbrev Inv-loop : tie.InvT-loop
 Inv-loop words q b n c s₀ accounts totals i₀ s i =
-    (i ≤ c) × ((c ≤ b) × (s ≡ loading words accounts totals (totals + b) (totals + b + n) i 0 c (getD words (q + recordApplied) 0)))
+    (i ≤ c) × ((c ≤ b)
+    × (s ≡ loading words accounts totals (totals + b) (totals + b + n) (totals + b + n + n) i 0 c (getD words (q + recordApplied) 0)))
 
 abbrev μ-loop : tie.MeasureT-loop
 μ-loop words q b n c s₀ accounts totals i₀ s i = c - i
 
 abbrev Inv-loop2 : tie.InvT-loop2
-Inv-loop2 words q b n c s₀ accounts totals i settled answers j₀ s j =
-    (j ≤ n) × (s ≡ loading words accounts totals settled answers c j c (getD words (q + recordApplied) 0))
+Inv-loop2 words q b n c s₀ accounts totals i settled answers posted j₀ s j =
+    (j ≤ n) × (s ≡ loading words accounts totals settled answers posted c j c (getD words (q + recordApplied) 0))
 
 abbrev μ-loop2 : tie.MeasureT-loop2
-μ-loop2 words q b n c s₀ accounts totals i settled answers j₀ s j = n - j
+μ-loop2 words q b n c s₀ accounts totals i settled answers posted j₀ s j = n - j
 
 -- the record inside the words
 room :
     (c : tie.Start Inv-loop μ-loop Inv-loop2 μ-loop2) → let s = c .args in Room (s .q) (s .b) (s .n) (length (s .words .now))
 room c = record { inside = c .pre .0; low = c .good .0 .1; capacity = c .pre .1 .0; workers = c .pre .1 .1 }
 
--- the addresses of a word before the arrays, of an account and its total, and of a worker's ticket and answer
+-- the addresses of a word before the arrays, of an account and its total, of a worker's ticket and answer, and of the answer's total
 counted :
     (c : tie.Start Inv-loop μ-loop Inv-loop2 μ-loop2) → let s = c .args in Addressed (length (s .words .now)) (s .q + recordCount)
 counted c = addressed (room c) recordCount (omega arith)
@@ -55,6 +56,12 @@ worker :
     Pair (s .q) (settledFrom (s .q) (s .b)) (answersFrom (s .q) (s .b) (s .n)) (c .before .loop2 .j)
 worker c = workers-pair _ _ _ _ _ (room (c .before .before .before .before .before .before .before .before)) (c .loop2-test .taken)
 
+total :
+    (c : tie.In-loop2 Inv-loop μ-loop Inv-loop2 μ-loop2)
+    → let s = c .before .before .before .before .before .before .before .before .args in
+    Pair (s .q) (answersFrom (s .q) (s .b) (s .n)) (postedFrom (s .q) (s .b) (s .n)) (c .before .loop2 .j)
+total c = posted-pair _ _ _ _ _ (room (c .before .before .before .before .before .before .before .before)) (c .loop2-test .taken)
+
 -- an address in the record is inside the words
 account-inside :
     (c : tie.In-loop Inv-loop μ-loop Inv-loop2 μ-loop2) → let s = c .before .before .before .before .before .before in
@@ -73,14 +80,15 @@ loop-holds c = (search needs, (count-bound _ _ _ (c .before .least .ensures), re
 loop-again : tie.Need-loop-again Inv-loop μ-loop Inv-loop2 μ-loop2
 loop-again c =
     let known = c .before .before .before .loop .inv in
-    (rw add-one (c .before .before .loop-test .taken), (known .1 .0, account-loaded _ _ _ _ _ _ _ _ _ _ (known .1 .1)))
+    (rw add-one (c .before .before .loop-test .taken), (known .1 .0, account-loaded _ _ _ _ _ _ _ _ _ _ _ (known .1 .1)))
 
 loop2-holds : tie.Need-loop2-holds Inv-loop μ-loop Inv-loop2 μ-loop2
 loop2-holds c = (search needs, rw (le-antisymm (c .before .loop .inv .0) (c .loop-test .left)) at (c .before .loop .inv .1 .1))
 
 loop2-again : tie.Need-loop2-again Inv-loop μ-loop Inv-loop2 μ-loop2
 loop2-again c =
-    (rw add-one (c .before .before .loop2-test .taken), worker-loaded _ _ _ _ _ _ _ _ _ _ (c .before .before .before .loop2 .inv .1))
+    let here = c .before .before .before in
+    (rw add-one (here .loop2-test .taken), worker-loaded _ _ _ _ _ _ _ _ _ _ _ (here .before .loop2 .inv .1))
 
 returns : tie.Need-returns Inv-loop μ-loop Inv-loop2 μ-loop2
 returns c =
@@ -102,10 +110,15 @@ load-state-spec =
     (λ c. account (c .before .before) .small) (λ c. account (c .before .before) .next)
     (λ c. nearer (c .before .before .loop-test .taken)) loop-again
     (λ c. begins (room (c .before .before .before .before .before .before)) .settled)
-    (λ c. begins (room (c .before .before .before .before .before .before)) .answers) loop2-holds
+    (λ c. begins (room (c .before .before .before .before .before .before)) .answers)
+    (λ c. begins (room (c .before .before .before .before .before .before)) .posted) loop2-holds
     (λ c. worker c .first) (λ c. worker c .first-scaled)
     (λ c. worker-inside (c .before) _ (worker (c .before) .first-inside)) (λ c. worker (c .before) .scaled)
     (λ c. worker (c .before) .small) (λ c. worker (c .before) .second) (λ c. worker (c .before) .second-scaled)
     (λ c. worker-inside (c .before .before) _ (worker (c .before .before) .second-inside)) (λ c. worker (c .before .before) .scaled)
-    (λ c. worker (c .before .before) .small) (λ c. worker (c .before .before) .next)
-    (λ c. nearer (c .before .before .loop2-test .taken)) loop2-again returns)
+    (λ c. worker (c .before .before) .small) (λ c. total (c .before .before) .second)
+    (λ c. total (c .before .before) .second-scaled)
+    (λ c. worker-inside (c .before .before .before) _ (total (c .before .before .before) .second-inside))
+    (λ c. total (c .before .before .before) .scaled) (λ c. total (c .before .before .before) .small)
+    (λ c. total (c .before .before .before) .next) (λ c. nearer (c .before .before .before .loop2-test .taken))
+    loop2-again returns)

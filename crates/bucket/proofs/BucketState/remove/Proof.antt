@@ -13,7 +13,7 @@ returns c =
     let second = c .before .before in
     let first = second .before .before .before in
     let size = first .before .before in
-    let known = size .before .before .before .before .before .before in
+    let known = size .before .before .before .before .before .before .before in
     let s = known .before .before .args in
     removed-at (s .self) _ (known .p .given .0 .0) (size .size .ensures) _ _ _
     (first .lower .ensures) (second .lower2 .ensures) (omega arith)
@@ -24,7 +24,7 @@ returns-2 c =
     let second = c .before .before in
     let first = second .before .before .before in
     let size = first .before .before in
-    let known = size .before .before .before .before .before .before in
+    let known = size .before .before .before .before .before .before .before in
     let s = known .before .before .args in
     removed-at (s .self) _ (known .p .given .0 .0) (size .size .ensures) _ _ _
     (first .lower .ensures) (second .lower2 .ensures) (omega arith)
