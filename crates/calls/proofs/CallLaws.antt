@@ -10,7 +10,7 @@ use mir.Syntax.{w64}
 use mir.Val.{ofZ}
 use borrow.Author.Tests.{eq-eqb, ne-eqb, lt-ltb, le-ltb, le-leb, lt-leb}
 use Rattle.interface.specs.Limits.{greatestTicket}
-use Rattle.interface.specs.Numbers.{kindNone, kindInsert, kindLookup, greatestKind}
+use Rattle.interface.specs.Numbers.{kindNone, kindInsert, kindDelete, kindLookup, greatestKind}
 use Rattle.interface.specs.declared.Settings.{Settings}
 use Rattle.interface.specs.declared.Refusal.{Refusal}
 use Rattle.interface.specs.declared.Called.{Called}
@@ -57,7 +57,7 @@ module _ (l : List ℕ) (p kind a : ℕ) (v : ℤ) (x : ℕ) (read : x ≡ word 
             )
 
         pub call-update :
-            (m : List ℕ) (y : ℕ) → t < greatestTicket → y ≡ if eqb kind kindInsert then ofZ w64 v else 0
+            (m : List ℕ) (y : ℕ) → t < greatestTicket → y ≡ if eqb kind kindDelete then 0 else ofZ w64 v
             → m ≡ begunAt l p (record { kind = kind; account = a; total = y; ticket = t + 1 }) → (m, Called.Accepted) ≡ callIn l p kind a v
         unfolding callIn if_then_else_
         call-update m y n e h =

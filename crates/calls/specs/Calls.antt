@@ -9,7 +9,7 @@ use lib.IntN.{ℤ}
 use mir.Syntax.{w64}
 use mir.Val.{ofZ}
 use Rattle.interface.specs.Limits.{greatestTicket}
-use Rattle.interface.specs.Numbers.{kindNone, kindInsert, kindLookup, greatestKind}
+use Rattle.interface.specs.Numbers.{kindNone, kindInsert, kindDelete, kindLookup, greatestKind}
 use Rattle.interface.specs.declared.Refusal.{Refusal}
 use Rattle.interface.specs.declared.Called.{Called}
 use Rattle.machine.specs.Choice.{if_then_else_}
@@ -28,10 +28,11 @@ begunAt l p u =
     let l₂ : List ℕ = set (set l (p + workerKind) (u .kind)) (p + workerAccount) (u .account) in
     set (set (set l₂ (p + workerTotal) (u .total)) (p + workerTicket) (u .ticket)) (p + workerSteps) 0
 
--- "The ticket number .. is the worker's last plus 1, taken at the call"; only an insert has a total
+-- "The ticket number .. is the worker's last plus 1, taken at the call"; an insert has a total, a post an
+-- amount
 abbrev pub updateCalled : ℕ → ℕ → ℤ → ℕ → Descriptor
 updateCalled kind a v last =
-    record { kind = kind; account = a; total = if eqb kind kindInsert then ofZ w64 v else 0; ticket = last + 1 }
+    record { kind = kind; account = a; total = if eqb kind kindDelete then 0 else ofZ w64 v; ticket = last + 1 }
 
 -- a lookup takes no ticket
 abbrev pub lookupCalled : ℕ → ℕ → Descriptor

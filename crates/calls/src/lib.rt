@@ -16,6 +16,7 @@ use fields::WORKER_TOTAL;
 use interface::Called;
 use interface::GREATEST_KIND;
 use interface::GREATEST_TICKET;
+use interface::KIND_DELETE;
 use interface::KIND_INSERT;
 use interface::KIND_LOOKUP;
 use interface::KIND_NONE;
@@ -74,10 +75,10 @@ fn call_in(words: &mut [u64], g: Settings, w: usize, kind: u64, account: u32, to
     if GREATEST_TICKET <= last {
         return Called::Refused(Refusal::Spent);
     }
-    let total = if kind == KIND_INSERT {
-        memory::word_of(total)
-    } else {
+    let total = if kind == KIND_DELETE {
         0
+    } else {
+        memory::word_of(total)
     };
     begin(
         words,

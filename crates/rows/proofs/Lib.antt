@@ -1,1 +1,1 @@
-mod RowLaws
+pub mod RowLaws

@@ -1,5 +1,5 @@
--- Laws of the listing's rows: one entry more, and rows written behind rows; both refusals and the listing itself.
--- Rests on the definition of rows, and on the laws of overlays.
+-- Laws of the listing's rows: one entry more, how many there can be, and rows written behind rows; both refusals and the listing itself.
+-- Rests on the definition of rows, on the checks behind 8, and on the laws of overlays.
 use Prim.Native.Nat.{ℕ, zero, suc, _+_, _-_, _%_, _*_, _^_, _≤_, _<_}
 use native.Mathlib.Nat.{add-zero, mod-eq-of-lt}
 use native.Mathlib.Numerals.{add-one}
@@ -10,6 +10,7 @@ use mathlib.Core.Bool.{Bool, true, false, or-true}
 use mathlib.Core.List.{List, _++_, map, append-nil, append-assoc, map-append}
 use lib.ListN.{length, length-append, length-map}
 use lib.IntN.{ℤ}
+use lib.Pow.{pow-mono}
 use borrow.Author.Tests.{lt-ltb, le-ltb}
 use Rattle.interface.specs.declared.Settings.{Settings}
 use Rattle.interface.specs.declared.Refusal.{Refusal}
@@ -17,10 +18,11 @@ use Rattle.interface.specs.declared.Listed.{Listed}
 use Rattle.machine.specs.Choice.{if_then_else_}
 use Rattle.machine.proofs.laws.Base.{if-true, if-false}
 use Rattle.lists.specs.Parts.{overlay}
-use Rattle.layout.specs.Shape.{strange, shapeOf}
+use Rattle.layout.specs.Shape.{strange, shapeOf, Fits}
+use Rattle.layout.proofs.Checks.{fits-of, depth-of}
 use Rattle.rows.specs.Rows.{rowsFrom, rows, shown, listingWords}
 use Rattle.entries.specs.Entries.{rowsOf}
-use Rattle.entries.proofs.EntryLaws.{span-limit}
+use Rattle.entries.proofs.EntryLaws.{entry-limit, span-limit}
 use Rattle.lists.proofs.PartLaws.{overlay-join}
 
 -- ---- the entries
@@ -58,6 +60,22 @@ module _ (l : List ℕ) (s : Settings) where
       let x = counted-entry e in
       let y = rw k at (entries-grow (e + 1) (2 ^ s .depth - (e + 1))) in
       omega arith
+
+  entries-limit : Fits l s → (e k : ℕ) → length (rowsFrom l s e k) ≤ 16 * k
+  unfolding rowsFrom
+  entries-limit f e zero = omega arith
+  entries-limit f e (suc k) =
+      let n = entry-limit l s e f in
+      let h = entries-limit f (suc e) k in
+      rw length-append (omega arith)
+
+-- words that pass 8 have no more rows than 256 buckets of 16
+pub rows-few : (l : List ℕ) → strange l ≡ false → length (rows l (shapeOf l)) ≤ 4_096
+unfolding rows
+rows-few l e =
+    let n : 2 ^ shapeOf l .depth ≤ 256 = pow-mono (depth-of l e) in
+    let h = entries-limit l (shapeOf l) (fits-of l e) 0 (2 ^ shapeOf l .depth) in
+    omega arith
 
 -- rows written behind rows
 pub written-behind :

@@ -1,13 +1,11 @@
 // Up to so many steps of one worker. Written twice for speed: the loop has the branches of `operation_step` again, so
-// that no step's answer is made and taken apart: this source compiled as Rust takes 1,540 instructions for an insert
-// by `run` at n 1, and 2,058 through `operation_step` (docs/DECISIONS.md, 42).
+// that no early step's answer is made and taken apart: this source compiled as Rust takes 1,540 instructions for an
+// insert by `run` at n 1, and 2,058 through `operation_step` (docs/DECISIONS.md, 42).
 ghost use mathlib.Core.Path.{_≡_};
 ghost use Prim.Native.Nat.{_≤_, _<_};
 ghost use Rattle.layout.specs.Shape.{settingsOf, Fits};
 ghost use Rattle.runs.specs.Runs.{longestRun, runIn, runWords};
 use early::early_step;
-use ends::GOES_ON;
-use ends::update_ended;
 use fields::HEADER_SETTINGS;
 use fields::STEPS_RANGE;
 use fields::WORKER_KIND;
@@ -50,9 +48,10 @@ fn run_in(words: &mut [u64], x: u64, w: usize, most: u64) -> Ran
         } else if k < 2 * g.workers + 9 {
             early_step(words, x, w, k as usize);
         } else {
-            let end = update_step(words, x, w, k);
-            if end != GOES_ON {
-                return Ran::Answered(update_ended(k, end));
+            match update_step(x, w, words, k) {
+                Stepped::Moved => {}
+                Stepped::Answered(c) => return Ran::Answered(c),
+                Stepped::Refused(_) => return Ran::Moved(done),
             }
         }
         done += 1;

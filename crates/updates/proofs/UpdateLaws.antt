@@ -8,8 +8,9 @@ use mathlib.Core.List.{List}
 use mathlib.Core.Option.{Option, none, some}
 use lib.ListN.{length, set}
 use borrow.Author.Tests.{le-leb, lt-leb, eq-eqb, ne-eqb}
-use Rattle.interface.specs.Numbers.{kindNone, answerNumber, kindLookup}
+use Rattle.interface.specs.Numbers.{kindLookup}
 use Rattle.interface.specs.declared.Settings.{Settings}
+use Rattle.interface.specs.declared.Answer.{Answer}
 use Rattle.interface.specs.declared.Answer.the-variants.{Crowded}
 use Rattle.interface.specs.declared.Stepped.{Stepped}
 use Rattle.fields.specs.Fields.{workerKind, workerTicket, workerSteps, widestRecord, stepsRange}
@@ -20,11 +21,10 @@ use Rattle.machine.proofs.laws.PlanBounds.{Below, phase-below}
 use Rattle.phases.specs.declared.Phase as Code
 use Rattle.layout.specs.Shape.{word, Fits}
 use Rattle.layout.specs.Addresses.{heldBy}
-use Rattle.record.specs.Bucket.{crowdedAt, settledTicket, settledAnswer}
+use Rattle.record.specs.Bucket.{crowdedAt, settledTicket}
 use Rattle.phases.specs.Phases.{planned}
 use Rattle.calls.specs.Calls.{endedAt}
-use Rattle.updates.specs.Updates.{checkedAt, checkAt, updateAt, operationAt}
-use Rattle.ends.specs.Ends.{updateEnded, numbered}
+use Rattle.updates.specs.Updates.{checkedAt, answerAt, checkAt, updateAt, operationAt}
 use Rattle.layout.proofs.Positions.{held-inside}
 use Rattle.lookups.specs.Lookups.{lookupAt}
 
@@ -49,33 +49,28 @@ module _ (l : List ℕ) (s : Settings) (p w k n : ℕ) (m : List ℕ × Stepped)
 
 -- ---- a check of worker w at p, whose bucket's record is at q
 
-module _ (l : List ℕ) (s : Settings) (p q w k t u : ℕ) (ticket : t ≡ word l (p + workerTicket)) (settled : u ≡ settledTicket l s q w) where
-  abbrev ended : List ℕ
-  ended = set (set l (p + workerKind) kindNone) (p + workerSteps) 0
-
-  abbrev gives : Option ℕ → List ℕ × Stepped
+module _ (l : List ℕ) (s : Settings) (p q w k c t u : ℕ) (number : c ≡ checkNumber (s .workers) k) (ticket : t ≡ word l (p + workerTicket))
+    (settled : u ≡ settledTicket l s q w) where
+  abbrev gives : Option Answer → List ℕ × Stepped
   gives = checkAt l p k (checkNumber (s .workers) k)
 
   pub check-settled :
-      (x : ℕ) (m : List ℕ) (r : Stepped) → t ≤ u → x ≡ settledAnswer l s q w → r ≡ Stepped.Answered (updateEnded (s .workers) k x)
-      → m ≡ ended → (m, r) ≡ gives (checkedAt l s p q w)
-  unfolding endedAt checkedAt checkAt
-  check-settled x m r h e f g = rw (f, g, e) (ap gives (sym (if-true _ _ (le-leb _ _ (rw (ticket, settled) at h)))))
+      (a : Answer) (m : List ℕ × Stepped) → t ≤ u → a ≡ answerAt l s q w → m ≡ endedAt l p k c a → m ≡ gives (checkedAt l s p q w)
+  unfolding checkedAt checkAt
+  check-settled a m h e f = f ∙ rw (e, number) (ap gives (sym (if-true _ _ (le-leb _ _ (rw (ticket, settled) at h)))))
 
-  module _ (c : Bool) (h : u < t) (tested : c ≡ crowdedAt l s q) where
-    unsettled : checkedAt l s p q w ≡ if c then some (answerNumber Crowded) else none
+  module _ (full : Bool) (h : u < t) (tested : full ≡ crowdedAt l s q) where
+    unsettled : checkedAt l s p q w ≡ if full then some Crowded else none
     unfolding checkedAt
     unsettled = if-false _ _ (lt-leb _ _ (rw (ticket, settled) at h)) ∙ rw tested
 
-    pub check-moved : c ≡ false → (l, Stepped.Moved) ≡ gives (checkedAt l s p q w)
+    pub check-moved : full ≡ false → (l, Stepped.Moved) ≡ gives (checkedAt l s p q w)
     unfolding checkAt
     check-moved e = ap gives (sym (unsettled ∙ if-false _ _ e))
 
-    pub check-crowded :
-        (m : List ℕ) → c ≡ true → m ≡ ended
-        → (m, numbered (s .workers) k (answerNumber Crowded)) ≡ gives (checkedAt l s p q w)
-    unfolding endedAt checkAt numbered
-    check-crowded m e f = rw f (ap gives (sym (unsettled ∙ if-true _ _ e)))
+    pub check-crowded : (m : List ℕ × Stepped) → full ≡ true → m ≡ endedAt l p k c Crowded → m ≡ gives (checkedAt l s p q w)
+    unfolding checkAt
+    check-crowded m e f = f ∙ rw number (ap gives (sym (unsettled ∙ if-true _ _ e)))
 
 pub held-room : {l : List ℕ} {s : Settings} (q p : ℕ) → Fits l s → q ≡ heldBy l p → q + widestRecord ≤ length l
 held-room q p f e = rw e (held-inside f p)

@@ -16,9 +16,10 @@ use Rattle.swaps.specs.BucketSwap.{swappedAt}
 use Rattle.marks.specs.StateStep.{stateStepAt}
 use Rattle.directory.specs.Directory.{redirectedAt}
 use Rattle.calls.specs.Calls.{endedAt}
-use Rattle.interface.specs.Numbers.{kindLookup, answerNumber}
+use Rattle.interface.specs.Numbers.{kindLookup}
+use Rattle.interface.specs.declared.Answer.{Answer}
 use Rattle.interface.specs.declared.Answer.the-variants.{Crowded}
-use Rattle.record.specs.Bucket.{crowdedAt, settledTicket, settledAnswer}
+use Rattle.record.specs.Bucket.{crowdedAt, settledTicket, settledAnswer, settledTotal}
 use Rattle.machine.specs.Choice.{if_then_else_}
 use Rattle.fields.specs.Fields.{workerKind, workerTicket, workerSteps}
 use Rattle.layout.specs.Shape.{word}
@@ -26,17 +27,21 @@ use Rattle.lookups.specs.Lookups.{lookupAt}
 
 -- ---- the check
 
--- what the check's second step finds for worker w at p, whose bucket's record is at q: an answer's number, or nothing
-unfoldable pub checkedAt : List ℕ → Settings → ℕ → ℕ → ℕ → Option ℕ
+-- worker w's answer that is settled in the record at q, with its total
+abbrev pub answerAt : List ℕ → Settings → ℕ → ℕ → Answer
+answerAt l s q w = answerOf (settledAnswer l s q w) (settledTotal l s q w)
+
+-- what the check's second step finds for worker w at p, whose bucket's record is at q: an answer, or nothing
+unfoldable pub checkedAt : List ℕ → Settings → ℕ → ℕ → ℕ → Option Answer
 checkedAt l s p q w =
     if leb (word l (p + workerTicket)) (settledTicket l s q w)
-    then some (settledAnswer l s q w)
-    else if crowdedAt l s q then some (answerNumber Crowded) else none
+    then some (answerAt l s q w)
+    else if crowdedAt l s q then some Crowded else none
 
 -- what check c leaves and gives, after k own steps
-unfoldable pub checkAt : List ℕ → ℕ → ℕ → ℕ → Option ℕ → List ℕ × Stepped
+unfoldable pub checkAt : List ℕ → ℕ → ℕ → ℕ → Option Answer → List ℕ × Stepped
 checkAt l p k c none = (l, Stepped.Moved)
-checkAt l p k c (some x) = endedAt l p k c (answerOf x)
+checkAt l p k c (some a) = endedAt l p k c a
 
 -- ---- a step of an update
 

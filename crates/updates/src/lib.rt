@@ -1,55 +1,67 @@
 // A step of an update: the step that its plan names, and the check.
 ghost use mathlib.Core.Path.{_≡_};
-ghost use Prim.Native.Nat.{ℕ, _+_, _<_};
-ghost use Rattle.fields.specs.Fields.{stepsRange};
+ghost use Prim.Native.Nat.{_+_, _≤_, _<_};
+ghost use lib.ListN.{length};
+ghost use Rattle.fields.specs.Fields.{stepsRange, workerSlots};
 ghost use Rattle.layout.specs.Shape.{settingsOf, Fits};
-ghost use Rattle.ends.specs.Ends.{numbered, givenAs};
+ghost use Rattle.calls.specs.Calls.{endedAt};
 ghost use Rattle.updates.specs.Updates.{checkStep, updateStep};
 use calls::finish;
 use directory::swap_directory;
-use ends::GOES_ON;
-use ends::with_check;
+use ends::answer_of;
+use ends::completed;
 use fields::RECORD_COUNT;
 use fields::RECORD_DEPTH;
 use fields::WORKER_TICKET;
-use interface::ANSWER_CROWDED;
-use interface::ANSWER_NONE;
+use interface::Answer;
 use interface::Settings;
+use interface::Stepped;
 use layout::addresses::held_by;
 use layout::addresses::worker_at;
 use layout::shape::settings_of;
 use phases::Phase;
+use phases::check_number;
 use phases::phase_of;
 use record::settled_answer;
 use record::settled_ticket;
+use record::settled_total;
 use rules::crowded;
 
-// The second step of a check: the answer's number where the operation is over. A stored 0 is no answer's number; it
-// is read as none's.
-fn check(words: &mut [u64], g: Settings, w: usize) -> u64
-    requires { ⌜ Fits (now words) g × (w < g .workers) ⌝ }
-    ensures { λ r. ⌜ ((k : ℕ) → (now (words .exit), numbered (g .workers) k r)
-        ≡ checkStep (now (words .entry)) g w k) ⌝ }
+// The operation of the worker whose words are at p ended, after k own steps before this one, at a check.
+fn ended(words: &mut [u64], p: usize, k: u64, check: u64, answer: Answer) -> Stepped
+    requires { ⌜ (p + workerSlots ≤ length (now words)) × (k < stepsRange) ⌝ }
+    ensures { λ r. ⌜ (now (words .exit), r) ≡ endedAt (now (words .entry)) p k check answer ⌝ }
+{
+    finish(words, p);
+    Stepped::Answered(completed(answer, k, check))
+}
+
+// The second step of a check: the answer that is settled, with its total, or crowded, or the operation goes on.
+fn check(words: &mut [u64], g: Settings, w: usize, k: u64) -> Stepped
+    requires { ⌜ Fits (now words) g × ((w < g .workers) × (k < stepsRange)) ⌝ }
+    ensures { λ r. ⌜ (now (words .exit), r) ≡ checkStep (now (words .entry)) g w k ⌝ }
 {
     let q = held_by(words, g, w);
     let p = worker_at(g, w);
     if memory::get(words, p + WORKER_TICKET) <= settled_ticket(words, g, q, w) {
-        let a = settled_answer(words, g, q, w);
-        finish(words, p);
-        return if a == GOES_ON { ANSWER_NONE } else { a };
+        let answer = answer_of(
+            settled_answer(words, g, q, w),
+            settled_total(words, g, q, w),
+        );
+        return ended(words, p, k, check_number(k, g.workers), answer);
     }
     let depth = memory::get(words, q + RECORD_DEPTH);
     if !crowded(g, depth, memory::get(words, q + RECORD_COUNT)) {
-        return GOES_ON;
+        return Stepped::Moved;
     }
-    finish(words, p);
-    ANSWER_CROWDED
+    ended(words, p, k, check_number(k, g.workers), Answer::Crowded)
 }
 
-// An update's step, after k own steps, by the plan: its end in one word where the operation is over.
-pub fn update_step(words: &mut [u64], x: u64, w: usize, k: u64) -> u64
+// An update's step, after k own steps, by the plan. The words do not stand first, so that what the caller has at hand
+// for `early_step` keeps its registers (docs/DECISIONS.md, 66).
+pub fn update_step(x: u64, w: usize, words: &mut [u64], k: u64) -> Stepped
     requires { ⌜ Fits (now words) (settingsOf x) × ((w < settingsOf x .workers) × (k < stepsRange)) ⌝ }
-    ensures { λ r. ⌜ (now (words .exit), givenAs k r) ≡ updateStep (now (words .entry)) (settingsOf x) w k ⌝ }
+    ensures { λ r. ⌜ (now (words .exit), r) ≡ updateStep (now (words .entry)) (settingsOf x) w k ⌝ }
 {
     let g = settings_of(x);
     match phase_of(k as usize, g.workers as usize) {
@@ -60,10 +72,10 @@ pub fn update_step(words: &mut [u64], x: u64, w: usize, k: u64) -> u64
         Phase::ReadToggle => engine::read_toggle(words, g, w),
         Phase::ReadSlot(j) => engine::read_slot(words, g, w, j),
         Phase::Swap => swaps::swap(words, g, w),
-        Phase::Check => return with_check(check(words, g, w), k, g.workers),
+        Phase::Check => return check(words, g, w, k),
         Phase::CopyDirectory => engine::copy_directory(words, g, w),
         Phase::StateStep(j) => marks::state_step(words, g, w, j),
         Phase::SwapDirectory => swap_directory(words, g, w),
     }
-    GOES_ON
+    Stepped::Moved
 }

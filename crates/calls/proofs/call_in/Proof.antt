@@ -91,8 +91,9 @@ returns-6 c =
     let read = free .before in
     let at = read .before .before in
     let word =
-    ⊎-elim (λ w. w .2 ∙ w .1 .ensures ∙ ap (ofZ w64) (toZ-ofZ (at .before .before .fits .total)) ∙ sym (if-eq _ _ _ _ (w .0 .taken)))
-    (λ w. w .1 ∙ sym (if-ne _ _ _ _ (w .0 .left))) (total .if6 .came) in
+    ⊎-elim (λ w. w .1 ∙ sym (if-eq _ _ _ _ (w .0 .taken)))
+    (λ w. w .2 ∙ w .1 .ensures ∙ ap (ofZ w64) (toZ-ofZ (at .before .before .fits .total)) ∙ sym (if-ne _ _ _ _ (w .0 .left)))
+    (total .if6 .came) in
     rw (← at .worker-at .ensures)
     (call-update _ _ _ _ _ _ (read .get .ensures) (free .if1 .left) (low .if2 .left) (high .if3 .left) _ (last .get2 .ensures)
     (kind .if4 .left)

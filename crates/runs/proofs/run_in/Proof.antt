@@ -6,15 +6,12 @@ use mathlib.Core.Path.{_≡_, refl, sym, _∙_, ap}
 use mathlib.Core.Logic.{⊎-elim}
 use lib.ListN.{length}
 use Rattle.interface.specs.declared.Settings.{Settings}
-use Rattle.interface.specs.declared.Stepped.{Stepped}
 use Rattle.fields.specs.Fields.{stepsRange}
 use Rattle.fields.specs.Regions.{workerAt}
 use Rattle.layout.specs.Shape.{settingsOf, Fits}
 use Rattle.layout.proofs.Positions.{Placed, placed, fits-kept}
 use Rattle.updates.proofs.UpdateLaws.{operation-lookup, operation-update}
-use Rattle.ends.proofs.EndLaws.{given-stored}
 use Rattle.runs.proofs.RunLaws.{run-start, run-end, run-idle, run-moved, run-answered, run-refused}
-use Rattle.ends.specs.Ends.{givenAs}
 use Rattle.runs.specs.Runs.{runIn}
 use borrow.Author.Needs.{needs}
 use Rattle.runs.proofs.run_in.Statement.{statement}
@@ -157,8 +154,8 @@ update-step-requires c κs =
 
 returns-4 : tie.Need-returns-4 Inv-loop μ-loop
 returns-4 c =
-    let test4 = c .before in
-    let update-step = test4 .before .before .before in
+    let c-place = c .before in
+    let update-step = c-place .before .before .before .before in
     let test2 = update-step .before .before .before .before in
     let put = test2 .before .before .before in
     let get2 = put .before .before in
@@ -171,12 +168,28 @@ returns-4 c =
     let place = rw (settings-of .settings-of .ensures) at (worker-at .worker-at .ensures) in
     let taken = operation-update _ _ _ _ _ _ _ _ (get .get .ensures) (ap (λ (x : ℕ). x % stepsRange) (get2 .get2 .ensures))
     (put .put .ensures) (test2 .if2 .left) (rw (← place) at (update-step .update-step .ensures)) in
-    run-answered _ _ _ _ _ _ _ place (get .get .ensures) (more .loop-test .taken) _ _ (test .if1 .left) taken _
-    (given-stored _ _ (test4 .if4 .taken) ∙ ap Stepped.Answered (sym (c .update-ended .ensures)))
+    run-answered _ _ _ _ _ _ _ place (get .get .ensures) (more .loop-test .taken) _ _ (test .if1 .left) taken _ (c-place .c2 .given .1)
+    ∙ turn .loop .inv .1 .1
+
+returns-5 : tie.Need-returns-5 Inv-loop μ-loop
+returns-5 c =
+    let update-step = c .before .before .before .before in
+    let test2 = update-step .before .before .before .before in
+    let put = test2 .before .before .before in
+    let get2 = put .before .before in
+    let test = get2 .before .before in
+    let get = test .before in
+    let more = get .before .before in
+    let turn = more .before in
+    let worker-at = turn .before in
+    let settings-of = worker-at .before in
+    let place = rw (settings-of .settings-of .ensures) at (worker-at .worker-at .ensures) in
+    let taken = operation-update _ _ _ _ _ _ _ _ (get .get .ensures) (ap (λ (x : ℕ). x % stepsRange) (get2 .get2 .ensures))
+    (put .put .ensures) (test2 .if2 .left) (rw (← place) at (update-step .update-step .ensures)) in
+    run-refused _ _ _ _ _ _ _ place (get .get .ensures) (more .loop-test .taken) _ _ (test .if1 .left) taken _ (c .enum-told4 .given .1)
     ∙ turn .loop .inv .1 .1
 
 loop-again : tie.Need-loop-again Inv-loop μ-loop
-unfolding givenAs
 loop-again c =
     let put = c .before .before .before in
     let get2 = put .before .before in
@@ -208,26 +221,26 @@ loop-again c =
             (rw (← place) at (o .4 .ensures))) refl ∙ turn .loop .inv .1 .1,
       ),
     ))
-    (λ o. rw (o .8) (
+    (λ o. rw (o .9) (
       one-more (more .loop-test .taken),
       (
         search needs,
         run-moved _ _ _ _ _ _ _ place (get .get .ensures) (more .loop-test .taken) _ _
             (test .if1 .left) (operation-update _ _ _ _ _ _ _ _ (get .get .ensures) steps (put .put .ensures) (o .0 .left)
-            (rw (← place) at (o .4 .ensures))) (ap (givenAs _) (o .7 .left)) ∙ turn .loop .inv .1 .1,
+            (rw (← place) at (o .4 .ensures))) (o .8 .given .1) ∙ turn .loop .inv .1 .1,
       ),
     ))
     u)
     (c .if2 .came)
 
-returns-5 : tie.Need-returns-5 Inv-loop μ-loop
-returns-5 c = run-end _ _ _ _ _ (c .loop-test .left) ∙ c .before .loop .inv .1 .1
+returns-6 : tie.Need-returns-6 Inv-loop μ-loop
+returns-6 c = run-end _ _ _ _ _ (c .loop-test .left) ∙ c .before .loop .inv .1 .1
 
 pub run-in-spec : {M : Type 1} → statement M
 run-in-spec =
     tie.close (tie.spec Inv-loop μ-loop (λ c κs. search needs) worker-at-requires loop-holds add-get get-requires
     (λ c. search needs) returns add-get-2 get-requires-2 add-put (λ c. search needs) put-requires
     lookup-step-requires (λ c. search needs) (λ c. search needs) (λ c. search needs) returns-2 (λ c. search needs)
-    (λ c. search needs) returns-3 mul-if3 add-if3 early-step-requires update-step-requires (λ c κs. search needs)
-    (λ c. search needs) returns-4 (λ c. search needs) (λ c. search needs) loop-again
-    (λ c. search needs) returns-5)
+    (λ c. search needs) returns-3 mul-if3 add-if3 early-step-requires update-step-requires (λ c. search needs)
+    (λ c. search needs) (λ c. search needs) returns-4 (λ c. search needs) (λ c. search needs) returns-5 (λ c. search needs)
+    (λ c. search needs) loop-again (λ c. search needs) returns-6)

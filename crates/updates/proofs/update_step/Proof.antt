@@ -1,16 +1,12 @@
 -- `update_step` takes the step that the plan has next, as `updateAt` says: a case for each kind of step.
 -- Rests on the law that a plan names workers below n only.
-use native.Mathlib.Omega.{arith}
 use mathlib.Core.Path.{ap}
 use mathlib.Core.List.{List}
 use Prim.Native.Nat.{ℕ}
 use Rattle.interface.specs.declared.Stepped.{Stepped}
-use Rattle.layout.specs.Shape.{settingsOf}
 use Rattle.phases.specs.declared.Phase as Code
 use Rattle.phases.specs.Phases.{planned}
 use Rattle.updates.specs.Updates.{updateAt}
-use Rattle.ends.specs.Ends.{givenAs}
-use Rattle.ends.proofs.EndLaws.{word-said}
 use Rattle.updates.proofs.UpdateLaws.{slot-below, state-below, updated}
 use borrow.Author.Needs.{needs}
 use Rattle.updates.proofs.update_step.Statement.{statement}
@@ -69,23 +65,17 @@ check-requires : tie.Need-check-requires
 check-requires c κs =
     let settings-of = c .before .before .before .before in
     let start = settings-of .before .before in
-    rw (settings-of .settings-of .ensures) (start .pre .0, start .pre .1 .0)
-
-with-check-requires : tie.Need-with-check-requires
-unfolding settingsOf
-with-check-requires c κs =
-    let phase-of = c .before .before .before .before .before .before in
-    rw (phase-of .before .settings-of .ensures) (omega arith)
+    rw (settings-of .settings-of .ensures) (start .pre .0, (start .pre .1 .0, start .pre .1 .1))
 
 returns : tie.Need-returns
 unfolding planned updateAt
 returns c =
-    let check = c .before .before .before in
+    let check = c .before .before in
     let enum-told7 = check .before .before in
     let phase-of = enum-told7 .before .before in
     let settings-of = phase-of .before in
-    rw (← settings-of .settings-of .ensures, c .with-check .ensures, word-said)
-    (updated _ _ _ _ _ _ _ _ Code.Phase.Check (enum-told7 .enum-told7 .given .1) (phase-of .phase-of .ensures) (check .check .ensures _))
+    rw (← settings-of .settings-of .ensures)
+    (updated _ _ _ _ _ _ _ _ Code.Phase.Check (enum-told7 .enum-told7 .given .1) (phase-of .phase-of .ensures) (check .check .ensures))
 
 copy-directory-requires : tie.Need-copy-directory-requires
 copy-directory-requires c κs =
@@ -110,7 +100,7 @@ swap-directory-requires c κs =
     rw (settings-of .settings-of .ensures) (start .pre .0, start .pre .1 .0)
 
 returns-2 : tie.Need-returns-2
-unfolding planned updateAt givenAs
+unfolding planned updateAt
 returns-2 c =
     let announce = c .before .before in
     let enum-told = announce .before .before in
@@ -121,7 +111,7 @@ returns-2 c =
     (ap (λ (l : List ℕ). (l, Stepped.Moved)) (announce .announce .ensures)))
 
 returns-3 : tie.Need-returns-3
-unfolding planned updateAt givenAs
+unfolding planned updateAt
 returns-3 c =
     let read-directory = c .before .before in
     let enum-told2 = read-directory .before .before in
@@ -132,7 +122,7 @@ returns-3 c =
     (ap (λ (l : List ℕ). (l, Stepped.Moved)) (read-directory .read-directory .ensures)))
 
 returns-4 : tie.Need-returns-4
-unfolding planned updateAt givenAs
+unfolding planned updateAt
 returns-4 c =
     let flip = c .before .before in
     let enum-told3 = flip .before .before in
@@ -143,7 +133,7 @@ returns-4 c =
     (ap (λ (l : List ℕ). (l, Stepped.Moved)) (flip .flip .ensures)))
 
 returns-5 : tie.Need-returns-5
-unfolding planned updateAt givenAs
+unfolding planned updateAt
 returns-5 c =
     let read-state = c .before .before in
     let enum-told4 = read-state .before .before in
@@ -154,7 +144,7 @@ returns-5 c =
     (ap (λ (l : List ℕ). (l, Stepped.Moved)) (read-state .read-state .ensures)))
 
 returns-6 : tie.Need-returns-6
-unfolding planned updateAt givenAs
+unfolding planned updateAt
 returns-6 c =
     let read-toggle = c .before .before in
     let enum-told5 = read-toggle .before .before in
@@ -165,7 +155,7 @@ returns-6 c =
     (ap (λ (l : List ℕ). (l, Stepped.Moved)) (read-toggle .read-toggle .ensures)))
 
 returns-7 : tie.Need-returns-7
-unfolding planned updateAt givenAs
+unfolding planned updateAt
 returns-7 c =
     let read-slot = c .before .before in
     let j = read-slot .before .before .before in
@@ -176,7 +166,7 @@ returns-7 c =
     (ap (λ (l : List ℕ). (l, Stepped.Moved)) (read-slot .read-slot .ensures)))
 
 returns-8 : tie.Need-returns-8
-unfolding planned updateAt givenAs
+unfolding planned updateAt
 returns-8 c =
     let swap = c .before .before in
     let enum-told6 = swap .before .before in
@@ -187,7 +177,7 @@ returns-8 c =
     (ap (λ (l : List ℕ). (l, Stepped.Moved)) (swap .swap .ensures)))
 
 returns-9 : tie.Need-returns-9
-unfolding planned updateAt givenAs
+unfolding planned updateAt
 returns-9 c =
     let copy-directory = c .before .before in
     let enum-told8 = copy-directory .before .before in
@@ -198,7 +188,7 @@ returns-9 c =
     (ap (λ (l : List ℕ). (l, Stepped.Moved)) (copy-directory .copy-directory .ensures)))
 
 returns-10 : tie.Need-returns-10
-unfolding planned updateAt givenAs
+unfolding planned updateAt
 returns-10 c =
     let state-step = c .before .before in
     let j2 = state-step .before .before .before in
@@ -209,7 +199,7 @@ returns-10 c =
     (ap (λ (l : List ℕ). (l, Stepped.Moved)) (state-step .state-step .ensures)))
 
 returns-11 : tie.Need-returns-11
-unfolding planned updateAt givenAs
+unfolding planned updateAt
 returns-11 c =
     let swap-directory = c .before .before in
     let enum-told9 = swap-directory .before .before in
@@ -224,7 +214,7 @@ update-step-spec =
     tie.close (tie.spec (λ c κs. search needs) phase-of-requires (λ c. search needs) announce-requires
     (λ c. search needs) read-directory-requires (λ c. search needs) flip-requires (λ c. search needs)
     read-state-requires (λ c. search needs) read-toggle-requires (λ c. search needs) read-slot-requires
-    (λ c. search needs) swap-requires (λ c. search needs) check-requires with-check-requires (λ c. search needs) returns
+    (λ c. search needs) swap-requires (λ c. search needs) check-requires (λ c. search needs) returns
     (λ c. search needs) copy-directory-requires (λ c. search needs) state-step-requires (λ c. search needs)
     swap-directory-requires (λ c. search needs) returns-2 (λ c. search needs) returns-3 (λ c. search needs) returns-4
     (λ c. search needs) returns-5 (λ c. search needs) returns-6 (λ c. search needs) returns-7 (λ c. search needs)

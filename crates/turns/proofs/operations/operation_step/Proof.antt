@@ -8,8 +8,8 @@ use Rattle.fields.specs.Fields.{stepsRange}
 use Rattle.layout.proofs.Positions.{placed}
 use Rattle.updates.proofs.UpdateLaws.{operation-lookup, operation-update}
 use borrow.Author.Needs.{needs}
-use Rattle.turns.proofs.operation_step.Statement.{statement}
-use Rattle.turns.proofs.operation_step.Tie as tie
+use Rattle.turns.proofs.operations.operation_step.Statement.{statement}
+use Rattle.turns.proofs.operations.operation_step.Tie as tie
 
 add-get : tie.Need-add-get
 add-get c = let b = placed (c .before .before .pre .0) _ (c .before .before .pre .1 .0) in omega (arith, c .before .before .pre .1 .1 .0)
@@ -76,16 +76,16 @@ returns-2 c =
 
 returns-3 : tie.Need-returns-3
 returns-3 c =
-    let update-step = c .before .before .before in
+    let update-step = c .before .before in
     let test = update-step .before .before .before .before .before in
     let put = test .before .before .before in
     let get = put .before .before in
     let start = get .before .before .before in
     operation-update _ _ _ _ _ _ _ _ (start .pre .1 .1 .1) (ap (λ (x : ℕ). x % stepsRange) (get .get .ensures)) (put .put .ensures)
-    (test .if1 .left) (rw (c .stepped .ensures) (rw (← start .pre .1 .1 .0) at (update-step .update-step .ensures)))
+    (test .if1 .left) (rw (← start .pre .1 .1 .0) at (update-step .update-step .ensures))
 
 pub operation-step-spec : {M : Type 1} → statement M
 operation-step-spec =
     tie.close (tie.spec add-get get-requires add-put (λ c. search needs) put-requires (λ c κs. search needs)
     lookup-step-requires (λ c. search needs) returns (λ c κs. search needs) mul-if2 add-if2 early-step-requires
-    (λ c. search needs) returns-2 (λ c κs. search needs) (λ c κs. search needs) (λ c. search needs) returns-3)
+    (λ c. search needs) returns-2 (λ c κs. search needs) (λ c. search needs) returns-3)
