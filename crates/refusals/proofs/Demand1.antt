@@ -13,7 +13,7 @@ use lib.IntN.{ℤ}
 use lib.Seq.{drop-append-seam}
 use borrow.Author.Tests.{ltb-false, leb-true, leb-false, lt-ltb, le-ltb, ne-eqb}
 use Rattle.interface.specs.Limits.{inRange, built, greatestTicket}
-use Rattle.interface.specs.Numbers.{kindNone, kindInsert, kindDelete, kindLookup, greatestKind}
+use Rattle.interface.specs.Numbers.{kindNone, kindInsert, kindDelete, kindLookup, kindPost, greatestKind}
 use Rattle.interface.specs.declared.Settings.{Settings}
 use Rattle.interface.specs.declared.Refusal.{Refusal}
 use Rattle.interface.specs.declared.Built.{Built}
@@ -118,14 +118,16 @@ kind-checks l m n w zero = stopped
 kind-checks l m n w (suc zero) = going-on (check-then (passed accepted-never) _)
 kind-checks l m n w (suc (suc zero)) = going-on (check-then (passed accepted-never) _)
 kind-checks l m n w (suc (suc (suc zero))) = going-on (going-on (passed accepted-never))
-kind-checks l m n w (suc (suc (suc (suc k)))) =
-    let kind : ℕ = suc (suc (suc (suc k))) in
+kind-checks l m n w (suc (suc (suc (suc zero)))) = going-on (check-then (passed accepted-never) _)
+kind-checks l m n w (suc (suc (suc (suc (suc k))))) =
+    let kind : ℕ = suc (suc (suc (suc (suc k)))) in
     rw (
       le-ltb kind kindInsert (omega arith),
       lt-ltb greatestKind kind (omega arith),
       ne-eqb kind kindInsert (λ e. omega arith),
       ne-eqb kind kindDelete (λ e. omega arith),
       ne-eqb kind kindLookup (λ e. omega arith),
+      ne-eqb kind kindPost (λ e. omega arith),
     ) stopped
 
 pub call-checks :
@@ -140,10 +142,10 @@ unfolding lookupAt
 lookup-never l s p zero e = moved-never e
 lookup-never l s p (suc k) e = ended-never l p (suc k) _ _ e
 
-check-never : (l : List ℕ) (p k c : ℕ) (o : Option ℕ) {r : Refusal} → checkAt l p k c o .1 ≡ Stepped.Refused r → ⊥
+check-never : (l : List ℕ) (p k c : ℕ) (o : Option Answer) {r : Refusal} → checkAt l p k c o .1 ≡ Stepped.Refused r → ⊥
 unfolding checkAt
 check-never l p k c none e = moved-never e
-check-never l p k c (some x) e = ended-never l p k c _ e
+check-never l p k c (some a) e = ended-never l p k c a e
 
 update-never : (l : List ℕ) (s : Settings) (p w k : ℕ) (f : Phase) {r : Refusal} → updateAt l s p w k f .1 ≡ Stepped.Refused r → ⊥
 unfolding updateAt

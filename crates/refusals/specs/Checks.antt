@@ -9,7 +9,7 @@ use lib.Dec.{ltb, leb, eqb}
 use lib.ListN.{length}
 use lib.IntN.{ℤ}
 use Rattle.interface.specs.Limits.{inRange, greatestTicket}
-use Rattle.interface.specs.Numbers.{kindNone, kindInsert, kindDelete, kindLookup}
+use Rattle.interface.specs.Numbers.{kindNone, kindInsert, kindDelete, kindLookup, kindPost}
 use Rattle.interface.specs.declared.Refusal.{Refusal}
 use Rattle.machine.specs.Choice.{if_then_else_}
 use Rattle.machine.specs.Calls.{settings}
@@ -48,19 +48,20 @@ check4 l w = (not (eqb (ownWord l w workerKind) kindNone), Refusal.Busy)
 abbrev pub check5 : List ℕ → ℕ → Check
 check5 l w = (eqb (ownWord l w workerKind) kindNone, Refusal.Idle)
 
--- "insert or delete"
+-- "insert or delete"; a post "takes a ticket number as an insert does" (02, No. 1)
 abbrev pub isUpdateKind : ℕ → Bool
-isUpdateKind kind = eqb kind kindInsert || eqb kind kindDelete
+isUpdateKind kind = eqb kind kindInsert || eqb kind kindDelete || eqb kind kindPost
 
--- "kind: not 1 insert, 2 delete, 3 lookup"
+-- "kind: not 1 insert, 2 delete, 3 lookup"; "kind 4, post" (02, No. 1)
 abbrev pub check6 : ℕ → Check
 check6 kind = (not (isUpdateKind kind || eqb kind kindLookup), Refusal.Kind)
 
--- spent: an insert or a delete "when a worker's numbers up to 18,446,744,073,709,551,615 don't suffice" (02, No. 6)
+-- spent: an insert or a delete "when a worker's numbers up to 18,446,744,073,709,551,615 don't suffice" (02, No. 6),
+-- and a post: "7 counts it"
 abbrev pub check7 : List ℕ → ℕ → ℕ → Check
 check7 l w kind = (isUpdateKind kind && leb greatestTicket (ownWord l w workerTicket), Refusal.Spent)
 
--- "strange: memory fails the checks listed in docs/"
+-- "strange: memory fails the checks listed in docs/", one of which is that no greatest depth is above 8
 abbrev pub check8 : List ℕ → Check
 check8 l = (strange l, Refusal.Strange)
 

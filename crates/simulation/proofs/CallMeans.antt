@@ -15,12 +15,12 @@ use mir.Val.{SFits}
 use mir.Facts.{toZ-ofZ, fits-ofZ}
 use borrow.Author.Tests.{eq-eqb, ne-eqb, lt-ltb, leb-true, leb-false}
 use Rattle.interface.specs.Limits.{greatestTicket}
-use Rattle.interface.specs.Numbers.{kindNone, kindInsert, kindDelete, kindLookup, greatestKind}
+use Rattle.interface.specs.Numbers.{kindNone, kindInsert, kindDelete, kindLookup, kindPost, greatestKind}
 use Rattle.interface.specs.declared.Settings.{Settings}
 use Rattle.interface.specs.declared.Refusal.{Refusal}
 use Rattle.interface.specs.declared.Called.{Called}
 use Rattle.machine.specs.Choice.{if_then_else_, assign}
-use Rattle.machine.specs.Sequential.{Update, insert, delete, Operation, update, lookup}
+use Rattle.machine.specs.Sequential.{Update, insert, delete, post, Operation, update, lookup}
 use Rattle.machine.specs.Records.{Worker, Machine}
 use Rattle.machine.specs.Calls.{operationOf, ticketFor, begun, call}
 use Rattle.machine.proofs.laws.Base.{if-true, if-false}
@@ -116,7 +116,7 @@ module _ {s : Settings} {l : List ℕ} {m : Machine} {w : ℕ} (ready : Ready s 
       abbrev called : Descriptor
       called = updateCalled kind a v before
 
-      -- an insert or a delete
+      -- an insert, a delete or a post
       update-answers :
           (u : Update) → operationOf kind a v ≡ some (update u) → operationIn called ≡ some (update u) → a < 2 ^ 32 → called .total < 2 ^ 64
           → callIn l p kind a v ≡ (
@@ -139,7 +139,8 @@ module _ {s : Settings} {l : List ℕ} {m : Machine} {w : ℕ} (ready : Ready s 
   unfolding callIn operationOf operationIn updateFrom signed if_then_else_ ticketFor
   idle-answers idle zero a v narrow fits =
       alike zero a v (rw (idle-word zero a v idle))
-      (call-kind s m w zero a v (ready .known) idle (λ e. omega arith) (λ e. omega arith) (λ e. omega arith)) (ready .means, refl)
+      (call-kind s m w zero a v (ready .known) idle (λ e. omega arith) (λ e. omega arith) (λ e. omega arith) (λ e. omega arith))
+      (ready .means, refl)
   idle-answers idle (suc zero) a v narrow fits =
       update-answers kindInsert a v idle (insert a v) refl (rw (toZ-ofZ fits)) narrow (fits-ofZ fits .fits)
       (rw (idle-word kindInsert a v idle))
@@ -150,9 +151,14 @@ module _ {s : Settings} {l : List ℕ} {m : Machine} {w : ℕ} (ready : Ready s 
         begun-means (lookupCalled a (before kindLookup a v idle)) (lookup a) refl narrow (omega arith) (last kindLookup a v idle) nowhere,
         refl,
       )
-  idle-answers idle (suc (suc (suc (suc k)))) a v narrow fits =
-      alike _ a v (rw (idle-word (suc (suc (suc (suc k)))) a v idle, lt-ltb greatestKind (suc (suc (suc (suc k)))) (omega arith), or-true))
-      (call-kind s m w _ a v (ready .known) idle (λ e. omega arith) (λ e. omega arith) (λ e. omega arith)) (ready .means, refl)
+  idle-answers idle (suc (suc (suc (suc zero)))) a v narrow fits =
+      update-answers kindPost a v idle (post a v) refl (rw (toZ-ofZ fits)) narrow (fits-ofZ fits .fits)
+      (rw (idle-word kindPost a v idle))
+  idle-answers idle (suc (suc (suc (suc (suc k))))) a v narrow fits =
+      let kind : ℕ = suc (suc (suc (suc (suc k)))) in
+      alike kind a v (rw (idle-word kind a v idle, lt-ltb greatestKind kind (omega arith), or-true))
+      (call-kind s m w kind a v (ready .known) idle (λ e. omega arith) (λ e. omega arith) (λ e. omega arith) (λ e. omega arith))
+      (ready .means, refl)
 
   -- a call with an account of 32 bits and a total of 64
   pub call-means : (kind a : ℕ) (v : ℤ) → a < 2 ^ 32 → SFits w64 v → Answers kind a v

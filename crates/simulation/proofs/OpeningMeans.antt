@@ -9,14 +9,14 @@ use mathlib.Core.Bool.{true, false}
 use mathlib.Core.List.{List, [], _∷_, _++_}
 use lib.ListN.{length, getD, replicate, length-append, length-replicate, getD-replicate, List·getD-append}
 use lib.Seq.{getD-append-add}
-use borrow.Author.Tests.{eq-eqb, le-ltb}
-use Rattle.interface.specs.Limits.{inRange, Range, leastWorkers, greatestWorkers, leastCapacity, greatestCapacity, leastDepth}
-use Rattle.interface.proofs.Laws.{range-of}
+use borrow.Author.Tests.{le-ltb}
+use Rattle.interface.specs.Limits.{inRange, Range, leastWorkers, greatestWorkers, leastCapacity, greatestCapacity, leastDepth, within}
+use Rattle.interface.proofs.Laws.{range-of, within-is}
 use Rattle.interface.specs.declared.Settings.{Settings}
 use Rattle.machine.specs.Choice.{if_then_else_}
 use Rattle.machine.specs.Sequential.{firstBits}
 use Rattle.machine.specs.Records.{Machine, emptyBody, newBucket, firstDirectory, firstCells, noReads, opened, bucketOf}
-use Rattle.fields.specs.Fields.{headerSettings, headerNeeded, headerDepth, headerSpare, capacityUnit, depthUnit, deepest, markUnit, mark, slotKind, slotAccount, slotTotal, slotTicket, slotSize, workerKind, workerAccount, workerTotal, workerTicket, workerSteps, workerToggle, workerMarks, workerSlots, workerSize, recordCount, recordApplied, recordToggle, recordDepth, recordPrefix, settledFrom, answersFrom, recordSize, widestRecord, spareRecords}
+use Rattle.fields.specs.Fields.{headerSettings, headerNeeded, headerDepth, headerSpare, capacityUnit, depthUnit, deepest, markUnit, mark, leastFirst, greatestFirst, slotKind, slotAccount, slotTotal, slotTicket, slotSize, workerKind, workerAccount, workerTotal, workerTicket, workerSteps, workerToggle, workerMarks, workerSlots, workerSize, recordCount, recordApplied, recordToggle, recordDepth, recordPrefix, settledFrom, answersFrom, postedFrom, recordSize, widestRecord, spareRecords}
 use Rattle.fields.specs.Regions.{slotAt, workerAt, slotRead, readAt, directoryStart, recordStart, poolSize, wordsNeeded, leastWords, record′, startOf, slot, worker, entry}
 use Rattle.bucket.specs.declared.BucketState.{BucketState}
 use Rattle.bucket.specs.State.{sizeOf}
@@ -66,9 +66,9 @@ module _ (s : Settings) (range : inRange (s .workers) (s .capacity) (s .depth) �
       let d : x / depthUnit % (deepest + 1) ≡ s .depth = rest-of (x / depthUnit) mark (s .depth) (omega arith) (omega arith) in
       λ i. record { workers = n i; capacity = b i; depth = d i }
 
-  marked : firstWord s / markUnit ≡ mark
+  marked : within leastFirst (firstWord s) greatestFirst ≡ true
   unfolding firstWord
-  marked = let k = limits in omega arith
+  marked = let k = limits in within-is leastFirst (firstWord s) greatestFirst (omega arith) (omega arith)
 
   -- the words needed are enough for the checks
   needed-least : leastWords ≤ wordsNeeded s
@@ -91,7 +91,7 @@ module _ (s : Settings) (range : inRange (s .workers) (s .capacity) (s .depth) �
     pub strange-never : strange l ≡ false
     unfolding strange
     strange-never =
-        let first : word l headerSettings / markUnit ≡ mark = rw (means .first) marked in
+        let first : within leastFirst (word l headerSettings) greatestFirst ≡ true = rw (means .first) marked in
         let long = needed-least in
         let rest = fresh-parts s .1 in
         let p = pow-pos (s .depth) in
@@ -99,7 +99,7 @@ module _ (s : Settings) (range : inRange (s .workers) (s .capacity) (s .depth) �
         simp (
           shape-is,
           le-ltb (length l) leastWords (omega arith),
-          eq-eqb (word l headerSettings / markUnit) mark first,
+          first,
           le-ltb (length l) (word l headerNeeded) (rw (means .needed) lent),
           le-ltb (length l) (directoryStart (s .workers) + widestRecord) (omega arith),
         )
@@ -242,6 +242,7 @@ module _ (s : Settings) (range : inRange (s .workers) (s .capacity) (s .depth) �
             totals = sized .totals;
             settled = sized .settled;
             answers = sized .answers;
+            posted = sized .posted;
             ascending = rw no-items tt;
             narrow = rw no-accounts tt;
             fits = rw no-accounts tt;
@@ -249,7 +250,8 @@ module _ (s : Settings) (range : inRange (s .workers) (s .capacity) (s .depth) �
           items = no-items;
           settled = λ j jn o. record {
             ticket = early (settledFrom q (s .capacity)) (settledFrom 0 (s .capacity)) j (omega arith) jn (omega arith) o;
-            answer = answerOf (early (answersFrom q (s .capacity) n) (answersFrom 0 (s .capacity) n) j (omega arith) jn (omega arith) o);
+            answer = answerOf (early (answersFrom q (s .capacity) n) (answersFrom 0 (s .capacity) n) j (omega arith) jn (omega arith) o)
+                (early (postedFrom q (s .capacity) n) (postedFrom 0 (s .capacity) n) j (omega arith) jn (omega arith) o);
           };
           applied = λ j jn. rw (here recordApplied (omega arith)) (no-bits j);
         }

@@ -10,10 +10,10 @@ use lib.ListN.{length, getD, take}
 use lib.IntN.{ℤ}
 use mir.Syntax.{w64}
 use mir.Val.{toZ}
-use Rattle.interface.specs.Numbers.{kindNone, kindInsert}
+use Rattle.interface.specs.Numbers.{kindNone, kindInsert, kindPost}
 use Rattle.fields.specs.Fields.{slotKind, slotAccount, slotTotal, slotTicket, slotSize}
 use Rattle.machine.specs.Choice.{if_then_else_}
-use Rattle.machine.specs.Sequential.{Table, Update, insert, delete, Ascending}
+use Rattle.machine.specs.Sequential.{Table, Update, insert, delete, post, Ascending}
 use Rattle.machine.specs.Records.{Settled, State, Slot, empty, announced}
 use Rattle.bucket.specs.declared.BucketState.{BucketState}
 use Rattle.rules.specs.declared.Descriptor.{Descriptor}
@@ -43,7 +43,8 @@ totalAt x (At i) = some (signed (getD (x .totals) i 0))
 totalAt x (Before i) = none
 
 unfoldable pub settledOf : BucketState → ℕ → Settled
-settledOf x j = record { ticket = getD (x .settled) j 0; answer = answerOf (getD (x .answers) j 0) }
+settledOf x j =
+    record { ticket = getD (x .settled) j 0; answer = answerOf (getD (x .answers) j 0) (getD (x .posted) j 0) }
 
 -- the bits of a word, one to a worker
 unfoldable pub bitsOf : ℕ → ℕ → Bool
@@ -51,9 +52,12 @@ bitsOf w j = eqb (bit w j) 1
 
 -- ---- a slot
 
--- any kind but an insert's is a delete
+-- any kind but an insert's and a post's is a delete
 unfoldable pub updateFrom : Descriptor → Update
-updateFrom u = if eqb (u .kind) kindInsert then insert (u .account) (signed (u .total)) else delete (u .account)
+updateFrom u =
+    if eqb (u .kind) kindInsert then insert (u .account) (signed (u .total))
+    else if eqb (u .kind) kindPost then post (u .account) (signed (u .total))
+    else delete (u .account)
 
 -- a slot without a kind is empty
 unfoldable pub slotFrom : Descriptor → Slot
@@ -77,6 +81,7 @@ pub record Sound (x : BucketState) : Type 0 where
   pub totals : length (x .totals) ≡ arraySize
   pub settled : length (x .settled) ≡ arraySize
   pub answers : length (x .answers) ≡ arraySize
+  pub posted : length (x .posted) ≡ arraySize
   pub ascending : Ascending (itemsOf x)
   pub narrow : Below (2 ^ 32) (take (x .count) (x .accounts))
   pub fits : Below (2 ^ 64) (take (x .count) (x .totals))

@@ -152,7 +152,16 @@ items c A T = pairs (take c A) (take c T)
 
 -- the state with these accounts and totals, the first c of each
 abbrev holding : BucketState → List ℕ → List ℕ → ℕ → BucketState
-holding x A T c = record { accounts = A; totals = T; settled = x .settled; answers = x .answers; count = c; applied = x .applied }
+holding x A T c =
+    record {
+      accounts = A;
+      totals = T;
+      settled = x .settled;
+      answers = x .answers;
+      posted = x .posted;
+      count = c;
+      applied = x .applied;
+    }
 
 -- y is sound, and is x but for its table, which is t
 pub record Becomes (x : BucketState) (t : Table) (y : BucketState) : Type 0 where
@@ -160,7 +169,12 @@ pub record Becomes (x : BucketState) (t : Table) (y : BucketState) : Type 0 wher
   pub items : itemsOf y ≡ t
   pub settled : y .settled ≡ x .settled
   pub answers : y .answers ≡ x .answers
+  pub posted : y .posted ≡ x .posted
   pub applied : y .applied ≡ x .applied
+
+-- a table that nothing changes
+pub stays-as : {x : BucketState} {t : Table} → Sound x → itemsOf x ≡ t → Becomes x t x
+stays-as s e = record { sound = s; items = e; settled = refl; answers = refl; posted = refl; applied = refl }
 
 items-are : (x : BucketState) → x .count ≤ arraySize → itemsOf x ≡ items (x .count) (x .accounts) (x .totals)
 unfolding itemsOf
@@ -177,6 +191,7 @@ holding-becomes {x} {t} A T c s la lt few narrow fits asc e =
         totals = lt;
         settled = s .settled;
         answers = s .answers;
+        posted = s .posted;
         ascending = subst Ascending (sym has) asc;
         narrow = narrow;
         fits = fits;
@@ -184,6 +199,7 @@ holding-becomes {x} {t} A T c s la lt few narrow fits asc e =
       items = has;
       settled = refl;
       answers = refl;
+      posted = refl;
       applied = refl;
     }
   where
@@ -370,8 +386,7 @@ module _ (x : BucketState) (s : Sound x) where
         (below-removed (2 ^ 64) (x .totals) c i (omega arith) (h .0) (s .fits))
         (ascending-remove (itemsOf x) a (s .ascending)) (removed-items a i h)
         )
-    remove-at-becomes (Before i) h =
-        record { sound = s; items = sym (absent-items a i h .1); settled = refl; answers = refl; applied = refl }
+    remove-at-becomes (Before i) h = stays-as s (sym (absent-items a i h .1))
 
     -- "takes the account out, or .. changes nothing"
     pub remove-becomes : Becomes x (remove (itemsOf x) a) (removeOf x (searchOf x a))
@@ -417,6 +432,7 @@ sound-applied w s =
       totals = s .totals;
       settled = s .settled;
       answers = s .answers;
+      posted = s .posted;
       ascending = s .ascending;
       narrow = s .narrow;
       fits = s .fits;

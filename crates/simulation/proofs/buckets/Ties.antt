@@ -10,16 +10,19 @@ use mathlib.Core.List.{List}
 use mathlib.Core.Option.{none}
 use lib.Dec.{ltb, leb, eqb}
 use lib.IntN.{ℤ}
+use mir.Syntax.{w64}
+use mir.Val.{ofZ}
+use mir.Facts.{toZ-ofZ, fits-ofZ}
 use lib.ListN.{length, getD, set, length-set}
 use borrow.Author.Tests.{leb-true, leb-false, le-ltb, lt-ltb, eq-eqb, ne-eqb, not-true}
 use lib.Seq.{getD-set-same, getD-set-other}
-use Rattle.interface.specs.Numbers.{kindNone, kindInsert, answerTotal, answerNumber}
+use Rattle.interface.specs.Numbers.{kindNone, kindInsert, kindPost, answerTotal, answerNumber}
 use Rattle.interface.specs.declared.Answer.{Answer}
-use Rattle.interface.specs.declared.Answer.the-variants.{Added, Replaced, Removed, Absent, Found, None, Crowded}
+use Rattle.interface.specs.declared.Answer.the-variants.{Added, Replaced, Removed, Absent, Found, None, Posted, Crowded, Overrun}
 use Rattle.interface.specs.declared.Settings.{Settings}
 use Rattle.fields.specs.Fields.{slotSize}
 use Rattle.machine.specs.Choice.{if_then_else_, _and_}
-use Rattle.machine.specs.Sequential.{Table, Update, insert, delete, present, result, changed, find, having}
+use Rattle.machine.specs.Sequential.{Table, Update, insert, delete, post, present, totalOr0, isTotal, sum, result, changed, find, put, having}
 use Rattle.machine.specs.Records.{Name, Settled, Body, State, Slot, empty, announced, noBits}
 use Rattle.machine.specs.BucketPass.{full, holdsBack, splittable, crowded, settledAt, carryOut, pending, help, helped, nextState}
 use Rattle.machine.specs.DirectoryPass.{half}
@@ -29,55 +32,67 @@ use Rattle.bucket.specs.declared.BucketState.{BucketState}
 use Rattle.rules.specs.declared.Descriptor.{Descriptor}
 use Rattle.arrays.specs.declared.Position.{Position}
 use Rattle.arrays.specs.declared.Position.the-variants.{At, Before}
-use Rattle.bucket.specs.State.{arraySize, sizeOf, searchOf, putOf, removeOf, settleOf}
-use Rattle.rounds.specs.Rounds.{carryOf, helpOf, helpedOf, withApplied, roundOf}
+use Rattle.bucket.specs.State.{arraySize, sizeOf, searchOf, totalIn, putOf, removeOf, settleOf}
+use Rattle.sums.specs.declared.Sum.the-variants.{Within, Outside}
+use Rattle.sums.specs.Sums.{added, sumOf}
+use Rattle.sums.proofs.Ranges.{fits-total}
+use Rattle.rounds.specs.Rounds.{postedOf, postOf, carryOf, helpOf, helpedOf, withApplied, roundOf}
 use Rattle.halves.specs.Halves.{halfOf}
-use Rattle.rules.specs.Rules.{fullBy, holdsBackBy, splittableBy, crowdedBy, descriptorIn, answerBy, insertAnswer, deleteAnswer, bit, pendingBy, answerOf}
+use Rattle.rules.specs.Rules.{fullBy, holdsBackBy, splittableBy, crowdedBy, descriptorIn, answerBy, insertAnswer, deleteAnswer, postedNumber, bit, pendingBy, answerOf}
 use Rattle.simulation.specs.Buckets.{signed, itemsOf, totalAt, settledOf, bitsOf, updateFrom, slotFrom, slotOf, SoundSlots, Means}
 use Rattle.rules.proofs.Laws.{room-left, pending-settled}
 use Rattle.rounds.proofs.Laws.{help-left}
-use Rattle.simulation.proofs.buckets.Items.{Becomes, find-search, put-becomes, remove-becomes, sound-applied, half-becomes, length-items}
+use Rattle.simulation.proofs.buckets.Items.{Becomes, stays-as, find-search, put-becomes, remove-becomes, sound-applied, half-becomes, length-items}
 
 -- ---- answers
 
 -- every answer without a total is read back from its number
-pub answer-back : (a : Answer) → answerTotal a ≡ none → answerOf (answerNumber a) ≡ a
+pub answer-back : (a : Answer) (total : ℕ) → answerTotal a ≡ none → answerOf (answerNumber a) total ≡ a
 unfolding answerOf answerTotal if_then_else_
-answer-back Added e = refl
-answer-back Replaced e = refl
-answer-back Removed e = refl
-answer-back Absent e = refl
-answer-back (Found v) e = cc
-answer-back None e = refl
-answer-back Crowded e = refl
+answer-back Added total e = refl
+answer-back Replaced total e = refl
+answer-back Removed total e = refl
+answer-back Absent total e = refl
+answer-back (Found v) total e = cc
+answer-back None total e = refl
+answer-back (Posted v) total e = cc
+answer-back Crowded total e = refl
+answer-back Overrun total e = refl
 
 -- ---- an update carried out
 
 -- the number of an answer, by the position that was found, stands for the machine's answer
 insert-answer :
     (x : BucketState) (p : Position) (a : ℕ) (z : ℤ) (t : Table) → find t a ≡ totalAt x p
-    → answerOf (insertAnswer p) ≡ result (insert a z) t
+    → answerOf (insertAnswer p) 0 ≡ result (insert a z) t
 unfolding answerOf insertAnswer answerBy result totalAt present if_then_else_
 insert-answer x (At i) a z t h = rw h
 insert-answer x (Before i) a z t h = rw h
 
 delete-answer :
-    (x : BucketState) (p : Position) (a : ℕ) (t : Table) → find t a ≡ totalAt x p → answerOf (deleteAnswer p) ≡ result (delete a) t
+    (x : BucketState) (p : Position) (a : ℕ) (t : Table) → find t a ≡ totalAt x p → answerOf (deleteAnswer p) 0 ≡ result (delete a) t
 unfolding answerOf deleteAnswer answerBy result totalAt present if_then_else_
 delete-answer x (At i) a t h = rw h
 delete-answer x (Before i) a t h = rw h
+
+-- the amount of word v added to what was found is the machine's sum
+sum-is :
+    (x : BucketState) (p : Position) (a v : ℕ) (t : Table) → find t a ≡ totalAt x p → sum t a (signed v) ≡ added (totalIn x p) v
+unfolding sum totalOr0 totalAt totalIn added signed
+sum-is x (At i) a v t h = rw h
+sum-is x (Before i) a v t h = rw h
 
 -- the machine's state with another body
 abbrev pub withBody : State → Body → State
 withBody y b = record { body = b; applied = y .applied }
 
 module _ (x : BucketState) (y : State) (n : ℕ) (few : n ≤ arraySize) (m : Means x y n) where
-  -- z is x with the table that update u makes of it; then its ticket is settled with the answer of number k
+  -- z is x with the table that update u makes of it; then its ticket is settled with the answer of number k and total v
   settle-means :
-      (z : BucketState) (u : Update) (j t k : ℕ) → Becomes x (changed u (itemsOf x)) z → answerOf k ≡ result u (itemsOf x)
-      → Means (settleOf z j t k) (withBody y (carryOut j u t (y .body))) n
+      (z : BucketState) (u : Update) (j t k v : ℕ) → Becomes x (changed u (itemsOf x)) z → answerOf k v ≡ result u (itemsOf x)
+      → Means (settleOf z j t k v) (withBody y (carryOut j u t (y .body))) n
   unfolding settleOf carryOut itemsOf sizeOf settledOf
-  settle-means z u j t k h r =
+  settle-means z u j t k v h r =
       record {
         sound = record {
           count = h .sound .count;
@@ -85,40 +100,44 @@ module _ (x : BucketState) (y : State) (n : ℕ) (few : n ≤ arraySize) (m : Me
           totals = h .sound .totals;
           settled = length-set (z .settled) j t ∙ h .sound .settled;
           answers = length-set (z .answers) j k ∙ h .sound .answers;
+          posted = length-set (z .posted) j v ∙ h .sound .posted;
           ascending = h .sound .ascending;
           narrow = h .sound .narrow;
           fits = h .sound .fits;
         };
         items = h .items ∙ ap (changed u) (m .items);
-        settled = λ i l. assign-elim (λ (e : Settled). settledOf (settleOf z j t k) i ≡ e) (y .body .settled) j _ i (own i l) (other i l);
+        settled = λ i l. assign-elim (λ (e : Settled). settledOf (settleOf z j t k v) i ≡ e) (y .body .settled) j _ i (own i l) (other i l);
         applied = λ i l. ap (λ (w : ℕ). bitsOf w i) (h .applied) ∙ m .applied i l;
       }
     where
-      own : (i : ℕ) → i < n → i ≡ j → settledOf (settleOf z j t k) i ≡ record { ticket = t; answer = result u (y .body .items) }
+      -- an array with its item j set, at j and elsewhere
+      at : (a : List ℕ) (e i : ℕ) → i < n → length a ≡ arraySize → i ≡ j → getD (set a j e) i 0 ≡ e
+      at a e i l long same = rw same (getD-set-same a j e 0 (omega arith))
+
+      beside : (a b : List ℕ) (e i : ℕ) → a ≡ b → i ≢ j → getD (set a j e) i 0 ≡ getD b i 0
+      beside a b e i same apart = getD-set-other a j i e 0 apart ∙ ap (λ (a : List ℕ). getD a i 0) same
+
+      own : (i : ℕ) → i < n → i ≡ j → settledOf (settleOf z j t k v) i ≡ record { ticket = t; answer = result u (y .body .items) }
       own i l e =
-          let p : getD (set (z .settled) j t) i 0 ≡ t = rw e (getD-set-same (z .settled) j t 0 (omega (arith, h .sound .settled))) in
-          let q : getD (set (z .answers) j k) i 0 ≡ k = rw e (getD-set-same (z .answers) j k 0 (omega (arith, h .sound .answers))) in
-          let g : answerOf (getD (set (z .answers) j k) i 0) ≡ result u (y .body .items) = ap answerOf q ∙ r ∙ ap (result u) (m .items) in
-          λ o. record { ticket = p o; answer = g o }
+          let g : settledOf (settleOf z j t k v) i .answer ≡ result u (y .body .items) =
+          ap₂ answerOf (at (z .answers) k i l (h .sound .answers) e) (at (z .posted) v i l (h .sound .posted) e) ∙ r
+          ∙ ap (result u) (m .items) in
+          λ o. record { ticket = at (z .settled) t i l (h .sound .settled) e o; answer = g o }
 
-      at : ℕ → List ℕ → ℕ
-      at i l = getD l i 0
-
-      other : (i : ℕ) → i < n → i ≢ j → settledOf (settleOf z j t k) i ≡ y .body .settled i
+      other : (i : ℕ) → i < n → i ≢ j → settledOf (settleOf z j t k v) i ≡ y .body .settled i
       other i l e =
-          let p : getD (set (z .settled) j t) i 0 ≡ getD (x .settled) i 0 =
-          getD-set-other (z .settled) j i t 0 e ∙ ap (at i) (h .settled) in
-          let q : getD (set (z .answers) j k) i 0 ≡ getD (x .answers) i 0 =
-          getD-set-other (z .answers) j i k 0 e ∙ ap (at i) (h .answers) in
-          let g : settledOf (settleOf z j t k) i ≡ settledOf x i = λ o. record { ticket = p o; answer = answerOf (q o) } in
+          let g : settledOf (settleOf z j t k v) i ≡ settledOf x i = λ o. record {
+            ticket = beside (z .settled) (x .settled) t i (h .settled) e o;
+            answer = answerOf (beside (z .answers) (x .answers) k i (h .answers) e o) (beside (z .posted) (x .posted) v i (h .posted) e o);
+          } in
           g ∙ m .settled i l
 
   -- worker j's update carried out, where there is room
   pub carry-means :
       (j : ℕ) (u : Descriptor) → u .account < 2 ^ 32 → u .total < 2 ^ 64 → x .count < arraySize
       → Means (carryOf x j u) (withBody y (carryOut j (updateFrom u) (u .ticket) (y .body))) n
-  unfolding carryOf updateFrom if_then_else_ changed
-  carry-means j u narrow fits room = go (eqb (u .kind) kindInsert)
+  unfolding carryOf postOf sumOf postedOf updateFrom if_then_else_ changed result answerOf signed
+  carry-means j u narrow fits room = go (eqb (u .kind) kindInsert) (eqb (u .kind) kindPost)
     where
       a : ℕ
       a = u .account
@@ -135,14 +154,37 @@ module _ (x : BucketState) (y : State) (n : ℕ) (few : n ≤ arraySize) (m : Me
       finds : find (itemsOf x) a ≡ totalAt x p
       finds = find-search x (m .sound) a
 
+      z : ℤ
+      z = added (totalIn x p) v
+
+      sums : sum (itemsOf x) a (signed v) ≡ z
+      sums = sum-is x p a v (itemsOf x) finds
+
+      -- a post, by whether its sum is a total
+      posts :
+          (b : Bool) → isTotal z ≡ b
+          → Means (postedOf x j p u (if b then Within (ofZ w64 z) else Outside)) (withBody y (carryOut j (post a (signed v)) t (y .body))) n
+      posts true e =
+          let f = fits-total z e in
+          let w : ℕ = ofZ w64 z in
+          settle-means (putOf x p a w) (post a (signed v)) j t postedNumber w
+          (rw (sums, e) (subst (λ (r : ℤ). Becomes x (put (itemsOf x) a r) (putOf x p a w)) (toZ-ofZ f)
+          (put-becomes x (m .sound) a w narrow (fits-ofZ f .fits) (λ e. room))))
+          (rw (sums, e, toZ-ofZ f))
+      posts false e =
+          settle-means x (post a (signed v)) j t (answerNumber Overrun) 0 (rw (sums, e) (stays-as (m .sound) refl)) (rw (sums, e))
+
       go :
-          (b : Bool)
-          → Means (if b then settleOf (putOf x p a v) j t (insertAnswer p) else settleOf (removeOf x p) j t (deleteAnswer p))
-          (withBody y (carryOut j (if b then insert a (signed v) else delete a) t (y .body))) n
-      go true =
-          settle-means (putOf x p a v) (insert a (signed v)) j t _ (put-becomes x (m .sound) a v narrow fits (λ e. room))
+          (b c : Bool)
+          → Means (if b then settleOf (putOf x p a v) j t (insertAnswer p) 0 else if c then postOf x j p u
+          else settleOf (removeOf x p) j t (deleteAnswer p) 0)
+          (withBody y (carryOut j (if b then insert a (signed v) else if c then post a (signed v) else delete a) t (y .body))) n
+      go true c =
+          settle-means (putOf x p a v) (insert a (signed v)) j t _ 0 (put-becomes x (m .sound) a v narrow fits (λ e. room))
           (insert-answer x p a (signed v) (itemsOf x) finds)
-      go false = settle-means (removeOf x p) (delete a) j t _ (remove-becomes x (m .sound) a) (delete-answer x p a (itemsOf x) finds)
+      go false true = posts (isTotal z) refl
+      go false false =
+          settle-means (removeOf x p) (delete a) j t _ 0 (remove-becomes x (m .sound) a) (delete-answer x p a (itemsOf x) finds)
 
 -- ---- the tests of a round
 

@@ -77,7 +77,7 @@ module _ (x y : BucketState) (n : ℕ) (z : State) (sized : Sized y) (same : Sam
 
   same-settled : (j : ℕ) → j < n → settledOf y j ≡ settledOf x j
   unfolding settledOf
-  same-settled j h = rw (same .settled j h, same .answer j h)
+  same-settled j h = rw (same .settled j h, same .answer j h, same .posted j h)
 
   same-means : Means y z n
   same-means = record {
@@ -87,6 +87,7 @@ module _ (x y : BucketState) (n : ℕ) (z : State) (sized : Sized y) (same : Sam
       totals = sized .totals;
       settled = sized .settled;
       answers = sized .answers;
+      posted = sized .posted;
       ascending = rw same-items (m .sound .ascending);
       narrow = rw same-accounts (m .sound .narrow);
       fits = rw same-totals (m .sound .fits);
@@ -139,7 +140,9 @@ module _ (s : Settings) (range : inRange (s .workers) (s .capacity) (s .depth) �
       fits = omega (arith, record-inside s r rn)
 
       sized : Sized x
-      sized = let h = m .sound in record { accounts = h .accounts; totals = h .totals; settled = h .settled; answers = h .answers }
+      sized =
+          let h = m .sound in
+          record { accounts = h .accounts; totals = h .totals; settled = h .settled; answers = h .answers; posted = h .posted }
 
 -- ---- a round
 

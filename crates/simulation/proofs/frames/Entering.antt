@@ -13,7 +13,7 @@ use lib.Dec.{eqb}
 use lib.ListN.{length, set, length-set}
 use borrow.Author.Tests.{le-leb}
 use Rattle.interface.specs.Limits.{inRange}
-use Rattle.interface.specs.Numbers.{kindNone, kindInsert, kindLookup}
+use Rattle.interface.specs.Numbers.{kindNone, kindInsert, kindLookup, kindPost}
 use Rattle.interface.proofs.Laws.{range-of}
 use Rattle.interface.specs.declared.Settings.{Settings}
 use Rattle.interface.specs.declared.Answer.{Answer}
@@ -78,7 +78,11 @@ module _ (s : Settings) where
 module _ (d : Descriptor) where
   pub account-of : account (updateFrom d) ≡ d .account
   unfolding updateFrom
-  account-of = if-elim (λ (u : Update). account u ≡ d .account) (eqb (d .kind) kindInsert) _ _ (λ e. refl) (λ e. refl)
+  account-of =
+      if-elim same (eqb (d .kind) kindInsert) _ _ (λ e. refl) (λ e. if-elim same (eqb (d .kind) kindPost) _ _ (λ e. refl) (λ e. refl))
+    where
+      same : Update → Type 0
+      same u = account u ≡ d .account
 
   -- a slot's has update u with ticket t
   pub record Describes (u : Update) (t : ℕ) : Type 0 where

@@ -103,10 +103,10 @@ module _ (l : List ℕ) (s : Settings) (w : ℕ) (f : Fits l s) (known : w < s .
   unfolding endedAt
   length-ended k c a = simp length-set
 
-  length-check : (k c : ℕ) (o : Option ℕ) → LongAfter l (checkAt l p k c o)
+  length-check : (k c : ℕ) (o : Option Answer) → LongAfter l (checkAt l p k c o)
   unfolding checkAt
   length-check k c none = refl
-  length-check k c (some x) = length-ended k c _
+  length-check k c (some a) = length-ended k c a
 
   length-update : (k n : ℕ) (x : Phase) → n ≡ s .workers → x ≡ phase n k → LongAfter l (updateAt l s p w k x)
   unfolding updateAt bucketReadAt flippedAt stateReadAt toggleReadAt directoryReadAt stateStepAt

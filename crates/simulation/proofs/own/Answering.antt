@@ -3,18 +3,17 @@
 use Prim.Native.Nat.{ℕ, _+_, _≤_, _<_}
 use native.Mathlib.Omega.{arith}
 use native.Mathlib.Decide.{ℕ-discrete}
-use mathlib.Core.Path.{_≡_, refl, ap, sym, _∙_, subst}
+use mathlib.Core.Path.{_≡_, refl, ap, ap₂, sym, _∙_, subst}
 use mathlib.Core.Logic.{by-cases}
 use mathlib.Core.Bool.{not}
 use mathlib.Core.List.{List}
-use mathlib.Core.Option.{Option, none, some}
+use mathlib.Core.Option.{none, some}
 use lib.Dec.{ltb, leb, eqb}
 use lib.ListN.{length, take, length-take}
 use mir.Syntax.{w64}
 use mir.Val.{toZ}
 use lib.Seq.{getD-take, length-take-le}
 use borrow.Author.Tests.{le-leb, lt-leb, eq-eqb, ne-eqb}
-use Rattle.interface.specs.Numbers.{answerNumber, answerTotal}
 use Rattle.interface.specs.declared.Settings.{Settings}
 use Rattle.interface.specs.declared.Answer.{Answer}
 use Rattle.interface.specs.declared.Answer.the-variants.{Crowded}
@@ -22,7 +21,6 @@ use Rattle.machine.specs.Choice.{if_then_else_, _and_}
 use Rattle.machine.specs.Sequential.{Table, find, looked}
 use Rattle.machine.specs.Records.{Settled, Body, Bucket}
 use Rattle.machine.specs.BucketPass.{full, holdsBack, splittable, crowded, settledAt, checked}
-use Rattle.machine.proofs.laws.Base.{if-ap}
 use Rattle.bucket.specs.declared.BucketState.{BucketState}
 use Rattle.arrays.specs.declared.Position.{Position}
 use Rattle.arrays.specs.declared.Position.the-variants.{At, Before}
@@ -33,8 +31,8 @@ use Rattle.simulation.specs.Buckets.{signed, totalAt, settledOf}
 use Rattle.bucket.proofs.Laws.{size-is}
 use Rattle.arrays.proofs.Laws.{Among, scan-among}
 use Rattle.simulation.proofs.buckets.Items.{find-search}
-use Rattle.simulation.proofs.buckets.Ties.{answer-back, full-means, holds-back-means, ltb-not}
-use Rattle.fields.specs.Fields.{workerTicket, recordCount, recordDepth, accountsFrom, totalsFrom, settledFrom, answersFrom}
+use Rattle.simulation.proofs.buckets.Ties.{full-means, holds-back-means, ltb-not}
+use Rattle.fields.specs.Fields.{workerTicket, recordCount, recordDepth, accountsFrom, totalsFrom, settledFrom, answersFrom, postedFrom}
 use Rattle.fields.specs.Regions.{poolSize, wordsNeeded, record′, startOf}
 use Rattle.fields.proofs.Regions.{record-inside}
 use Rattle.lists.specs.Parts.{part}
@@ -45,7 +43,7 @@ use Rattle.record.proofs.Runs.{length-copied, getD-copied}
 use Rattle.memory.proofs.Lesser.{least-same}
 use Rattle.record.proofs.States.{loaded-count}
 use Rattle.layout.specs.Shape.{word}
-use Rattle.record.specs.Bucket.{bucketAt, holdsBackAt, splittableAt, crowdedAt, settledTicket, settledAnswer}
+use Rattle.record.specs.Bucket.{bucketAt, holdsBackAt, splittableAt, crowdedAt, settledTicket, settledAnswer, settledTotal}
 use Rattle.updates.specs.Updates.{checkedAt}
 use Rattle.lookups.specs.Lookups.{foundAt, lookedAt}
 use Rattle.simulation.specs.Meaning.{at, Keeps}
@@ -53,11 +51,6 @@ use Rattle.simulation.specs.Meaning.{at, Keeps}
 -- ---- a lookup
 
 -- ---- a check
-
--- the answer that a check's number is
-abbrev pub answered : Option ℕ → Option Answer
-answered none = none
-answered (some v) = some (answerOf v)
 
 -- at a depth that is no greater, the greatest one
 at-greatest : (M d : ℕ) → d ≤ M → leb M d ≡ eqb d M
@@ -143,19 +136,17 @@ module _ (s : Settings) (narrow : s .capacity ≤ arraySize) (few : s .workers �
         (t : ℕ) → ltb (settledTicket l s (startOf s (record′ r)) w) t ≡ not (leb t (x .state .value .body .settled w .ticket))
     unsettled-is t = ltb-not _ t ∙ ap (λ (k : ℕ). not (leb t k)) ticket-is
 
-    answer-is : answerOf (settledAnswer l s q w) ≡ b .settled w .answer
+    answer-is : answerOf (settledAnswer l s q w) (settledTotal l s q w) ≡ b .settled w .answer
     unfolding loadedState settledOf
     answer-is =
-        ap answerOf (sym (getD-copied l (answersFrom q (s .capacity) (s .workers)) (s .workers) w few wn))
+        ap₂ answerOf (sym (getD-copied l (answersFrom q (s .capacity) (s .workers)) (s .workers) w few wn))
+        (sym (getD-copied l (postedFrom q (s .capacity) (s .workers)) (s .workers) w few wn))
         ∙ ap (λ (z : Settled). z .answer) (keeps .state .settled w wn)
 
     pub checked-is :
         (p t d : ℕ) → word l (p + workerTicket) ≡ t → at s l (record′ r) recordDepth ≡ d → d ≤ s .depth
-        → answered (checkedAt l s p (startOf s (record′ r)) w) ≡ checked s w t d (x .state .value .body)
-    unfolding checkedAt checked settledAt answerTotal
+        → checkedAt l s p (startOf s (record′ r)) w ≡ checked s w t d (x .state .value .body)
+    unfolding checkedAt checked settledAt
     checked-is p t d e f deep =
         let full-deep = crowded-is d f deep in
-        if-ap answered (leb (word l (p + workerTicket)) (settledTicket l s q w)) _ _
-        ∙ (λ i. if leb (e i) (ticket-is i) then some (answer-is i) else
-        (if-ap answered (crowdedAt l s q) (some (answerNumber Crowded)) none
-        ∙ (λ j. if full-deep j then some (answer-back Crowded refl j) else none)) i)
+        λ i. if leb (e i) (ticket-is i) then some (answer-is i) else if full-deep i then some Crowded else none

@@ -10,7 +10,6 @@ use Rattle.interface.specs.Numbers.{kindNone}
 use Rattle.interface.proofs.Laws.{range-of}
 use Rattle.interface.specs.declared.Settings.{Settings}
 use Rattle.interface.specs.declared.Answer.{Answer}
-use Rattle.interface.specs.declared.Stepped.{Stepped}
 use Rattle.machine.specs.Choice.{if_then_else_, assign}
 use Rattle.machine.specs.Sequential.{Operation, lookup, find, looked}
 use Rattle.machine.specs.Records.{Name, Reads, Machine}
@@ -26,7 +25,7 @@ use Rattle.machine.specs.Tasks.{Task, about, target, held, taskOf, tasksOf, loo
 use Rattle.machine.proofs.invariant.Inv.{Hold, body, ReadFacts, Looking}
 use Rattle.machine.proofs.invariant.Transitions.{endedTask}
 use Rattle.rules.specs.declared.Descriptor.{Descriptor}
-use Rattle.rules.specs.Rules.{descriptorIn, answerOf}
+use Rattle.rules.specs.Rules.{descriptorIn}
 use Rattle.fields.specs.Fields.{workerKind, workerAccount, workerTotal, workerTicket, workerSteps, workerToggle, workerMarks, recordDepth}
 use Rattle.fields.specs.Regions.{startOf, worker}
 use Rattle.layout.specs.Shape.{word}
@@ -37,7 +36,7 @@ use Rattle.updates.specs.Updates.{checkedAt, updateAt, checkAt}
 use Rattle.calls.specs.Calls.{endedAt}
 use Rattle.simulation.specs.Meaning.{at, operationIn}
 use Rattle.simulation.proofs.frames.Entering.{raised, checkBy, counter-is, is-about, lookup-enters}
-use Rattle.simulation.proofs.own.Answering.{answered, looked-is, checked-is}
+use Rattle.simulation.proofs.own.Answering.{looked-is, checked-is}
 use Rattle.simulation.proofs.frames.Frames.{record-wide, own-record}
 use Rattle.simulation.proofs.frames.OwnWorker.{worker-means, nowhere, Ready, Next, Words, Free, words-here, words-set, mine-means, slots-kept, toggle-kept, Onward, enough₁, own₁, beside₁, free, mine, at-mine, keeps₁, announced-at, plan-step, stays}
 
@@ -149,14 +148,14 @@ module _ {s : Settings} {l : List ℕ} {m : Machine} {w : ℕ} (ready : Ready s 
     abbrev number : ℕ
     number = checkNumber (s .workers) (m .workers w .steps)
 
-    abbrev found : Option ℕ
+    abbrev found : Option Answer
     found = checkedAt l₁ s me (heldBy l₁ me) w
 
     check-enters : stepIn l s w ≡ checkAt l₁ me (m .workers w .steps) number found
     unfolding updateAt
     check-enters = plan-step ready (checkS p x) (announced-at ready (checkS p x) e) e
 
-    check-finds : answered found ≡ checked s w (k .ticket) (held k .depth) (body (m .cells) (held k))
+    check-finds : found ≡ checked s w (k .ticket) (held k .depth) (body (m .cells) (held k))
     check-finds =
         let h : HoldsBucket (k .pc) = subst⁻¹ HoldsBucket e tt in
         let limits = range-of (s .workers) (s .capacity) (s .depth) (ready .range) in
@@ -172,25 +171,16 @@ module _ {s : Settings} {l : List ℕ} {m : Machine} {w : ℕ} (ready : Ready s 
         (a : Answer) → checked s w (k .ticket) (held k .depth) (body (m .cells) (held k)) ≡ some a → Ends a
     unfolding checkAt checkOf
     answers-means a q =
-        ends a number (ap (checkBy s (m .workers w)) (announced-at ready (checkS p x) e .asks)) (check-enters ∙ go found (check-finds ∙ q))
-      where
-        go :
-            (o : Option ℕ) → answered o ≡ some a
-            → checkAt l₁ me (m .workers w .steps) number o ≡ endedAt l₁ me (m .workers w .steps) number a
-        go none g = let z : _≡_ {A = ℕ} 0 1 = cc in absurd (omega arith)
-        go (some v) g = let z : answerOf v ≡ a = cc in ap (endedAt l₁ me (m .workers w .steps) number) z
+        ends a number (ap (checkBy s (m .workers w)) (announced-at ready (checkS p x) e .asks))
+        (check-enters ∙ ap (checkAt l₁ me (m .workers w .steps) number) (check-finds ∙ q))
 
     pub passes-means :
         checked s w (k .ticket) (held k .depth) (body (m .cells) (held k)) ≡ none → Onward ready (afterC p x) (k .reads)
     unfolding checkAt
     passes-means q =
         stays ready (afterC p x) (λ z. absurd (nothing p x .0 z)) (nothing p x .1) (nothing p x .2)
-        (check-enters ∙ go found (check-finds ∙ q))
+        (check-enters ∙ ap (checkAt l₁ me (m .workers w .steps) number) (check-finds ∙ q))
       where
-        go : (o : Option ℕ) → answered o ≡ none → checkAt l₁ me (m .workers w .steps) number o ≡ (l₁, Stepped.Moved)
-        go none g = refl
-        go (some v) g = let z : _≡_ {A = ℕ} 0 1 = cc in absurd (omega arith)
-
         nothing : (p x : Two) → Free (afterC p x)
         nothing p one = nowhere
         nothing one two = nowhere

@@ -1,0 +1,1 @@
+// Nothing runs here: the crate is its definitions (specs/) and its theorems (proofs/).
