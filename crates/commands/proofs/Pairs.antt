@@ -1,14 +1,16 @@
 -- Two numbers read together, and what a command is where they are none. Rests on the definitions of specs/Commands.
 use Prim.Native.Nat.{ℕ}
 use mathlib.Core.Path.{_≡_, refl}
+use mathlib.Core.Bool.{false}
 use mathlib.Core.List.{List}
 use mathlib.Core.Option.{Option, none, some}
 use native.Mathlib.Omega.{arith}
 use lib.Dec.{eqb}
-use Rattle.interface.specs.Numbers.{kindDelete, kindLookup}
+use Rattle.interface.specs.Numbers.{kindDelete, kindLookup, kindPost}
+use Rattle.machine.specs.Choice.{if_then_else_}
 use Rattle.machine.proofs.laws.Base.{if-elim}
 use Rattle.commands.specs.declared.Command.{Command}
-use Rattle.commands.specs.declared.Command.the-variants.{Insert, Delete, Lookup, Unread}
+use Rattle.commands.specs.declared.Command.the-variants.{Insert, Delete, Lookup, Post, Unread}
 use Rattle.numerals.specs.declared.Pair.the-variants as Pair
 use Rattle.numerals.specs.Numerals.{asPair}
 use Rattle.commands.specs.Commands.{smallOf, accountOf, totalOf, with2, with3, operationCommand}
@@ -39,4 +41,21 @@ no-operation kind x y z e =
     if-elim (λ c. Unread ≡ c) (eqb kind kindDelete) _ _ (λ _. unread2 Delete (smallOf x) (accountOf y) (accountOf y) (λ h. h) e)
     (λ _.
     if-elim (λ c. Unread ≡ c) (eqb kind kindLookup) _ _ (λ _. unread2 Lookup (smallOf x) (accountOf y) (accountOf y) (λ h. h) e)
-    (λ _. unread3 Insert (smallOf x) (accountOf y) (totalOf z) e))
+    (λ _.
+    if-elim (λ c. Unread ≡ c) (eqb kind kindPost) _ _ (λ _. unread3 Post (smallOf x) (accountOf y) (totalOf z) e)
+    (λ _. unread3 Insert (smallOf x) (accountOf y) (totalOf z) e)))
+
+no-third : {C : Type 0} (f : ℕ → ℕ → C → Command) (o p : Option ℕ) → Unread ≡ with3 f o p none
+unfolding with3
+no-third f none p = refl
+no-third f (some c) none = refl
+no-third f (some c) (some d) = refl
+
+-- an operation with a third field, which is not read
+pub no-total : (kind : ℕ) (x y z : List ℕ) → eqb kind kindDelete ≡ false → eqb kind kindLookup ≡ false → totalOf z ≡ none
+    → Unread ≡ operationCommand kind x y z
+unfolding operationCommand if_then_else_
+no-total kind x y z d l e =
+    rw (d, l, e)
+    (if-elim (λ c. Unread ≡ c) (eqb kind kindPost) _ _ (λ _. no-third Post (smallOf x) (accountOf y))
+    (λ _. no-third Insert (smallOf x) (accountOf y)))

@@ -6,6 +6,7 @@ ghost use Rattle.commands.specs.Commands.{threeFields, fourFields, openC
 use interface::KIND_DELETE;
 use interface::KIND_INSERT;
 use interface::KIND_LOOKUP;
+use interface::KIND_POST;
 use numerals::Number;
 use numerals::Pair;
 use numerals::Signed;
@@ -22,6 +23,8 @@ pub enum Command {
     Delete(u64, u32),
     // w, account
     Lookup(u64, u32),
+    // w, account, amount
+    Post(u64, u32, i64),
     // w, k
     Steps(u64, u64),
     List,
@@ -56,6 +59,7 @@ pub fn four_fields(letter: u8, x: &[u8], y: &[u8], z: &[u8]) -> Command
     match letter {
         b'O' => open(x, y, z),
         b'I' => operation(KIND_INSERT, x, y, z),
+        b'P' => operation(KIND_POST, x, y, z),
         _ => Command::Unread,
     }
 }
@@ -72,7 +76,8 @@ fn open(x: &[u8], y: &[u8], z: &[u8]) -> Command
     Command::Open(n, b, m)
 }
 
-// A delete, a lookup or, for any other kind, an insert; z is the total of an insert and is else not read.
+// A delete, a lookup, a post or, for any other kind, an insert; z is the amount of a post or the total of an insert and
+// is else not read.
 fn operation(kind: u64, x: &[u8], y: &[u8], z: &[u8]) -> Command
     ensures { λ r. ⌜ r ≡ operationCommand kind (now (x .entry)) (now (y .entry)) (now (z .entry)) ⌝ }
 {
@@ -89,6 +94,9 @@ fn operation(kind: u64, x: &[u8], y: &[u8], z: &[u8]) -> Command
     let Signed::Value(total) = read_signed(z) else {
         return Command::Unread;
     };
+    if kind == KIND_POST {
+        return Command::Post(w, account, total);
+    }
     Command::Insert(w, account, total)
 }
 

@@ -1,4 +1,5 @@
--- No line of more than longestLine bytes means anything: `I 65535 4294967295 -9223372036854775808` is a longest that does.
+-- No line of more than longestLine bytes means anything: `I 65535 4294967295 -9223372036854775808` is a longest that does, and so is a
+-- post's with the same numbers.
 -- Rests on the definitions of specs/Grammar and of crate commands.
 use Prim.Native.Nat.{ℕ, zero, suc, _+_, _-_, _*_, _^_, _≤_, _<_}
 use mathlib.Core.Path.{_≡_, refl, sym, _∙_, ap}
@@ -15,9 +16,9 @@ use Rattle.machine.specs.Choice.{if_then_else_}
 use Rattle.machine.proofs.laws.Base.{and-parts, if-elim}
 use Rattle.decimals.specs.Ascii.{space, minusSign, zeroDigit, nineDigit}
 use Rattle.commands.specs.declared.Command.{Command}
-use Rattle.commands.specs.declared.Command.the-variants.{Open, Insert, Delete, Lookup, Steps, Unread}
+use Rattle.commands.specs.declared.Command.the-variants.{Open, Insert, Delete, Lookup, Post, Steps, Unread}
 use Rattle.numerals.specs.Numerals.{isDigit, digitsAfter, zeroThen, numeral, plus, minus, signedNumeral, upTo, from, in64, greatestTotal, leastTotalSize}
-use Rattle.commands.specs.Commands.{greatestSmall, greatestAccount, leastSteps, greatestSteps, openLetter, insertLetter, deleteLetter, lookupLetter, stepsLetter, smallOf, accountOf, totalOf, stepsOf, with2, with3, oneField, threeFields, fourFields}
+use Rattle.commands.specs.Commands.{greatestSmall, greatestAccount, leastSteps, greatestSteps, openLetter, insertLetter, deleteLetter, lookupLetter, postLetter, stepsLetter, smallOf, accountOf, totalOf, stepsOf, with2, with3, oneField, threeFields, fourFields}
 use Rattle.lines.specs.Grammar.{before, partsAt, fieldsOf, letterOf, ofFields, commandOf}
 use Rattle.lines.specs.Reading.{longestLine}
 use Rattle.numerals.proofs.NumeralLaws.{some-none, passed}
@@ -178,13 +179,13 @@ long-four : (letter : ℕ) (x y z : List ℕ) → smallLength + accountLength + 
     → fourFields letter x y z ≡ Unread
 unfolding fourFields
 long-four letter x y z h =
+    let totalled : (f : ℕ → ℕ → ℤ → Command) → with3 f (smallOf x) (accountOf y) (totalOf z) ≡ Unread = λ f. long3 f (smallOf x)
+    (accountOf y) (totalOf z) (length x) (length y) (length z) smallLength accountLength totalLength (small-length x) (account-length y)
+    (total-length z) h in
     none-of (eqb letter openLetter)
     (long3 Open (smallOf x) (smallOf y) (smallOf z) (length x) (length y) (length z) smallLength smallLength smallLength (small-length x)
     (small-length y) (small-length z) (omega arith))
-    (none-of (eqb letter insertLetter)
-    (long3 Insert (smallOf x) (accountOf y) (totalOf z) (length x) (length y) (length z) smallLength accountLength totalLength
-    (small-length x) (account-length y) (total-length z) h)
-    refl)
+    (none-of (eqb letter insertLetter) (totalled Insert) (none-of (eqb letter postLetter) (totalled Post) refl))
 
 -- ---- lines
 

@@ -1,4 +1,5 @@
--- 01's session, once more on bytes: the input gives exactly the output, by computing both with the definitions.
+-- 01's session, once more on bytes: the input gives exactly the output, by computing both with the definitions. So are lines that are
+-- unread, and posts.
 -- Rests on the machine's definitions and on those of specs/.
 use mathlib.Core.Path.{_≡_, refl}
 use Rattle.interface.specs.Numbers.{bytes, answerWord, answerTotal}
@@ -58,3 +59,15 @@ pub session-of-ends : session (bytes "O 65535 2 1\nO 1 2 1\nI 0 4294967295 -9223
     ≡ bytes "refused 1\nok\nok\nanswered added 13\n4294967295 -9223372036854775808\nend 1\nrefused 3\n"
 unfolding reading
 session-of-ends = refl
+
+-- 02, No. 1: "an amount being ranged and read like a total"
+pub session-of-unread-posts : session (bytes "P 0 7\nP 0 7 -0\nP 0 07 5\nP 0 7 9223372036854775808\nP 0 4294967296 5\nP 65536 7 5\nP 0 7 5")
+    ≡ bytes "unread\nunread\nunread\nunread\nunread\nunread\nrefused 8\n"
+unfolding reading
+session-of-unread-posts = refl
+
+-- "posted prints its total; overrun is printed as an answer without one"
+pub session-of-posts : session (bytes "O 1 2 1\nP 0 5 700\nS 0 13\nP 0 5 -5\nS 0 13\nP 0 5 9223372036854775807\nS 0 13\nT\n")
+    ≡ bytes "ok\nok\nanswered posted 700 13\nok\nanswered posted 695 13\nok\nanswered overrun 13\n5 695\nend 1\n"
+unfolding reading
+session-of-posts = refl

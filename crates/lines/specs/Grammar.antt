@@ -1,6 +1,7 @@
 -- What a line of `totals` means. 01, The driver: "`totals` reads lines from standard input: `O n b M`,
 -- `I w account total`, `D w account`, `L w account`, `S w k` .., `T` (listing). Fields stand one space apart, in
--- decimal." Rests on the commands of a letter and fields, specs/Commands of crate commands.
+-- decimal." 02, No. 1: "the line is `P w account amount`". Rests on the commands of a letter and fields, specs/Commands
+-- of crate commands.
 use Prim.Native.Nat.{ℕ, suc}
 use mathlib.Core.List.{List, [], _∷_}
 use lib.Dec.{eqb}

@@ -1,5 +1,6 @@
 -- Which bytes are a decimal number. 01, The driver: "in decimal"; "Numbers have no leading zeros; a total may start
--- with a minus, but -0 is no number". Rests on the bytes by name and on the tests of the machine's specs/Choice.
+-- with a minus, but -0 is no number"; 02, No. 1: "an amount being ranged and read like a total". Rests on the bytes by
+-- name and on the tests of the machine's specs/Choice.
 use Prim.Native.Nat.{ℕ, zero, suc, _+_, _-_, _*_, _^_}
 use mathlib.Core.Bool.{Bool}
 use mathlib.Core.List.{List, [], _∷_}

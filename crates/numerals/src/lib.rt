@@ -3,7 +3,7 @@
 ghost use mathlib.Core.Path.{_≡_};
 ghost use Rattle.numerals.specs.Numerals.{numeral, digitsAfter, plus, minus, signedNumeral, upTo, in64, asNumber, asSigned};
 
-// The limits of a total, as specs/Numerals names them.
+// The limits of a total or an amount, as specs/Numerals names them.
 const GREATEST_TOTAL: u64 = 9223372036854775807;
 
 const LEAST_TOTAL_SIZE: u64 = 9223372036854775808;
@@ -75,7 +75,7 @@ fn wide(byte: u8) -> u64
     byte as u64
 }
 
-// The total that the field is, if it is one.
+// The total or the amount that the field is, if it is one.
 pub fn read_signed(field: &[u8]) -> Signed
     ensures { λ r. ⌜ r ≡ asSigned (in64 (signedNumeral (now (field .entry)))) ⌝ }
 {

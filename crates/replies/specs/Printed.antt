@@ -20,7 +20,7 @@ printedLine [] = lineFeed ∷ []
 printedLine (f ∷ []) = f ++ lineFeed ∷ []
 printedLine (f ∷ g ∷ fs) = f ++ space ∷ printedLine (g ∷ fs)
 
--- "its total if found"
+-- "its total if found"; 02, No. 1: "posted prints its total; overrun is printed as an answer without one"
 unfoldable pub totalThen : Option ℤ → List (List ℕ) → List (List ℕ)
 totalThen none fs = fs
 totalThen (some t) fs = signedDecimal t ∷ fs

@@ -1,7 +1,9 @@
 // Replies and the lines of a listing, printed into a caller's buffer from an index on: the whole text, or nothing where
 // it has no room. Each function answers how many bytes it wrote. Depends on printers and on interface's answers.
+ghost use mathlib.Core.List.{[], _∷_, _++_};
+ghost use Rattle.decimals.specs.Decimals.{decimal, signedDecimal};
 ghost use Rattle.printers.specs.Written.{Wrote};
-ghost use Rattle.replies.specs.Printed.{printedReply, printedRow, printedEnd, printedAnswer};
+ghost use Rattle.replies.specs.Printed.{printedLine, printedReply, printedRow, printedEnd, printedAnswer};
 use decimals::signed;
 use decimals::unsigned;
 use interface::Answer;
@@ -55,14 +57,18 @@ fn print_answer(out: &mut [u8], at: usize, end: Completion) -> usize
         Answer::Replaced => print_counted(out, at, b"answered replaced ", end.steps),
         Answer::Removed => print_counted(out, at, b"answered removed ", end.steps),
         Answer::Absent => print_counted(out, at, b"answered absent ", end.steps),
-        Answer::Found(total) => print_pair(
-            out,
-            at,
-            b"answered found ",
-            signed(total),
-            unsigned(end.steps),
-        ),
+        Answer::Found(total) => print_total(out, at, b"answered found ", total, end.steps),
         Answer::None => print_counted(out, at, b"answered none ", end.steps),
+        Answer::Posted(total) => print_total(out, at, b"answered posted ", total, end.steps),
         Answer::Crowded => print_counted(out, at, b"answered crowded ", end.steps),
+        Answer::Overrun => print_counted(out, at, b"answered overrun ", end.steps),
     }
+}
+
+// A word, with the space after it, the total of an answer and the steps.
+fn print_total(out: &mut [u8], at: usize, word: &[u8], total: i64, steps: u64) -> usize
+    ensures { λ r. ⌜ Wrote (now (out .entry)) at
+        (now (word .entry) ++ printedLine (signedDecimal total ∷ decimal steps ∷ [])) r (now (out .exit)) ⌝ }
+{
+    print_pair(out, at, word, signed(total), unsigned(steps))
 }

@@ -24,6 +24,7 @@ isList (Command.Open n b M) = false
 isList (Command.Insert w a t) = false
 isList (Command.Delete w a) = false
 isList (Command.Lookup w a) = false
+isList (Command.Post w a v) = false
 isList (Command.Steps w k) = false
 isList Command.List = true
 isList Command.Unread = false

@@ -4,7 +4,7 @@
 use Prim.Native.Nat.{ℕ}
 use mathlib.Core.List.{List}
 use lib.IntN.{pos}
-use Rattle.interface.specs.Numbers.{numberOf, kindInsert, kindDelete, kindLookup}
+use Rattle.interface.specs.Numbers.{numberOf, kindInsert, kindDelete, kindLookup, kindPost}
 use Rattle.interface.specs.declared.Opened.{Opened}
 use Rattle.interface.specs.declared.Called.{Called}
 use Rattle.interface.specs.declared.Ran.{Ran}
@@ -42,6 +42,7 @@ responded l (Command.Open n b M) = replying ofOpened (openWords l n b M)
 responded l (Command.Insert w a t) = replying ofCalled (callWords l w kindInsert a t)
 responded l (Command.Delete w a) = replying ofCalled (callWords l w kindDelete a (pos 0))
 responded l (Command.Lookup w a) = replying ofCalled (callWords l w kindLookup a (pos 0))
+responded l (Command.Post w a v) = replying ofCalled (callWords l w kindPost a v)
 responded l (Command.Steps w k) = replying ofRan (runWords l w k)
 responded l Command.List = (l, Reply.Unread)
 responded l Command.Unread = (l, Reply.Unread)

@@ -9,6 +9,7 @@ use interface::Called;
 use interface::KIND_DELETE;
 use interface::KIND_INSERT;
 use interface::KIND_LOOKUP;
+use interface::KIND_POST;
 use interface::Opened;
 use interface::Ran;
 use outputs::put_reply;
@@ -42,6 +43,7 @@ fn is_list(c: Command) -> bool
         Command::Insert(_, _, _) => false,
         Command::Delete(_, _) => false,
         Command::Lookup(_, _) => false,
+        Command::Post(_, _, _) => false,
         Command::Steps(_, _) => false,
         Command::List => true,
         Command::Unread => false,
@@ -64,6 +66,13 @@ pub fn respond(words: &mut [u64], c: Command) -> Reply
         )),
         Command::Delete(w, account) => of_called(table::call(words, w, KIND_DELETE, account, 0)),
         Command::Lookup(w, account) => of_called(table::call(words, w, KIND_LOOKUP, account, 0)),
+        Command::Post(w, account, amount) => of_called(table::call(
+            words,
+            w,
+            KIND_POST,
+            account,
+            amount,
+        )),
         Command::Steps(w, k) => of_ran(table::run(words, w, k)),
         Command::List => Reply::Unread,
         Command::Unread => Reply::Unread,

@@ -12,7 +12,7 @@ use mir.Syntax.{w64}
 use mir.Val.{SFits}
 use mir.Facts.{sfits-lit}
 use borrow.Author.Tests.{leb-true, leb-false}
-use Rattle.interface.specs.Numbers.{numberOf, kindInsert, kindDelete, kindLookup}
+use Rattle.interface.specs.Numbers.{numberOf, kindInsert, kindDelete, kindLookup, kindPost}
 use Rattle.interface.specs.Limits.{inRange}
 use Rattle.interface.specs.declared.Settings.{Settings}
 use Rattle.interface.specs.declared.Refusal.{Refusal}
@@ -225,6 +225,12 @@ module _ (l : List ℕ) where
   alike-lookup (Script.holding s m) w a k h =
       alike-replied l _ _ _ refl refl (call-replied l (h .count) w kindLookup a (pos 0) s m (h .meant) k (sfits-lit tt))
 
+  alike-post : (x : Script.Memory) (w a : ℕ) (v : ℤ) → a < 2 ^ 32 → SFits w64 v → Same l x → Alike l x (Command.Post w a v)
+  unfolding isList told lineOf Script.responseTo responded
+  alike-post Script.zeros w a v k f h = alike-replied l _ _ _ refl refl (strange-call l (h .count) w kindPost a v (h .meant))
+  alike-post (Script.holding s m) w a v k f h =
+      alike-replied l _ _ _ refl refl (call-replied l (h .count) w kindPost a v s m (h .meant) k f)
+
   alike-steps : (x : Script.Memory) (w k : ℕ) → 1 ≤ k → Same l x → Alike l x (Command.Steps w k)
   unfolding isList told lineOf Script.responseTo responded
   alike-steps Script.zeros w k more h = alike-replied l _ _ _ refl refl (strange-run l (h .count) w k (h .meant))
@@ -249,6 +255,7 @@ module _ (l : List ℕ) where
   alike x (Command.Insert w a v) said h = alike-insert x w a v (said .0) (said .1) h
   alike x (Command.Delete w a) said h = alike-delete x w a said h
   alike x (Command.Lookup w a) said h = alike-lookup x w a said h
+  alike x (Command.Post w a v) said h = alike-post x w a v (said .0) (said .1) h
   alike x (Command.Steps w k) said h = alike-steps x w k said h
   alike x Command.List said h = alike-listing x h
   alike x Command.Unread said h = alike-unread x h

@@ -4,7 +4,6 @@ pub mod Lines
 pub mod Steps
 pub mod Commands
 pub mod ProgramIsSession
-pub mod Counts
 pub mod NeverNarrow
 pub mod ProgramInBlocks
 pub mod Same

@@ -1,4 +1,4 @@
--- What a line can say: its account has 32 bits, its total 64, and it asks for a step at least. Rests on the lines' grammar.
+-- What a line can say: its account has 32 bits, its total or amount 64, and it asks for a step at least. Rests on the lines' grammar.
 use Prim.Native.Nat.{ℕ, suc, _-_, _^_, _≤_, _<_}
 use native.Mathlib.Omega.{arith}
 use mathlib.Core.List.{List, [], _∷_}
@@ -20,6 +20,7 @@ Said (Command.Open n b M) = Unit {0}
 Said (Command.Insert w a t) = (a < 2 ^ 32) × SFits w64 t
 Said (Command.Delete w a) = a < 2 ^ 32
 Said (Command.Lookup w a) = a < 2 ^ 32
+Said (Command.Post w a v) = (a < 2 ^ 32) × SFits w64 v
 Said (Command.Steps w k) = 1 ≤ k
 Said Command.List = Unit {0}
 Said Command.Unread = Unit {0}
@@ -63,12 +64,13 @@ said-open (some a) none z = tt
 said-open (some a) (some b) none = tt
 said-open (some a) (some b) (some c) = tt
 
-said-insert : (x y : Option ℕ) (z : Option ℤ) → If (λ n. n ≤ 4_294_967_295) y → If (SFits w64) z → Said (with3 Command.Insert x y z)
+said-totalled : (f : ℕ → ℕ → ℤ → Command) → ((w a : ℕ) (v : ℤ) → (a < 2 ^ 32) × SFits w64 v → Said (f w a v)) → (x y : Option ℕ)
+    (z : Option ℤ) → If (λ n. n ≤ 4_294_967_295) y → If (SFits w64) z → Said (with3 f x y z)
 unfolding with3
-said-insert none y z h k = tt
-said-insert (some a) none z h k = tt
-said-insert (some a) (some b) none h k = tt
-said-insert (some a) (some b) (some c) h k = (omega arith, k)
+said-totalled f says none y z h k = tt
+said-totalled f says (some a) none z h k = tt
+said-totalled f says (some a) (some b) none h k = tt
+said-totalled f says (some a) (some b) (some c) h k = says a b c (omega arith, k)
 
 said-one : (letter : ℕ) → Said (oneField letter)
 unfolding oneField
@@ -87,8 +89,12 @@ said-three letter x y =
 said-four : (letter : ℕ) (x y z : List ℕ) → Said (fourFields letter x y z)
 unfolding fourFields accountOf totalOf
 said-four letter x y z =
+    let account = up-to 4_294_967_295 (numeral y) in
+    let total = in-64 (signedNumeral z) in
     if-elim Said (eqb letter 79) _ _ (λ t. said-open _ _ _)
-    (λ t. if-elim Said (eqb letter 73) _ _ (λ t. said-insert _ _ _ (up-to 4_294_967_295 (numeral y)) (in-64 (signedNumeral z))) (λ t. tt))
+    (λ t.
+    if-elim Said (eqb letter 73) _ _ (λ t. said-totalled Command.Insert (λ w a v h. h) _ _ _ account total)
+    (λ t. if-elim Said (eqb letter 80) _ _ (λ t. said-totalled Command.Post (λ w a v h. h) _ _ _ account total) (λ t. tt)))
 
 said-fields : (fs : List (List ℕ)) → Said (ofFields fs)
 unfolding ofFields

@@ -1,17 +1,17 @@
--- No line is met with `refused 10`: only a listing could be, and its lists are long enough. Rests on the count of accounts, and on what is
--- printed.
+-- No line is met with `refused 10`, whatever the words: only a listing could be, and its lists are long enough. Rests on the count of
+-- rows, and on what is printed.
 use Prim.Native.Nat.{ℕ, zero, suc, _+_, _/_, _%_, _≤_, _<_}
 use native.Mathlib.Omega.{arith}
 use native.Mathlib.Decide.{decLt}
 use mathlib.Core.Path.{_≡_, refl, ap, sym, _∙_}
 use mathlib.Core.Logic.{by-cases}
 use mathlib.Core.Bool.{Bool, true, false, _||_}
-use mathlib.Core.List.{List, [], _∷_, _++_, map, append-assoc}
+use mathlib.Core.List.{List, [], _∷_, _++_, append-assoc}
 use lib.Dec.{ltb}
-use lib.ListN.{length, getD, length-append}
+use lib.ListN.{length, getD, replicate, length-append}
 use lib.IntN.{ℤ}
 use borrow.Author.Tests.{le-ltb}
-use Rattle.interface.specs.Numbers.{bytes, numberOf, kindInsert, kindDelete, kindLookup}
+use Rattle.interface.specs.Numbers.{bytes, numberOf, kindInsert, kindDelete, kindLookup, kindPost}
 use Rattle.interface.specs.declared.Settings.{Settings}
 use Rattle.interface.specs.declared.Refusal.{Refusal}
 use Rattle.interface.specs.declared.Opened.{Opened}
@@ -29,25 +29,16 @@ use Rattle.decimals.specs.Decimals.{digit, digits, decimal, digitCount}
 use Rattle.replies.specs.Printed.{printedLine, printedRow, printedRows, printedEnd, printedAnswer, printed, printedUnread, printedReply}
 use Rattle.decimals.proofs.DecimalLaws.{digit-count-small, digit-count-large, length-decimal}
 use Rattle.commands.specs.declared.Command.{Command}
-use Rattle.commands.specs.Commands.{lineOf}
-use Rattle.lines.specs.Grammar.{linesOf, commandOf}
-use Rattle.lines.specs.Session.{told}
-use Rattle.layout.specs.Shape.{strange, shapeOf}
-use Rattle.rows.specs.Rows.{rows}
+use Rattle.layout.specs.Shape.{strange}
+use Rattle.rows.proofs.RowLaws.{rows-few}
 use Rattle.opening.specs.Opening.{openWords, openedWords}
 use Rattle.calls.specs.Calls.{callIn, callWords}
 use Rattle.runs.specs.Runs.{lastOf, orElse, runIn, runWords}
 use Rattle.responses.specs.Responses.{ofOpened, ofCalled, ofRan, replying, responded}
 use Rattle.responses.specs.Answers.{isList}
-use Rattle.texts.specs.Texts.{rowsText, listingText, textOn, wordsOn}
-use Rattle.texts.proofs.Parts.{commands-answered}
-use Rattle.simulation.proofs.OpeningMeans.{shape-is}
-use Rattle.session.proofs.Same.{Same}
+use Rattle.texts.specs.Texts.{rowsText, listingText, textOn, wordsOn, ended, readerAfter, lastFeed}
+use Rattle.lines.specs.Reading.{fresh}
 use Rattle.session.specs.Program.{NeverNarrowOn, NeverNarrow}
-use Rattle.session.proofs.Lines.{said}
-use Rattle.session.proofs.Commands.{alike}
-use Rattle.session.proofs.Counts.{rows-fit}
-use Rattle.session.proofs.ProgramIsSession.{zeros-same}
 
 -- ---- texts that are not `refused 10`
 
@@ -170,6 +161,7 @@ other-response l (Command.Open n b M) = other-opened l n b M
 other-response l (Command.Insert w a t) = other-called l w kindInsert a t
 other-response l (Command.Delete w a) = other-called l w kindDelete a _
 other-response l (Command.Lookup w a) = other-called l w kindLookup a _
+other-response l (Command.Post w a v) = other-called l w kindPost a v
 other-response l (Command.Steps w k) = other-ran l w k
 other-response l Command.List = tt
 other-response l Command.Unread = tt
@@ -182,34 +174,22 @@ rows-text-another t h e =
     let f : ltb 4_096 (length t) || ltb 4_096 (length t) ≡ false = rw (le-ltb 4_096 (length t) h) in
     rows-another t (length t) (sym (if-false _ _ f) ∙ e)
 
-rows-long : (l : List ℕ) (x : Script.Memory) → Same l x → strange l ≡ false → length (rows l (shapeOf l)) ≤ 4_096
-rows-long l Script.zeros h e = absurd (let k = h .meant in let z : _≡_ {A = ℕ} 0 1 = cc in omega arith)
-rows-long l (Script.holding s m) h e =
-    let k = h .meant in
-    let n = k .represents .means .lent in
-    let c = h .count in
-    rw (shape-is s (k .range) l m (k .represents .means)) (rows-fit l s (omega arith))
-
-listing-another : (l : List ℕ) (x : Script.Memory) → Same l x → Another (listingText l 4_096 4_096)
+listing-another : (l : List ℕ) → Another (listingText l 4_096 4_096)
 unfolding listingText
-listing-another l x h =
+listing-another l =
     if-elim Another (strange l) _ _ (λ e. reply-another (Reply.Refused (numberOf Refusal.Strange)) (omega arith))
-    (λ e. rows-text-another _ (rows-long l x h e))
+    (λ e. rows-text-another _ (rows-few l e))
 
--- ---- every command
+-- ---- every command, on any words
 
-text-another : (l : List ℕ) (x : Script.Memory) (c : Command) → Same l x → Another (textOn l 4_096 4_096 c)
+text-another : (l : List ℕ) (c : Command) → Another (textOn l 4_096 4_096 c)
 unfolding textOn
-text-another l x c h = if-elim Another (isList c) _ _ (λ e. listing-another l x h) (λ e. reply-another _ (other-response l c))
+text-another l c = if-elim Another (isList c) _ _ (λ e. listing-another l) (λ e. reply-another _ (other-response l c))
 
-never-narrow-from : (ls : List (List ℕ)) (l : List ℕ) (x : Script.Memory) → Same l x → NeverNarrowOn l (map commandOf ls)
-never-narrow-from [] l x h = tt
-never-narrow-from (line ∷ ls) l x h = (
-  text-another l x (commandOf line) h,
-  never-narrow-from ls (wordsOn l (commandOf line)) (told x (lineOf (commandOf line)) .memory)
-      (alike l x (commandOf line) (said line) h .next),
-)
+never-narrow-on : (cs : List Command) (l : List ℕ) → NeverNarrowOn l cs
+never-narrow-on [] l = tt
+never-narrow-on (c ∷ cs) l = (text-another l c, never-narrow-on cs (wordsOn l c))
 
 -- "so 10 never comes up there"
 pub never-narrow : NeverNarrow
-never-narrow input = rw (commands-answered input) (never-narrow-from (linesOf input) _ Script.zeros zeros-same)
+never-narrow input = never-narrow-on (ended fresh (input ++ lastFeed (readerAfter fresh input))) (replicate (Script.driver .words) 0)

@@ -1,4 +1,4 @@
--- How long the texts are: a row has at most 32 bytes, the end of a listing 25, a reply 64. Rests on the lines' decimals.
+-- How long the texts are: a row has at most 32 bytes, the end of a listing 25, a reply longestReply. Rests on the lines' decimals.
 use Prim.Native.Nat.{ℕ, suc, _+_, _^_, _≤_, _<_}
 use mathlib.Core.List.{[], _∷_, _++_}
 use native.Mathlib.Omega.{arith}
@@ -40,7 +40,11 @@ end-within n h = let k = word-within n h in omega (arith, length-append (decimal
 
 -- ---- replies
 
--- the total of found is one of 64 bits
+-- `answered posted -9223372036854775808 18446744073709551615` with its line feed is a longest
+abbrev pub longestReply : ℕ
+longestReply = 58
+
+-- the total of found or posted is one of 64 bits
 unfoldable pub smallAnswer : Answer → Type 0
 smallAnswer Answer.Added = Unit {0}
 smallAnswer Answer.Replaced = Unit {0}
@@ -48,7 +52,9 @@ smallAnswer Answer.Removed = Unit {0}
 smallAnswer Answer.Absent = Unit {0}
 smallAnswer (Answer.Found t) = mag t < 2 ^ 63
 smallAnswer Answer.None = Unit {0}
+smallAnswer (Answer.Posted t) = mag t < 2 ^ 63
 smallAnswer Answer.Crowded = Unit {0}
+smallAnswer Answer.Overrun = Unit {0}
 
 -- every number is one of 64 bits
 unfoldable pub smallReply : Reply → Type 0
@@ -61,18 +67,23 @@ smallReply Reply.Unread = Unit {0}
 last-within : (k : ℕ) → k < 2 ^ 64 → length (decimal k ++ 10 ∷ []) ≤ 21
 last-within k h = let m = word-within k h in omega (arith, length-append (decimal k) (10 ∷ []))
 
-answer-within : (a : Answer) (k : ℕ) → k < 2 ^ 64 → smallAnswer a → length (printedAnswer a k) ≤ 64
+total-within : (t : ℤ) (k : ℕ) → k < 2 ^ 64 → mag t < 2 ^ 63 → length (signedDecimal t ++ 32 ∷ (decimal k ++ 10 ∷ [])) ≤ 42
+total-within t k h s =
+    omega (arith, last-within k h, signed-within t s, length-append (signedDecimal t) (32 ∷ (decimal k ++ 10 ∷ [])))
+
+answer-within : (a : Answer) (k : ℕ) → k < 2 ^ 64 → smallAnswer a → length (printedAnswer a k) ≤ longestReply
 unfolding printedAnswer printedLine totalThen answerWord answerTotal bytes smallAnswer
 answer-within Answer.Added k h s = omega (arith, last-within k h)
 answer-within Answer.Replaced k h s = omega (arith, last-within k h)
 answer-within Answer.Removed k h s = omega (arith, last-within k h)
 answer-within Answer.Absent k h s = omega (arith, last-within k h)
-answer-within (Answer.Found t) k h s =
-    omega (arith, last-within k h, signed-within t s, length-append (signedDecimal t) (32 ∷ (decimal k ++ 10 ∷ [])))
+answer-within (Answer.Found t) k h s = omega (arith, total-within t k h s)
 answer-within Answer.None k h s = omega (arith, last-within k h)
+answer-within (Answer.Posted t) k h s = omega (arith, total-within t k h s)
 answer-within Answer.Crowded k h s = omega (arith, last-within k h)
+answer-within Answer.Overrun k h s = omega (arith, last-within k h)
 
-pub reply-within : (r : Reply) → smallReply r → length (printedReply r) ≤ 64
+pub reply-within : (r : Reply) → smallReply r → length (printedReply r) ≤ longestReply
 unfolding printedReply printed printedUnread printedLine bytes smallReply
 reply-within Reply.Ok s = omega arith
 reply-within (Reply.Refused k) s = omega (arith, last-within k s)

@@ -3,7 +3,7 @@ use Prim.Native.Nat.{ℕ, zero, suc, _+_, _^_, _≤_, _<_}
 use mathlib.Core.Path.{_≡_, refl}
 use mathlib.Core.Bool.{Bool, true, false}
 use mathlib.Core.List.{List}
-use mathlib.Core.Option.{Option, none, some}
+use mathlib.Core.Option.{Option}
 use native.Mathlib.Nat.{mod-lt}
 use native.Mathlib.Omega.{arith}
 use lib.Dec.{eqb, ltb}
@@ -14,7 +14,7 @@ use borrow.Author.Tests.{ltb-true, ltb-false}
 use Rattle.interface.specs.Numbers.{numberOf, answerNumber}
 use Rattle.interface.specs.declared.Settings.{Settings}
 use Rattle.interface.specs.declared.Answer.{Answer}
-use Rattle.interface.specs.declared.Answer.the-variants.{Added, Replaced, Removed, Absent, Crowded}
+use Rattle.interface.specs.declared.Answer.the-variants.{Added, Replaced, Removed, Absent, Crowded, Overrun}
 use Rattle.interface.specs.declared.Refusal.{Refusal}
 use Rattle.interface.specs.declared.Opened.{Opened}
 use Rattle.interface.specs.declared.Called.{Called}
@@ -25,12 +25,13 @@ use Rattle.machine.specs.Plan.{Phase, announce, readDirectory, flipToggle, read
 use Rattle.machine.proofs.laws.Base.{if-elim}
 use Rattle.arrays.specs.declared.Position.{Position}
 use Rattle.arrays.specs.declared.Position.the-variants.{At, Before}
-use Rattle.rules.specs.Rules.{answerOf}
+use Rattle.rules.specs.Rules.{postedNumber, answerOf}
 use Rattle.memory.specs.Words.{least}
 use Rattle.memory.proofs.Lesser.{least-bound}
 use Rattle.layout.specs.Shape.{word}
 use Rattle.calls.specs.Calls.{endedAt}
-use Rattle.updates.specs.Updates.{checkAt, updateAt, operationAt}
+use Rattle.updates.specs.Updates.{checkedAt, checkAt, updateAt, operationAt}
+use Rattle.record.specs.Bucket.{crowdedAt}
 use Rattle.lookups.specs.Lookups.{foundAt, lookedAt, lookupAt}
 use Rattle.runs.specs.Runs.{lastOf, orElse, runIn, longestRun, runWords}
 use Rattle.commands.specs.declared.Command.{Command}
@@ -65,9 +66,9 @@ smallStepped Stepped.Moved = Unit {0}
 smallStepped (Stepped.Answered c) = (c .steps < 2 ^ 64) × smallAnswer (c .answer)
 smallStepped (Stepped.Refused r) = Unit {0}
 
-small-stored : (x : ℕ) → smallAnswer (answerOf x)
+small-stored : (x total : ℕ) → smallAnswer (answerOf x total)
 unfolding answerOf smallAnswer
-small-stored x =
+small-stored x total =
     if-elim smallAnswer (eqb x (answerNumber Added)) _ _ (λ e. tt)
     (λ e.
     if-elim smallAnswer (eqb x (answerNumber Replaced)) _ _ (λ e. tt)
@@ -75,7 +76,11 @@ small-stored x =
     if-elim smallAnswer (eqb x (answerNumber Removed)) _ _ (λ e. tt)
     (λ e.
     if-elim smallAnswer (eqb x (answerNumber Absent)) _ _ (λ e. tt)
-    (λ e. if-elim smallAnswer (eqb x (answerNumber Crowded)) _ _ (λ e. tt) (λ e. tt)))))
+    (λ e.
+    if-elim smallAnswer (eqb x postedNumber) _ _ (λ e. small-total total)
+    (λ e.
+    if-elim smallAnswer (eqb x (answerNumber Crowded)) _ _ (λ e. tt)
+    (λ e. if-elim smallAnswer (eqb x (answerNumber Overrun)) _ _ (λ e. tt) (λ e. tt)))))))
 
 small-found : (l : List ℕ) (s : Settings) (q : ℕ) (p : Position) → smallAnswer (foundAt l s q p)
 unfolding foundAt smallAnswer
@@ -86,10 +91,12 @@ small-ended : (l : List ℕ) (p k c : ℕ) (a : Answer) → k < stepsRange → s
 unfolding endedAt smallStepped
 small-ended l p k c a h s = (omega arith, s)
 
-small-checked : (l : List ℕ) (p k c : ℕ) (o : Option ℕ) → k < stepsRange → smallStepped (checkAt l p k c o .1)
-unfolding checkAt smallStepped
-small-checked l p k c none h = tt
-small-checked l p k c (some x) h = small-ended l p k c (answerOf x) h (small-stored x)
+small-checked : (l : List ℕ) (s : Settings) (p q w k c : ℕ) → k < stepsRange → smallStepped (checkAt l p k c (checkedAt l s p q w) .1)
+unfolding checkAt checkedAt smallStepped smallAnswer
+small-checked l s p q w k c h =
+    if-elim (λ (o : Option Answer). smallStepped (checkAt l p k c o .1)) _ _ _ (λ e. small-ended l p k c _ h (small-stored _ _))
+    (λ e. if-elim (λ (o : Option Answer). smallStepped (checkAt l p k c o .1)) (crowdedAt l s q) _ _
+    (λ f. small-ended l p k c Crowded h tt) (λ f. tt))
 
 small-update : (l : List ℕ) (s : Settings) (p w k : ℕ) (g : Phase) → k < stepsRange → smallStepped (updateAt l s p w k g .1)
 unfolding updateAt smallStepped
@@ -100,7 +107,7 @@ small-update l s p w k readState h = tt
 small-update l s p w k readToggle h = tt
 small-update l s p w k (readSlot j) h = tt
 small-update l s p w k swapState h = tt
-small-update l s p w k checkState h = small-checked l p k _ _ h
+small-update l s p w k checkState h = small-checked l s p _ w k _ h
 small-update l s p w k copyDirectory h = tt
 small-update l s p w k (resizeFor j) h = tt
 small-update l s p w k swapDirectory h = tt
@@ -167,6 +174,7 @@ small-response l (Command.Open n b M) = small-opened _
 small-response l (Command.Insert w a t) = small-called _
 small-response l (Command.Delete w a) = small-called _
 small-response l (Command.Lookup w a) = small-called _
+small-response l (Command.Post w a v) = small-called _
 small-response l (Command.Steps w k) = small-ran l w k
 small-response l Command.List = tt
 small-response l Command.Unread = tt

@@ -35,7 +35,7 @@ use Rattle.outputs.specs.Outputs.{Output, emitted, putRows, rowsAt, putListed, 
 use Rattle.outputs.specs.Room.{longest}
 use Rattle.responses.specs.Answers.{repliedAs, isList, answered}
 use Rattle.texts.specs.Texts.{rowsText, listingText, textOn, wordsOn}
-use Rattle.texts.proofs.Lengths.{row-within, end-within, reply-within}
+use Rattle.texts.proofs.Lengths.{longestReply, row-within, end-within, reply-within}
 use Rattle.texts.proofs.Small.{small-total, small-refused, small-response}
 
 -- ---- a text behind the used bytes
@@ -152,7 +152,7 @@ left-false true y e = e
 left-false false y e = refl
 
 module _ (o : Output) (room : o .used + longest ≤ length (o .bytes)) where
-  reply-behind : (r : Reply) → length (printedReply r) ≤ 64 → emitted o (printedReply r) ≡ behind o (printedReply r)
+  reply-behind : (r : Reply) → length (printedReply r) ≤ longestReply → emitted o (printedReply r) ≡ behind o (printedReply r)
   unfolding longest
   reply-behind r h = put-behind o (printedReply r) (record { room = omega arith })
 
