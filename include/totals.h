@@ -22,7 +22,8 @@
  *   - The slices of one call do not overlap.
  *   - One call at a time over the same words, totals_list included. Workers are numbers and no threads: one caller
  *     interleaves their steps. Nothing here locks or waits; threads would need a lock around every call.
- *   - The number that is returned is looked at: an update that is answered TOTALS_CROWDED was not carried out.
+ *   - The number that is returned is looked at: an update that is answered TOTALS_CROWDED, and a post that is answered
+ *     TOTALS_OVERRUN, was not carried out.
  */
 #ifndef TOTALS_H
 #define TOTALS_H
@@ -46,8 +47,8 @@ extern "C" {
  * The words needed for the least and for the greatest settings, and the most accounts a table can hold: b of those that
  * agree in their first M bits, most significant first, so b times 2^M where accounts are spread over all 32 bits.
  */
-#define TOTALS_LEAST_WORDS 150
-#define TOTALS_GREATEST_WORDS 15169
+#define TOTALS_LEAST_WORDS 162
+#define TOTALS_GREATEST_WORDS 17305
 #define TOTALS_GREATEST_COUNT 4096
 
 /*
@@ -81,14 +82,14 @@ extern "C" {
 #define TOTALS_OK 0
 #define TOTALS_MOVED 0
 
-/* Refusals. 9 is no refusal: crowded is an answer. */
+/* Refusals. 9 and 11 are no refusals: crowded and overrun are answers. */
 #define TOTALS_SETTINGS 1  /* n, b or M is outside its range */
 #define TOTALS_SHORT 2     /* fewer words lent than needed */
 #define TOTALS_STRANGER 3  /* the worker's number is n or more (workers count from 0) */
 #define TOTALS_BUSY 4      /* a call to a worker whose operation has no answer yet */
 #define TOTALS_IDLE 5      /* a step for a worker without operation */
-#define TOTALS_KIND 6      /* not 1 insert, 2 delete, 3 lookup */
-#define TOTALS_SPENT 7     /* insert or delete by a worker that has no ticket number left */
+#define TOTALS_KIND 6      /* not 1 insert, 2 delete, 3 lookup, 4 post */
+#define TOTALS_SPENT 7     /* insert, delete or post by a worker that has no ticket number left */
 #define TOTALS_STRANGE 8   /* the words are no table: see totals_call */
 #define TOTALS_NARROW 10   /* listing: accounts or totals list shorter than the count */
 
@@ -96,19 +97,23 @@ extern "C" {
 #define TOTALS_INSERT 1
 #define TOTALS_DELETE 2
 #define TOTALS_LOOKUP 3
+#define TOTALS_POST 4
 
-/* Answers: every number from 16 on that a step or a run returns. */
+/* Answers: every number from 16 on that a step or a run returns. Found and posted have a total, in the report. */
 #define TOTALS_ADDED 17    /* insert: the account was not there */
 #define TOTALS_REPLACED 18 /* insert: the account was there */
 #define TOTALS_REMOVED 19  /* delete: the account was there */
 #define TOTALS_ABSENT 20   /* delete: the account was not there */
-#define TOTALS_FOUND 21    /* lookup: the total is in the report */
+#define TOTALS_FOUND 21    /* lookup: the account's total */
 #define TOTALS_NONE 22     /* lookup: the account is not there */
-#define TOTALS_CROWDED 25  /* insert or delete: the table holds b accounts that agree with this one in the first M bits,
-                              itself counted where it is there; nothing changed, the update was not carried out */
+#define TOTALS_POSTED 23   /* post: the account's new total; an account that was not there has started from 0 */
+#define TOTALS_CROWDED 25  /* insert, delete or post: the table holds b accounts that agree with this one in the first M
+                              bits, itself counted where it is there; nothing changed, the update was not carried out */
+#define TOTALS_OVERRUN 27  /* post: the sum is outside the 64-bit signed range; nothing changed, the post was not
+                              carried out. Where the post is crowded, TOTALS_CROWDED is the answer */
 
 /*
- * How many words a table of these settings needs: 150 to 15,169. Or TOTALS_SETTINGS, 1, where one of them is outside
+ * How many words a table of these settings needs: 162 to 17,305. Or TOTALS_SETTINGS, 1, where one of them is outside
  * its range.
  */
 uint64_t totals_words_needed(uint64_t workers, uint64_t capacity, uint64_t depth);
@@ -122,29 +127,31 @@ uint64_t totals_words_needed(uint64_t workers, uint64_t capacity, uint64_t depth
 uint64_t totals_open(uint64_t *words, size_t length, uint64_t workers, uint64_t capacity, uint64_t depth);
 
 /*
- * Hands an operation to an idle worker. It takes its steps later; an update takes its ticket number here, the worker's
- * last plus 1, a lookup takes none. total counts for an insert only. Returns TOTALS_OK, or, tested in this order and
- * with no word changed:
- *   TOTALS_STRANGE   the words fail a check: there are fewer than 150; the first one has no mark of a table; the second
- *                    one, the words needed, is above length; they are too few for the workers that the first one names
- *                    and one record. Words of zeros always fail. Words that pass are served, whatever the rest of them
- *                    holds.
+ * Hands an operation to an idle worker. It takes its steps later; an update, which is an insert, a delete or a post,
+ * takes its ticket number here, the worker's last plus 1, a lookup takes none. total counts for insert and post only:
+ * an insert's is what the account's total is set to, a post's is the amount that is added to it; an account that is not
+ * there starts from 0 and is made, also by an amount of 0. Returns TOTALS_OK, or, tested in this order and with no word
+ * changed:
+ *   TOTALS_STRANGE   the words fail a check: there are fewer than 162; the first one has no mark of a table, or a
+ *                    greatest depth above 8; the second one, the words needed, is above length; they are too few for
+ *                    the workers that the first one names and one record. Words of zeros always fail. Words that pass
+ *                    are served, whatever the rest of them holds.
  *   TOTALS_STRANGER  worker is n or more;
  *   TOTALS_BUSY      the worker's operation has no answer yet;
- *   TOTALS_KIND      kind is none of TOTALS_INSERT, TOTALS_DELETE, TOTALS_LOOKUP;
- *   TOTALS_SPENT     an insert or a delete, and the worker has no ticket number left: its last one, which stands in the
- *                    words, is TOTALS_GREATEST_UPDATES. A lookup is still accepted.
+ *   TOTALS_KIND      kind is none of TOTALS_INSERT, TOTALS_DELETE, TOTALS_LOOKUP, TOTALS_POST;
+ *   TOTALS_SPENT     an insert, a delete or a post, and the worker has no ticket number left: its last one, which
+ *                    stands in the words, is TOTALS_GREATEST_UPDATES. A lookup is still accepted.
  */
 uint64_t totals_call(uint64_t *words, size_t length, uint64_t worker, uint64_t kind, uint32_t account, int64_t total);
 
 /*
  * One step of a worker's operation. Returns
  *   TOTALS_MOVED     the operation goes on; the report is not touched;
- *   an answer, TOTALS_ADDED to TOTALS_CROWDED: the operation has ended and the worker is idle again. A report of three
+ *   an answer, TOTALS_ADDED to TOTALS_OVERRUN: the operation has ended and the worker is idle again. A report of three
  *                    places or more then has
  *                      at place 0 the steps that the operation took in all;
- *                      at place 1 the total found as a word of two's complement, (int64_t)report[1], or 0 where the
- *                      answer is not TOTALS_FOUND;
+ *                      at place 1 the total of TOTALS_FOUND or TOTALS_POSTED as a word of two's complement,
+ *                      (int64_t)report[1], or 0 where the answer is another;
  *                      at place 2 which of its checks answered an update, 1 to TOTALS_GREATEST_CHECK, or 0 where the
  *                      operation is a lookup.
  *                    What is past them stays. A report of two places has the first two of these, and a shorter one is

@@ -121,7 +121,7 @@ compare() {
 
 lines() {
   local occurred sorts='answered absent,answered added,answered crowded,answered found,answered none,'
-  sorts+='answered removed,answered replaced,'
+  sorts+='answered overrun,answered posted,answered removed,answered replaced,'
   sorts+='end,moved,ok,refused 1,refused 2,refused 3,refused 4,refused 5,refused 8,row,unread,'
   cc -std=c99 -O2 "${strict[@]}" tests/c/lines.c "$library" -o "$run/lines"
   check $? "the program for lines over the C interface is built"

@@ -1,9 +1,10 @@
 /*
  * A report run: three workers post twelve invoices to a table of totals; a dispatcher gives each a few steps at a time.
- * Worker 2 is parked in the middle of an update until the others have finished: they carry it out. Nothing is
- * allocated. The steps are planned by the most that an operation takes, and the checks that answered say how many were
- * taken. What a call returns is always looked at: a refusal, an invoice that the table has no room for, and a month
- * whose invoices and totals differ end the run with a line on standard error and exit status 1.
+ * Two accounts get invoices from all three workers, and no post is lost. Worker 2 is parked in the middle of one until
+ * the others have finished: they carry it out. Nothing is allocated. The steps are planned by the most that an
+ * operation takes, and the checks that answered say how many were taken. What a call returns is always looked at: a
+ * refusal, an invoice that the table has no room for or that makes a total of more than 64 bits, and a month whose
+ * invoices and totals differ end the run with a line on standard error and exit status 1.
  */
 #include <inttypes.h>
 #include <limits.h>
@@ -14,32 +15,28 @@
 enum { WORKERS = 3, CAPACITY = 4, DEPTH = 2, INVOICES = 4, NOBODY = WORKERS };
 enum { PLACES = CAPACITY << DEPTH }; /* the most accounts that the table can hold */
 enum { UPDATE_STEPS = TOTALS_GREATEST_STEPS(WORKERS), CHECKS = TOTALS_GREATEST_CHECK };
-enum { PLANNED = WORKERS * INVOICES * (TOTALS_LOOKUP_STEPS + UPDATE_STEPS) }; /* the most steps of the month */
+enum { PLANNED = WORKERS * INVOICES * UPDATE_STEPS }; /* the most steps of the month */
 
-/*
- * Posting is a lookup, then an insert of the new total. Nobody else may post to the account in between: its invoices go
- * to one worker.
- */
 struct invoice {
     uint32_t account;
     int64_t cents;
 };
 
 static const struct invoice invoices[WORKERS][INVOICES] = {
-    {{1010, 12500}, {2000000010, 4000}, {1010, -2500}, {3000000010, 900}},
-    {{1020, 7300}, {2000000020, 1500}, {1020, 2900}, {4000000010, 6000}},
-    {{1030, 8800}, {1030, 450}, {3000000020, 5000}, {4000000020, 150}},
+    {{1010, 12500}, {2000000010, 4000}, {1020, -2500}, {1010, 900}},
+    {{1020, 7300}, {2000000020, 1500}, {1010, 2900}, {4000000010, 6000}},
+    {{1030, 8800}, {1010, 450}, {1020, 5000}, {4000000020, 150}},
 };
 
-/* What a worker is at: the number of its invoice, and whether that is being looked up or posted. */
+/* What a worker is at: the number of its invoice, and whether that is being posted. */
 struct worker {
     unsigned invoice;
-    enum { RESTING, LOOKING_UP, POSTING } stage;
+    enum { RESTING, POSTING } stage;
 };
 
 static struct worker workers[WORKERS];
-static unsigned answers[CHECKS + 1]; /* of the month, by their check: place 0 has the lookups */
-static uint64_t words[373]; /* as many as totals_words_needed(3, 4, 2) says; totals_open refuses fewer */
+static unsigned answers[CHECKS]; /* of the month, by their check */
+static uint64_t words[408]; /* as many as totals_words_needed(3, 4, 2) says; totals_open refuses fewer */
 static const size_t length = sizeof words / sizeof words[0];
 
 static const char *answer_word(uint64_t answer)
@@ -51,8 +48,20 @@ static const char *answer_word(uint64_t answer)
     case TOTALS_ABSENT: return "absent";
     case TOTALS_FOUND: return "found";
     case TOTALS_NONE: return "none";
-    default: return "crowded";
+    case TOTALS_POSTED: return "posted";
+    case TOTALS_CROWDED: return "crowded";
+    case TOTALS_OVERRUN: return "overrun";
+    default: return "no answer";
     }
+}
+
+/* An answer, its total where it has one, and the steps, as a report has them. */
+static void print_answer(uint64_t answer, const uint64_t *report)
+{
+    printf("%s", answer_word(answer));
+    if (answer == TOTALS_FOUND || answer == TOTALS_POSTED)
+        printf(" %" PRId64, (int64_t)report[1]);
+    printf(", %" PRIu64 " steps\n", report[0]);
 }
 
 /* This and all functions below return 0, or 1 where they have said on standard error what is wrong. */
@@ -63,12 +72,12 @@ static int refused(uint64_t number, const char *call)
     return number != TOTALS_OK;
 }
 
-/* Crowded is an answer, and nothing was changed: an invoice that is not kept elsewhere would be lost. */
-static int crowded(uint64_t answer, unsigned w, uint32_t account)
+/* Crowded and overrun are answers, and nothing was changed: an invoice that is not kept elsewhere would be lost. */
+static int not_carried_out(uint64_t answer, unsigned w, uint32_t account)
 {
-    if (answer == TOTALS_CROWDED)
-        fprintf(stderr, "crowded: worker %u's update of account %" PRIu32 " was not carried out\n", w, account);
-    return answer == TOTALS_CROWDED;
+    fprintf(stderr, "%s: worker %u's update of account %" PRIu32 " was not carried out\n", answer_word(answer), w,
+            account);
+    return 1;
 }
 
 /* Totals have 64 bits; a sum that has more is no total. */
@@ -82,21 +91,15 @@ static int add(int64_t *sum, int64_t amount)
     return over;
 }
 
-/* After the lookup's answer comes the insert, after the insert's the next invoice. */
+/* After a post's answer comes the next invoice. */
 static int answered(unsigned w, uint64_t answer, const uint64_t report[3])
 {
     const struct invoice *invoice = &invoices[w][workers[w].invoice];
-    int64_t total = (int64_t)report[1]; /* 0 where the answer is TOTALS_NONE */
-    answers[report[2]]++;
-    if (workers[w].stage == LOOKING_UP) {
-        workers[w].stage = POSTING;
-        return add(&total, invoice->cents) ||
-               refused(totals_call(words, length, w, TOTALS_INSERT, invoice->account, total), "insert");
-    }
-    if (crowded(answer, w, invoice->account))
-        return 1;
-    printf("worker %u posts %" PRId64 " to %" PRIu32 ": %s, %" PRIu64 " steps\n", w, invoice->cents, invoice->account,
-           answer_word(answer), report[0]);
+    if (answer != TOTALS_POSTED)
+        return not_carried_out(answer, w, invoice->account);
+    answers[report[2] - 1]++;
+    printf("worker %u posts %" PRId64 " to %" PRIu32 ": ", w, invoice->cents, invoice->account);
+    print_answer(answer, report);
     workers[w].stage = RESTING;
     workers[w].invoice++;
     return 0;
@@ -105,12 +108,13 @@ static int answered(unsigned w, uint64_t answer, const uint64_t report[3])
 /* One turn: a resting worker starts on its next invoice; then up to so many steps. */
 static int turn(unsigned w, uint64_t steps)
 {
+    const struct invoice *invoice = &invoices[w][workers[w].invoice];
     uint64_t report[3] = {0, 0, 0};
     uint64_t number;
     if (workers[w].stage == RESTING) {
-        if (refused(totals_call(words, length, w, TOTALS_LOOKUP, invoices[w][workers[w].invoice].account, 0), "lookup"))
+        if (refused(totals_call(words, length, w, TOTALS_POST, invoice->account, invoice->cents), "post"))
             return 1;
-        workers[w].stage = LOOKING_UP;
+        workers[w].stage = POSTING;
     }
     number = totals_run(words, length, w, steps, report, 3);
     if (number == TOTALS_MOVED)
@@ -155,13 +159,12 @@ static int at_once(unsigned w, uint64_t kind, uint32_t account)
         fprintf(stderr, "worker %u: no answer after %" PRIu64 " steps\n", w, report[0]);
         return 1;
     }
-    if (number < TOTALS_ADDED ? refused(number, "run") : crowded(number, w, account))
-        return 1;
-    printf("worker %u %s %" PRIu32 ": %s", w, kind == TOTALS_LOOKUP ? "looks up" : "deletes", account,
-           answer_word(number));
-    if (number == TOTALS_FOUND)
-        printf(" %" PRId64, (int64_t)report[1]);
-    printf(", %" PRIu64 " steps\n", report[0]);
+    if (number < TOTALS_ADDED)
+        return refused(number, "run");
+    if (number == TOTALS_CROWDED)
+        return not_carried_out(number, w, account);
+    printf("worker %u %s %" PRIu32 ": ", w, kind == TOTALS_LOOKUP ? "looks up" : "deletes", account);
+    print_answer(number, report);
     return 0;
 }
 
@@ -201,12 +204,12 @@ static int check_month(int64_t totals)
 /* What the month took: each check that answered is so many steps. */
 static int show_steps(void)
 {
-    uint64_t taken = answers[0] * TOTALS_LOOKUP_STEPS;
+    uint64_t taken = 0;
     unsigned check;
-    printf("updates by check:");
+    printf("posts by check:");
     for (check = 1; check <= CHECKS; check++) {
-        printf(" %u", answers[check]);
-        taken += answers[check] * TOTALS_CHECK_STEPS(WORKERS, check);
+        printf(" %u", answers[check - 1]);
+        taken += answers[check - 1] * TOTALS_CHECK_STEPS(WORKERS, check);
     }
     printf("; steps: %" PRIu64 " of %d planned\n", taken, PLANNED);
     return 0;
@@ -215,8 +218,8 @@ static int show_steps(void)
 static int report_run(void)
 {
     int64_t sum;
-    return refused(totals_open(words, length, WORKERS, CAPACITY, DEPTH), "open") || dispatch(30, NOBODY) ||
-           show("worker 2 is parked, posting 450 to 1030", &sum) || dispatch(UINT_MAX, 2) ||
+    return refused(totals_open(words, length, WORKERS, CAPACITY, DEPTH), "open") || dispatch(26, NOBODY) ||
+           show("worker 2 is parked, posting 450 to 1010", &sum) || dispatch(UINT_MAX, 2) ||
            show("worker 2 is still parked", &sum) || dispatch(UINT_MAX, NOBODY) ||
            show("all is posted", &sum) || check_month(sum) || show_steps() || at_once(0, TOTALS_LOOKUP, 1010) ||
            at_once(1, TOTALS_DELETE, 4000000020) || show("at the end", &sum);

@@ -74,12 +74,12 @@ static int signed_field(struct rest *line, int64_t *number)
     return 1;
 }
 
-/* An account, a total for an insert, and the end of the line. */
+/* An account, a total for an insert, an amount for a post, and the end of the line. */
 static int operation(struct rest *line, uint64_t kind, uint64_t *account, int64_t *total)
 {
     *total = 0;
-    return field(line, UINT32_MAX, account) && (kind != TOTALS_INSERT || signed_field(line, total)) &&
-           line->next == line->end;
+    return field(line, UINT32_MAX, account) &&
+           ((kind != TOTALS_INSERT && kind != TOTALS_POST) || signed_field(line, total)) && line->next == line->end;
 }
 
 static int print_number(uint64_t number)
@@ -108,17 +108,18 @@ static int right_steps(uint64_t answer)
 
 static int print_run(uint64_t number)
 {
-    static const char *const answers[] = {"added", "replaced", "removed", "absent", "found",
-                                          "none",  "?",        "?",       "crowded"};
+    static const char *const answers[] = {"added",  "replaced", "removed", "absent", "found",  "none",
+                                          "posted", "?",        "crowded", "?",      "overrun"};
     if (number == TOTALS_MOVED)
         return printf("moved %" PRIu64 "\n", report[0]);
     if (number < TOTALS_ADDED)
         return print_number(number);
     if (!right_steps(number))
         return -1;
-    if (number == TOTALS_FOUND)
-        return printf("answered found %" PRId64 " %" PRIu64 "\n", (int64_t)report[1], report[0]);
-    return printf("answered %s %" PRIu64 "\n", answers[number - TOTALS_ADDED], report[0]);
+    printf("answered %s ", answers[number - TOTALS_ADDED]);
+    if (number == TOTALS_FOUND || number == TOTALS_POSTED)
+        printf("%" PRId64 " ", (int64_t)report[1]);
+    return printf("%" PRIu64 "\n", report[0]);
 }
 
 static int print_list(void)
@@ -147,7 +148,11 @@ static int answer(const char *text, size_t length)
     case 'I':
     case 'D':
     case 'L':
-        kind = text[0] == 'I' ? TOTALS_INSERT : text[0] == 'D' ? TOTALS_DELETE : TOTALS_LOOKUP;
+    case 'P':
+        kind = text[0] == 'I'   ? TOTALS_INSERT
+               : text[0] == 'D' ? TOTALS_DELETE
+               : text[0] == 'L' ? TOTALS_LOOKUP
+                                : TOTALS_POST;
         if (field(&line, SMALL, &a) && operation(&line, kind, &b, &total))
             return print_number(totals_call(words, WORDS, a, kind, (uint32_t)b, total));
         break;

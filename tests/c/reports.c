@@ -14,6 +14,7 @@ enum { LENGTH = TOTALS_GREATEST_WORDS, LONGEST = 4, BEFORE = 1000, TOTAL = -700,
 struct turn {
     uint64_t kind; /* 0 to go on */
     uint32_t account;
+    int64_t total;
     enum { STEP, RUN } by;
     uint64_t most, number;
     size_t tells; /* how many words, where the report has room */
@@ -22,19 +23,23 @@ struct turn {
 
 /* One worker, buckets of 2, depth 1 at most: the third account needs a split. */
 static const struct turn turns[] = {
-    {0, 0, STEP, 1, TOTALS_IDLE, 0, {0, 0, 0}},
-    {0, 0, RUN, MOST, TOTALS_IDLE, 0, {0, 0, 0}},
-    {TOTALS_INSERT, 5, RUN, 12, TOTALS_MOVED, 3, {12, 0, 0}},
-    {0, 0, RUN, 0, TOTALS_MOVED, 3, {0, 0, 0}},
-    {0, 0, STEP, 1, TOTALS_ADDED, 3, {13, 0, 1}},
-    {TOTALS_INSERT, 6, STEP, 1, TOTALS_MOVED, 0, {0, 0, 0}},
-    {0, 0, RUN, MOST, TOTALS_ADDED, 3, {13, 0, 1}},
-    {TOTALS_INSERT, 2147483648, RUN, MOST - 1, TOTALS_MOVED, 3, {22, 0, 0}},
-    {0, 0, STEP, 1, TOTALS_ADDED, 3, {23, 0, 2}},
-    {TOTALS_DELETE, 5, RUN, MOST, TOTALS_CROWDED, 3, {13, 0, 1}},
-    {TOTALS_LOOKUP, 5, RUN, MOST, TOTALS_FOUND, 3, {2, (uint64_t)TOTAL, 0}},
-    {TOTALS_LOOKUP, 7, RUN, 1, TOTALS_MOVED, 3, {1, 0, 0}},
-    {0, 0, STEP, 1, TOTALS_NONE, 3, {2, 0, 0}},
+    {0, 0, 0, STEP, 1, TOTALS_IDLE, 0, {0, 0, 0}},
+    {0, 0, 0, RUN, MOST, TOTALS_IDLE, 0, {0, 0, 0}},
+    {TOTALS_INSERT, 5, TOTAL, RUN, 12, TOTALS_MOVED, 3, {12, 0, 0}},
+    {0, 0, 0, RUN, 0, TOTALS_MOVED, 3, {0, 0, 0}},
+    {0, 0, 0, STEP, 1, TOTALS_ADDED, 3, {13, 0, 1}},
+    {TOTALS_INSERT, 6, TOTAL, STEP, 1, TOTALS_MOVED, 0, {0, 0, 0}},
+    {0, 0, 0, RUN, MOST, TOTALS_ADDED, 3, {13, 0, 1}},
+    {TOTALS_INSERT, 2147483648, TOTAL, RUN, MOST - 1, TOTALS_MOVED, 3, {22, 0, 0}},
+    {0, 0, 0, STEP, 1, TOTALS_ADDED, 3, {23, 0, 2}},
+    {TOTALS_DELETE, 5, TOTAL, RUN, MOST, TOTALS_CROWDED, 3, {13, 0, 1}},
+    {TOTALS_LOOKUP, 5, TOTAL, RUN, MOST, TOTALS_FOUND, 3, {2, (uint64_t)TOTAL, 0}},
+    {TOTALS_LOOKUP, 7, TOTAL, RUN, 1, TOTALS_MOVED, 3, {1, 0, 0}},
+    {0, 0, 0, STEP, 1, TOTALS_NONE, 3, {2, 0, 0}},
+    {TOTALS_POST, 2147483648, TOTAL, RUN, 12, TOTALS_MOVED, 3, {12, 0, 0}},
+    {0, 0, 0, STEP, 1, TOTALS_POSTED, 3, {13, (uint64_t)(2 * TOTAL), 1}},
+    {TOTALS_POST, 2147483648, INT64_MIN, RUN, MOST, TOTALS_OVERRUN, 3, {13, 0, 1}},
+    {TOTALS_POST, 5, INT64_MIN, RUN, MOST, TOTALS_CROWDED, 3, {13, 0, 1}},
 };
 
 static uint64_t words[LENGTH];
@@ -47,7 +52,7 @@ static int wrong(const struct turn *turn, size_t places)
     int errors = 0;
     for (place = 0; place < LONGEST + 2; place++)
         report[place] = BEFORE + place;
-    if (turn->kind != 0 && totals_call(words, LENGTH, 0, turn->kind, turn->account, TOTAL) != TOTALS_OK)
+    if (turn->kind != 0 && totals_call(words, LENGTH, 0, turn->kind, turn->account, turn->total) != TOTALS_OK)
         return fprintf(stderr, "account %" PRIu32 ": refused\n", turn->account);
     number = turn->by == STEP ? totals_step(words, LENGTH, 0, report, places)
                               : totals_run(words, LENGTH, 0, turn->most, report, places);

@@ -46,6 +46,7 @@ static const struct turn ending[] = {
     {1, TOTALS_INSERT, {5, 50}, ALL, TOTALS_ADDED, {15, 0, 1}, 1, 1, {{5, 50}}},
     {1, TOTALS_INSERT, {5, 51}, ALL, TOTALS_SPENT, {0, 0, 0}, 1, 1, {{5, 50}}},
     {1, TOTALS_DELETE, {5, 0}, ALL, TOTALS_SPENT, {0, 0, 0}, 1, 1, {{5, 50}}},
+    {1, TOTALS_POST, {5, 1}, ALL, TOTALS_SPENT, {0, 0, 0}, 1, 1, {{5, 50}}},
     {1, GO_ON, {0, 0}, 1, TOTALS_IDLE, {0, 0, 0}, 1, 1, {{5, 50}}},
     {1, TOTALS_LOOKUP, {5, 0}, ALL, TOTALS_FOUND, {2, 50, 0}, 1, 1, {{5, 50}}},
     {0, TOTALS_DELETE, {5, 0}, ALL, TOTALS_REMOVED, {15, 0, 1}, 1, 0, {{0, 0}}},
@@ -85,6 +86,25 @@ static const struct turn splitting[] = {
     {1, TOTALS_DELETE, {5, 0}, ALL, TOTALS_REMOVED, {15, 0, 1}, 3, 3, {{IN_10, 60}, {IN_10 + 1, 70}, {IN_11, 80}}},
 };
 
+/*
+ * Worker 1 announces a post, worker 0 ends its own and has carried out both, and worker 1 is told its own total: of new
+ * accounts, of one whose sum is an overrun, and in a full bucket, which is split.
+ */
+static const struct turn posting[] = {
+    {1, TOTALS_POST, {5, 50}, 3, TOTALS_MOVED, {3, 0, 0}, 1, 0, {{0, 0}}},
+    {0, TOTALS_POST, {9, 90}, ALL, TOTALS_POSTED, {15, 90, 1}, 1, 2, {{5, 50}, {9, 90}}},
+    {1, GO_ON, {0, 0}, ALL, TOTALS_POSTED, {15, 50, 1}, 1, 2, {{5, 50}, {9, 90}}},
+    {1, TOTALS_POST, {9, INT64_MAX}, 3, TOTALS_MOVED, {3, 0, 0}, 2, 2, {{5, 50}, {9, 90}}},
+    {0, TOTALS_POST, {5, -51}, ALL, TOTALS_POSTED, {15, UINT64_MAX, 1}, 2, 2, {{5, -1}, {9, 90}}},
+    {1, GO_ON, {0, 0}, ALL, TOTALS_OVERRUN, {15, 0, 1}, 2, 2, {{5, -1}, {9, 90}}},
+    {1, TOTALS_POST, {5, 11}, ALL, TOTALS_POSTED, {15, 10, 1}, 3, 2, {{5, 10}, {9, 90}}},
+    {0, TOTALS_POST, {9, 10}, ALL, TOTALS_POSTED, {15, 100, 1}, 3, 2, {{5, 10}, {9, 100}}},
+    {1, TOTALS_POST, {IN_10, 0}, ALL, TOTALS_POSTED, {15, 0, 1}, 4, 3, {{5, 10}, {9, 100}, {IN_10, 0}}},
+    {1, TOTALS_POST, {IN_10, 70}, 3, TOTALS_MOVED, {3, 0, 0}, 5, 3, {{5, 10}, {9, 100}, {IN_10, 0}}},
+    {0, TOTALS_POST, {9, 1}, ALL, TOTALS_POSTED, {29, 101, 2}, 4, 3, {{5, 10}, {9, 101}, {IN_10, 70}}},
+    {1, GO_ON, {0, 0}, ALL, TOTALS_POSTED, {15, 70, 1}, 5, 3, {{5, 10}, {9, 101}, {IN_10, 70}}},
+};
+
 struct order {
     uint64_t capacity, depth;
     const struct turn *turns;
@@ -94,7 +114,7 @@ struct order {
 #define ORDER(capacity, depth, turns) {capacity, depth, turns, sizeof turns / sizeof turns[0]}
 
 static const struct order at_the_end = ORDER(2, 1, ending);
-static const struct order at_an_edge[] = {ORDER(3, 1, helped), ORDER(2, 2, splitting)};
+static const struct order at_an_edge[] = {ORDER(3, 1, helped), ORDER(2, 2, splitting), ORDER(3, 1, posting)};
 
 /* The least tickets of 17, 32, 33 and 64 bits. */
 static const uint64_t edges[] = {UINT64_C(1) << 16, UINT64_C(1) << 31, UINT64_C(1) << 32, UINT64_C(1) << 63};
@@ -163,7 +183,11 @@ static int order_errors(const struct order *order, uint64_t last, uint64_t excha
 
 static int errors_at_an_edge(uint64_t last, uint64_t exchanged)
 {
-    return order_errors(&at_an_edge[0], last, exchanged) + order_errors(&at_an_edge[1], last, exchanged);
+    size_t i;
+    int errors = 0;
+    for (i = 0; i < sizeof at_an_edge / sizeof at_an_edge[0]; i++)
+        errors += order_errors(&at_an_edge[i], last, exchanged);
+    return errors;
 }
 
 int main(void)

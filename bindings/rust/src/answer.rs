@@ -20,13 +20,18 @@ pub enum Answer {
     Found(i64),
     /// Lookup: the account is not there.
     None,
-    /// Insert or delete: the table holds b accounts that agree with this one in the first M bits, itself counted where
-    /// it is there. Nothing changed: the update was not carried out.
+    /// Post: the account's new total. An account that was not there has started from 0.
+    Posted(i64),
+    /// Insert, delete or post: the table holds b accounts that agree with this one in the first M bits, itself counted
+    /// where it is there. Nothing changed: the update was not carried out.
     Crowded,
+    /// Post: the sum is outside the 64-bit signed range. Nothing changed: the post was not carried out.
+    Overrun,
 }
 
 impl Answer {
-    /// The answer that a number from `TOTALS_ADDED` on is, with the word told for a total.
+    /// The answer that a number from `TOTALS_ADDED` on is, with the word told for a total. The contracts leave no other
+    /// number; one is never taken for an answer.
     fn of(number: u64, total: u64) -> Answer {
         match number {
             TOTALS_ADDED => Answer::Added,
@@ -35,13 +40,15 @@ impl Answer {
             TOTALS_ABSENT => Answer::Absent,
             TOTALS_FOUND => Answer::Found(total as i64),
             TOTALS_NONE => Answer::None,
-            // TOTALS_CROWDED: the contracts leave no other
-            _ => Answer::Crowded,
+            TOTALS_POSTED => Answer::Posted(total as i64),
+            TOTALS_CROWDED => Answer::Crowded,
+            TOTALS_OVERRUN => Answer::Overrun,
+            _ => unreachable!("{number} is no answer of the library"),
         }
     }
 }
 
-/// Document 01's word, and the total where there is one: `found 700`.
+/// The answer's word, and the total where there is one: `found 700`, `posted 700`.
 impl fmt::Display for Answer {
     fn fmt(&self, f: &mut fmt::Formatter<'_>) -> fmt::Result {
         match self {
@@ -51,14 +58,16 @@ impl fmt::Display for Answer {
             Answer::Absent => f.write_str("absent"),
             Answer::Found(total) => write!(f, "found {total}"),
             Answer::None => f.write_str("none"),
+            Answer::Posted(total) => write!(f, "posted {total}"),
             Answer::Crowded => f.write_str("crowded"),
+            Answer::Overrun => f.write_str("overrun"),
         }
     }
 }
 
 /// What one step gives.
 #[derive(Clone, Copy, Debug, PartialEq, Eq, Hash)]
-#[must_use = "an update that is answered crowded was not carried out"]
+#[must_use = "an update that is answered crowded or overrun was not carried out"]
 pub enum Stepped {
     /// The operation goes on.
     Moved,
@@ -76,7 +85,7 @@ pub enum Stepped {
 
 /// What up to so many steps give.
 #[derive(Clone, Copy, Debug, PartialEq, Eq, Hash)]
-#[must_use = "an update that is answered crowded was not carried out"]
+#[must_use = "an update that is answered crowded or overrun was not carried out"]
 pub enum Ran {
     /// So many steps were given, and the operation goes on.
     Moved(u64),

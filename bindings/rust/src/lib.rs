@@ -1,11 +1,12 @@
 //! The totals table: a wait-free extendible hash table of accounts and totals over lent 64-bit words, proved in Rattle,
 //! behind a safe interface.
 //!
-//! A table is opened for n workers. An operation (insert, delete, lookup) is handed to a worker, and then takes its
-//! steps, one at a time and interleaved with the others' as the caller likes. Whatever the other workers do, a lookup
-//! answers at its second step, an update at one of its four checks, which are its steps 2n+11, 6n+17, 8n+27 and 12n+33;
-//! with one worker at step 13 or 23. [`Settings::greatest_steps`] is the most to plan for. Workers are numbers and no
-//! threads: a [`Table`] has one caller at a time. An update that is answered [`Answer::Crowded`] was not carried out.
+//! A table is opened for n workers. An operation (insert, delete, post, lookup) is handed to a worker, and then takes
+//! its steps, one at a time and interleaved with the others' as the caller likes. Whatever the other workers do, a
+//! lookup answers at its second step, an update at one of its four checks, which are its steps 2n+11, 6n+17, 8n+27 and
+//! 12n+33; with one worker at step 13 or 23. [`Settings::greatest_steps`] is the most to plan for. Workers are numbers
+//! and no threads: a [`Table`] has one caller at a time. An update that is answered [`Answer::Crowded`] or
+//! [`Answer::Overrun`] was not carried out.
 //!
 //! ```
 //! use totals::{Answer, Owned, Ran, Refusal, Settings};

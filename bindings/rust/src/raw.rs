@@ -18,7 +18,7 @@ pub const TOTALS_BUSY: u64 = 4;
 pub const TOTALS_IDLE: u64 = 5;
 /// No kind of operation.
 pub const TOTALS_KIND: u64 = 6;
-/// Insert or delete by a worker that has no ticket number left.
+/// Insert, delete or post by a worker that has no ticket number left.
 pub const TOTALS_SPENT: u64 = 7;
 /// The words are no table.
 pub const TOTALS_STRANGE: u64 = 8;
@@ -31,6 +31,8 @@ pub const TOTALS_INSERT: u64 = 1;
 pub const TOTALS_DELETE: u64 = 2;
 /// A lookup.
 pub const TOTALS_LOOKUP: u64 = 3;
+/// A post.
+pub const TOTALS_POST: u64 = 4;
 
 /// The least answer. Insert: the account was not there.
 pub const TOTALS_ADDED: u64 = 17;
@@ -40,12 +42,16 @@ pub const TOTALS_REPLACED: u64 = 18;
 pub const TOTALS_REMOVED: u64 = 19;
 /// Delete: the account was not there.
 pub const TOTALS_ABSENT: u64 = 20;
-/// Lookup: the total is in the report.
+/// Lookup: the account's total is in the report.
 pub const TOTALS_FOUND: u64 = 21;
 /// Lookup: the account is not there.
 pub const TOTALS_NONE: u64 = 22;
-/// The greatest answer. Insert or delete: b accounts agree with this one in the first M bits.
+/// Post: the account's new total is in the report.
+pub const TOTALS_POSTED: u64 = 23;
+/// Insert, delete or post: b accounts agree with this one in the first M bits.
 pub const TOTALS_CROWDED: u64 = 25;
+/// The greatest answer. Post: the sum is outside the 64-bit signed range.
+pub const TOTALS_OVERRUN: u64 = 27;
 
 /// The greatest ticket number, and with it how many updates one worker can make.
 pub const TOTALS_GREATEST_UPDATES: u64 = 18_446_744_073_709_551_615;
@@ -63,7 +69,7 @@ extern "C" {
     /// A fresh table: 0, or the number of a refusal.
     pub fn totals_open(words: *mut u64, length: usize, workers: u64, capacity: u64, depth: u64) -> u64;
 
-    /// An operation handed to a worker: 0, or the number of a refusal.
+    /// An operation handed to a worker, `total` being a post's amount: 0, or the number of a refusal.
     pub fn totals_call(words: *mut u64, length: usize, worker: u64, kind: u64, account: u32, total: i64) -> u64;
 
     /// One step of a worker: 0, 16 and an answer's number, or the number of a refusal. A report of three places gets an

@@ -3,8 +3,8 @@
 use crate::raw::*;
 use std::{error, fmt};
 
-/// Why a call was turned down. A refused call has changed no word and no list. Crowded, number 9, is an
-/// [`Answer`](crate::Answer).
+/// Why a call was turned down. A refused call has changed no word and no list. Crowded and overrun, the numbers 9 and
+/// 11, are [`Answer`](crate::Answer)s.
 ///
 /// ```
 /// use totals::{Refusal, Settings};
@@ -27,8 +27,8 @@ pub enum Refusal {
     Idle,
     /// No kind of operation; the methods of [`Table`](crate::Table) never give one.
     Kind,
-    /// An insert or a delete by a worker that has no ticket number left: each of its updates takes the next one, from 1
-    /// on after an opening, and 18,446,744,073,709,551,615 is the last. A lookup takes none.
+    /// An insert, a delete or a post by a worker that has no ticket number left: each of its updates takes the next
+    /// one, from 1 on after an opening, and 18,446,744,073,709,551,615 is the last. A lookup takes none.
     Spent,
     /// The words are no table.
     Strange,
@@ -51,7 +51,8 @@ impl Refusal {
 
     /// The refusal that a number other than 0 and below the answers is; the contracts leave no other.
     pub(crate) fn of(number: u64) -> Refusal {
-        Self::ALL.into_iter().find(|refusal| refusal.number() == number).unwrap_or(Refusal::Narrow)
+        let named = Self::ALL.into_iter().find(|refusal| refusal.number() == number);
+        named.unwrap_or_else(|| unreachable!("{number} is no refusal of the library"))
     }
 
     /// The refusal's number.
@@ -92,8 +93,8 @@ impl Refusal {
             Refusal::Stranger => "worker number is n or more",
             Refusal::Busy => "a call to a worker whose operation has no answer yet",
             Refusal::Idle => "a step for a worker without operation",
-            Refusal::Kind => "not 1 insert, 2 delete, 3 lookup",
-            Refusal::Spent => "insert or delete by a worker that has no ticket number left",
+            Refusal::Kind => "not 1 insert, 2 delete, 3 lookup, 4 post",
+            Refusal::Spent => "insert, delete or post by a worker that has no ticket number left",
             Refusal::Strange => "memory fails the checks",
             Refusal::Narrow => "accounts or totals list shorter than the count",
         }

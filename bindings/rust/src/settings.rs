@@ -7,7 +7,7 @@ use crate::{raw, Refusal};
 /// ```
 /// use totals::Settings;
 /// let settings = Settings::new(8, 16, 8)?;
-/// assert_eq!(settings.words_needed(), 15_169);
+/// assert_eq!(settings.words_needed(), 17_305);
 /// assert!(Settings::new(8, 1, 8).is_err());
 /// # Ok::<(), totals::Refusal>(())
 /// ```
@@ -45,7 +45,7 @@ impl Settings {
         }
     }
 
-    /// How many words a table of these settings needs: 150 to 15,169.
+    /// How many words a table of these settings needs: 162 to 17,305.
     pub fn words_needed(self) -> usize {
         // SAFETY: numbers alone go in and out.
         unsafe { raw::totals_words_needed(self.workers, self.capacity, self.depth) as usize }

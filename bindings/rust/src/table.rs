@@ -35,7 +35,7 @@ pub struct Table<'a> {
 }
 
 impl<'a> Table<'a> {
-    /// The most accounts that a table opened with any settings holds.
+    /// The most accounts that a table opened with any settings holds, and that any words list.
     pub const GREATEST_COUNT: usize = 4096;
 
     /// A fresh, empty table, whatever the words held. Refuses with [`Refusal::Short`].
@@ -43,8 +43,8 @@ impl<'a> Table<'a> {
     /// ```
     /// use totals::{Refusal, Settings, Table};
     /// let settings = Settings::new(1, 2, 0)?;
-    /// assert_eq!(Table::open(&mut [0; 149], settings).err(), Some(Refusal::Short));
-    /// assert!(Table::open(&mut [0; 150], settings).is_ok());
+    /// assert_eq!(Table::open(&mut [0; 161], settings).err(), Some(Refusal::Short));
+    /// assert!(Table::open(&mut [0; 162], settings).is_ok());
     /// # Ok::<(), Refusal>(())
     /// ```
     pub fn open(words: &'a mut [u64], settings: Settings) -> Result<Table<'a>, Refusal> {
@@ -58,7 +58,7 @@ impl<'a> Table<'a> {
     ///
     /// ```
     /// use totals::{Refusal, Settings, Table};
-    /// let mut words = [0; 150];
+    /// let mut words = [0; 162];
     /// assert_eq!(Table::over(&mut words).lookup(0, 5), Err(Refusal::Strange));
     /// Table::open(&mut words, Settings::new(1, 2, 0)?)?;
     /// assert_eq!(Table::over(&mut words).lookup(0, 5), Ok(()));
@@ -68,7 +68,7 @@ impl<'a> Table<'a> {
         Table { words }
     }
 
-    /// Hands an operation to a worker.
+    /// Hands an operation to a worker; `total` is a post's amount.
     fn call(&mut self, worker: u64, kind: u64, account: u32, total: i64) -> Result<(), Refusal> {
         // SAFETY: the pointer and the length are those of a slice that is borrowed for the call.
         done(unsafe { raw::totals_call(self.words.as_mut_ptr(), self.words.len(), worker, kind, account, total) })
@@ -83,6 +83,28 @@ impl<'a> Table<'a> {
     /// Hands the worker a delete of the account. Refuses as [`Table::insert`].
     pub fn delete(&mut self, worker: u64, account: u32) -> Result<(), Refusal> {
         self.call(worker, raw::TOTALS_DELETE, account, 0)
+    }
+
+    /// Hands the worker a post: the amount is to be added to the account's total, which is 0 where the account is not
+    /// there; it is then made, also by an amount of 0. Refuses as [`Table::insert`].
+    ///
+    /// ```
+    /// use totals::{Answer, Owned, Ran, Settings};
+    /// let mut owned = Owned::new(Settings::new(1, 2, 1)?)?;
+    /// let mut table = owned.table();
+    /// let mut post = |amount| {
+    ///     table.post(0, 5, amount)?;
+    ///     table.run(0, 99)
+    /// };
+    /// assert_eq!(post(700)?, Ran::Answered { answer: Answer::Posted(700), steps: 13, check: 1 });
+    /// assert_eq!(post(-900)?, Ran::Answered { answer: Answer::Posted(-200), steps: 13, check: 1 });
+    /// // the sum has more than 64 bits: the total stays
+    /// assert_eq!(post(i64::MIN)?, Ran::Answered { answer: Answer::Overrun, steps: 13, check: 1 });
+    /// assert_eq!(table.listing()?, [(5, -200)]);
+    /// # Ok::<(), totals::Refusal>(())
+    /// ```
+    pub fn post(&mut self, worker: u64, account: u32, amount: i64) -> Result<(), Refusal> {
+        self.call(worker, raw::TOTALS_POST, account, amount)
     }
 
     /// Hands the worker a lookup of the account. Refuses with `Strange`, `Stranger`, `Busy`, in this order.
@@ -172,17 +194,11 @@ impl<'a> Table<'a> {
 
     /// The accounts in ascending order with their totals. Refuses with `Strange`.
     pub fn listing(&self) -> Result<Vec<(u32, i64)>, Refusal> {
-        // words from elsewhere may name up to 2^15 buckets of 16
-        let most = (Settings::GREATEST_CAPACITY as usize) << 15;
-        let mut places = Self::GREATEST_COUNT;
-        loop {
-            let (mut accounts, mut totals) = (vec![0; places], vec![0; places]);
-            match self.listing_into(&mut accounts, &mut totals) {
-                Ok(count) => return Ok(accounts.into_iter().zip(totals).take(count).collect()),
-                Err(Refusal::Narrow) if places < most => places *= 2,
-                Err(refusal) => return Err(refusal),
-            }
-        }
+        // never `Narrow`: also words from elsewhere, where they are not strange, list no more rows than this, by the
+        // theorem `rows-few` of crates/rows/proofs/RowLaws
+        let (mut accounts, mut totals) = (vec![0; Self::GREATEST_COUNT], vec![0; Self::GREATEST_COUNT]);
+        let count = self.listing_into(&mut accounts, &mut totals)?;
+        Ok(accounts.into_iter().zip(totals).take(count).collect())
     }
 }
 

@@ -1,10 +1,10 @@
-//! Document 01's session and cases by the safe interface, every refusal, tickets at both ends of their 64 bits, every
-//! position in the largest bucket, the words needed for all settings, and the steps at every check.
+//! Document 01's session and cases by the safe interface, posts, every refusal, tickets at both ends of their 64 bits,
+//! every position in the largest bucket, the words needed for all settings, and the steps at every check.
 #[path = "model/tickets.rs"]
 mod tickets;
 
 use tickets::last_ticket;
-use totals::{Answer, Owned, Ran, Refusal, Settings, Stepped, Table};
+use totals::{raw, Answer, Owned, Ran, Refusal, Settings, Stepped, Table};
 
 type Done = Result<(), Refusal>;
 
@@ -49,7 +49,7 @@ fn the_words_needed_and_a_fresh_table_for_all_settings() -> Done {
             for m in Settings::LEAST_DEPTH..=Settings::GREATEST_DEPTH {
                 let settings = Settings::new(n, b, m)?;
                 let span = 1 << m;
-                let needed = 16 + span + 4 * n + n * (4 * n + 24) + (span + n + 2) * (2 * b + 2 * n + 6) + 53;
+                let needed = 16 + span + 4 * n + n * (4 * n + 24) + (span + n + 2) * (2 * b + 3 * n + 6) + 61;
                 assert_eq!(settings.words_needed() as u64, needed);
                 assert!(needed <= 16 * (2 * n + 1) * span * (b + n + 4));
                 assert_eq!(Owned::new(settings)?.table().listing()?, []);
@@ -163,6 +163,147 @@ fn the_second_pass_is_needed() -> Done {
     ends(&mut table, 1, Answer::Added, 43, 3)
 }
 
+/// Worker 0's post ends with this answer.
+fn posts(table: &mut Table, account: u32, amount: i64, answer: Answer) -> Done {
+    table.post(0, account, amount)?;
+    ends(table, 0, answer, 13, 1)
+}
+
+#[test]
+fn a_post_makes_the_account_and_adds_to_its_total() -> Done {
+    let mut owned = opened(1, 2, 1)?;
+    let mut table = owned.table();
+    posts(&mut table, 5, 700, Answer::Posted(700))?;
+    posts(&mut table, 5, -1000, Answer::Posted(-300))?;
+    // also by an amount of 0
+    posts(&mut table, 6, 0, Answer::Posted(0))?;
+    assert_eq!(table.listing()?, [(5, -300), (6, 0)]);
+    looks(&mut table, 6, Some(0))
+}
+
+#[test]
+fn a_post_after_an_insert_and_after_a_delete() -> Done {
+    let mut owned = opened(1, 2, 1)?;
+    let mut table = owned.table();
+    table.insert(0, 5, 700)?;
+    ends(&mut table, 0, Answer::Added, 13, 1)?;
+    posts(&mut table, 5, 50, Answer::Posted(750))?;
+    table.insert(0, 5, 1)?;
+    ends(&mut table, 0, Answer::Replaced, 13, 1)?;
+    table.delete(0, 5)?;
+    ends(&mut table, 0, Answer::Removed, 13, 1)?;
+    // from 0 again
+    posts(&mut table, 5, 50, Answer::Posted(50))?;
+    assert_eq!(table.listing()?, [(5, 50)]);
+    Ok(())
+}
+
+#[test]
+fn a_sum_past_either_end_is_an_overrun_and_changes_nothing() -> Done {
+    let mut owned = opened(1, 3, 1)?;
+    let mut table = owned.table();
+    for (account, end, sign) in [(5, i64::MAX, 1), (6, i64::MIN, -1)] {
+        posts(&mut table, account, end, Answer::Posted(end))?;
+        for amount in [sign, end] {
+            posts(&mut table, account, amount, Answer::Overrun)?;
+            looks(&mut table, account, Some(end))?;
+        }
+        // back from the end, and to the last total that there is
+        posts(&mut table, account, -2 * sign, Answer::Posted(end - 2 * sign))?;
+        posts(&mut table, account, 3 * sign, Answer::Overrun)?;
+        posts(&mut table, account, 2 * sign, Answer::Posted(end))?;
+    }
+    posts(&mut table, 5, i64::MIN, Answer::Posted(-1))?;
+    posts(&mut table, 5, i64::MIN, Answer::Overrun)?;
+    assert_eq!(table.listing()?, [(5, -1), (6, i64::MIN)]);
+    Ok(())
+}
+
+#[test]
+fn crowded_comes_before_overrun() -> Done {
+    let mut owned = opened(1, 2, 0)?;
+    let mut table = owned.table();
+    posts(&mut table, 5, i64::MAX, Answer::Posted(i64::MAX))?;
+    posts(&mut table, 5, 1, Answer::Overrun)?;
+    posts(&mut table, 6, 0, Answer::Posted(0))?;
+    posts(&mut table, 5, 1, Answer::Crowded)?;
+    posts(&mut table, 7, 1, Answer::Crowded)?;
+    assert_eq!(table.listing()?, [(5, i64::MAX), (6, 0)]);
+    Ok(())
+}
+
+#[test]
+fn a_post_that_splits_first() -> Done {
+    let mut owned = holding(1, &[5, 6])?;
+    let mut table = owned.table();
+    table.post(0, 5, 1)?;
+    ends(&mut table, 0, Answer::Crowded, 23, 2)?;
+    let mut owned = holding(1, &[5, 2147483648])?;
+    let mut table = owned.table();
+    table.post(0, 5, 1)?;
+    ends(&mut table, 0, Answer::Posted(51), 23, 2)?;
+    assert_eq!(table.listing()?, [(5, 51), (2147483648, 21474836480)]);
+    Ok(())
+}
+
+#[test]
+fn posts_of_two_workers_to_one_account() -> Done {
+    let mut owned = opened(2, 2, 1)?;
+    let mut table = owned.table();
+    table.post(1, 5, 900)?;
+    assert_eq!(table.run(1, 3)?, Ran::Moved(3));
+    table.post(0, 5, 70)?;
+    ends(&mut table, 0, Answer::Posted(70), 15, 1)?;
+    // worker 0 has carried out worker 1's post behind its own, and goes on
+    assert_eq!(table.listing()?, [(5, 970)]);
+    table.post(0, 5, 30)?;
+    ends(&mut table, 0, Answer::Posted(1000), 15, 1)?;
+    // worker 1 is told its own total, once
+    ends(&mut table, 1, Answer::Posted(970), 15, 1)?;
+    assert_eq!(table.listing()?, [(5, 1000)]);
+    Ok(())
+}
+
+#[test]
+fn a_helped_overrun() -> Done {
+    let mut owned = opened(2, 2, 1)?;
+    let mut table = owned.table();
+    table.post(1, 5, i64::MAX)?;
+    assert_eq!(table.run(1, 3)?, Ran::Moved(3));
+    table.post(0, 5, 1)?;
+    ends(&mut table, 0, Answer::Posted(1), 15, 1)?;
+    // there is room for worker 1's amount now, but its post is settled
+    table.post(0, 5, -1)?;
+    ends(&mut table, 0, Answer::Posted(0), 15, 1)?;
+    ends(&mut table, 1, Answer::Overrun, 15, 1)?;
+    assert_eq!(table.listing()?, [(5, 0)]);
+    Ok(())
+}
+
+/// The words of a table with account 5, after a call of this kind with this total and, from then on, all its steps.
+fn words_with(kind: u64, total: i64) -> Result<Vec<u64>, Refusal> {
+    let settings = Settings::new(1, 2, 1)?;
+    let mut words = vec![0; settings.words_needed()];
+    posts(&mut Table::open(&mut words, settings)?, 5, 700, Answer::Posted(700))?;
+    // SAFETY: the pointer and the length are those of a slice that is borrowed for the call.
+    let number = unsafe { raw::totals_call(words.as_mut_ptr(), words.len(), 0, kind, 5, total) };
+    assert_eq!(number, raw::TOTALS_OK);
+    let left = words.clone();
+    assert!(matches!(Table::over(&mut words).run(0, 99)?, Ran::Answered { .. }));
+    Ok([left, words].concat())
+}
+
+#[test]
+fn a_total_counts_for_inserts_and_posts_only() -> Done {
+    for kind in [raw::TOTALS_DELETE, raw::TOTALS_LOOKUP] {
+        assert_eq!(words_with(kind, i64::MIN)?, words_with(kind, 0)?);
+    }
+    for kind in [raw::TOTALS_INSERT, raw::TOTALS_POST] {
+        assert_ne!(words_with(kind, 1)?, words_with(kind, 0)?);
+    }
+    Ok(())
+}
+
 /// The words of a fresh table, in which each worker has taken this ticket last.
 fn words_after(capacity: u64, tickets: &[u64]) -> Result<Vec<u64>, Refusal> {
     let settings = Settings::new(tickets.len() as u64, capacity, 1)?;
@@ -184,6 +325,7 @@ fn the_last_ticket_is_taken_and_the_next_update_is_spent() -> Done {
     let mut table = Table::over(&mut words);
     assert_eq!(table.insert(0, 5, 7), Err(Refusal::Spent));
     assert_eq!(table.delete(0, 5), Err(Refusal::Spent));
+    assert_eq!(table.post(0, 5, 0), Err(Refusal::Spent));
     assert_eq!(table.step(0), Err(Refusal::Idle));
     assert_eq!(words, before);
     let mut table = Table::over(&mut words);
@@ -193,6 +335,19 @@ fn the_last_ticket_is_taken_and_the_next_update_is_spent() -> Done {
     ends(&mut table, 1, Answer::Added, 15, 1)?;
     assert_eq!(table.listing()?, [(5, i64::MIN), (6, 60)]);
     assert_eq!([0, 1].map(|worker| *last_ticket(&mut words, worker)), [u64::MAX, 1]);
+    Ok(())
+}
+
+#[test]
+fn a_post_takes_a_ticket_and_the_last_one_too() -> Done {
+    let mut words = words_after(2, &[u64::MAX - 2])?;
+    let mut table = Table::over(&mut words);
+    posts(&mut table, 5, i64::MAX, Answer::Posted(i64::MAX))?;
+    // an overrun has taken one as well
+    posts(&mut table, 5, 1, Answer::Overrun)?;
+    assert_eq!(table.post(0, 5, 0), Err(Refusal::Spent));
+    looks(&mut table, 5, Some(i64::MAX))?;
+    assert_eq!(*last_ticket(&mut words, 0), u64::MAX);
     Ok(())
 }
 
@@ -228,20 +383,27 @@ fn looks(table: &mut Table, account: u32, total: Option<i64>) -> Done {
     ends(table, 0, total.map_or(Answer::None, Answer::Found), 2, 0)
 }
 
-/// An account that is not there is added; if there is room for another, replaced, removed and added again, each time
-/// with another total. In the end its total is three times its number.
+/// An account that is not there is added; if there is room for another, replaced, posted to and removed, and then made
+/// by a post, each time with another total. In the end its total is three times its number.
 fn updated(table: &mut Table, account: u32, room: bool) -> Done {
-    let updates = [(Answer::Added, 1), (Answer::Replaced, 2), (Answer::Removed, 0), (Answer::Added, 3)];
-    for (answer, times) in updates.into_iter().skip(if room { 0 } else { 3 }) {
-        let total = times * i64::from(account);
-        match answer {
-            Answer::Removed => table.delete(0, account)?,
-            _ => table.insert(0, account, total)?,
-        }
-        ends(table, 0, answer, 13, 1)?;
-        looks(table, account, (times > 0).then_some(total))?;
+    let number = i64::from(account);
+    if !room {
+        table.insert(0, account, 3 * number)?;
+        ends(table, 0, Answer::Added, 13, 1)?;
+        return looks(table, account, Some(3 * number));
     }
-    Ok(())
+    for (total, answer) in [(number, Answer::Added), (2 * number, Answer::Replaced)] {
+        table.insert(0, account, total)?;
+        ends(table, 0, answer, 13, 1)?;
+        looks(table, account, Some(total))?;
+    }
+    posts(table, account, 5 * number, Answer::Posted(7 * number))?;
+    looks(table, account, Some(7 * number))?;
+    table.delete(0, account)?;
+    ends(table, 0, Answer::Removed, 13, 1)?;
+    looks(table, account, None)?;
+    posts(table, account, 3 * number, Answer::Posted(3 * number))?;
+    looks(table, account, Some(3 * number))
 }
 
 #[test]
@@ -265,14 +427,54 @@ fn every_position_in_a_bucket_of_sixteen() -> Done {
     Ok(())
 }
 
-#[test]
-fn words_that_hold_no_table_are_strange() {
-    let mut words = [0; 150];
-    let mut table = Table::over(&mut words);
+/// Every call over these words is refused as strange, and leaves them as they are.
+fn strange(words: &mut [u64]) {
+    let before = words.to_vec();
+    let mut table = Table::over(words);
     assert_eq!(table.insert(0, 5, 7), Err(Refusal::Strange));
+    assert_eq!(table.delete(0, 5), Err(Refusal::Strange));
+    assert_eq!(table.post(0, 5, 7), Err(Refusal::Strange));
+    assert_eq!(table.lookup(0, 5), Err(Refusal::Strange));
     assert_eq!(table.step(0), Err(Refusal::Strange));
     assert_eq!(table.run(0, 9), Err(Refusal::Strange));
     assert_eq!(table.listing(), Err(Refusal::Strange));
+    assert_eq!(words, before);
+}
+
+#[test]
+fn words_that_hold_no_table_are_strange() {
+    strange(&mut [0; 162]);
+}
+
+/// The least first word of a table: the mark, above the 2,048 numbers of settings.
+const LEAST_FIRST: u64 = 6_004_514_764 * 2048;
+
+#[test]
+fn another_mark_and_a_greatest_depth_above_8_are_strange() -> Done {
+    let mut words = words_after(2, &[0])?;
+    // n 1, b 2, M 1
+    assert_eq!(words[0], LEAST_FIRST + 8 + 128);
+    // 6,004,514,763 was the mark before posts, when the words meant something else
+    for mark in [0, 1, 6_004_514_763, 6_004_514_765, u64::MAX >> 11] {
+        words[0] = mark * 2048 + 8 + 128;
+        strange(&mut words);
+    }
+    for depth in 0..16 {
+        words[0] = LEAST_FIRST + 8 + 128 * depth;
+        match depth {
+            0..=8 => looks(&mut Table::over(&mut words), 5, None)?,
+            _ => strange(&mut words),
+        }
+    }
+    // the ends of the range, the last for n 8, b 16, M 8
+    words.resize(600, 0);
+    for (first, served) in [(0, true), (1151, true), (1152, false)] {
+        words[0] = LEAST_FIRST + first;
+        assert_eq!(Table::over(&mut words).listing().is_ok(), served);
+    }
+    words[0] = LEAST_FIRST - 1;
+    strange(&mut words);
+    Ok(())
 }
 
 #[test]
@@ -312,10 +514,12 @@ fn words_and_numbers_of_refusals_and_answers() {
         Answer::Absent,
         Answer::Found(-7),
         Answer::None,
+        Answer::Posted(-7),
         Answer::Crowded,
+        Answer::Overrun,
     ];
     assert_eq!(
         answers.map(|a| a.to_string()),
-        ["added", "replaced", "removed", "absent", "found -7", "none", "crowded"]
+        ["added", "replaced", "removed", "absent", "found -7", "none", "posted -7", "crowded", "overrun"]
     );
 }

@@ -33,7 +33,7 @@ fn raw_constants() -> BTreeMap<String, u64> {
 #[test]
 fn constants_of_raw() {
     let (mut header, raw) = (constants(), raw_constants());
-    assert_eq!(raw.len(), 25);
+    assert_eq!(raw.len(), 28);
     header.retain(|name, _| raw.contains_key(name));
     assert_eq!(raw, header);
 }
@@ -103,25 +103,27 @@ fn steps() -> Result<(), Refusal> {
 #[test]
 fn kinds_and_answers() {
     let header = constants();
-    let mut words = [0; 150];
+    let mut words = [0; 162];
     assert_eq!(unsafe { raw::totals_open(words.as_mut_ptr(), words.len(), 1, 2, 0) }, header["OK"]);
-    let mut answer = |kind: &str, account: u32| {
+    let mut answer = |kind: &str, account: u32, total: i64| {
         let mut report = [0; 3];
         let (w, length) = (words.as_mut_ptr(), words.len());
-        // the total is ten times the account, less than nothing
-        let called = unsafe { raw::totals_call(w, length, 0, header[kind], account, -10 * i64::from(account)) };
+        let called = unsafe { raw::totals_call(w, length, 0, header[kind], account, total) };
         assert_eq!(called, header["OK"]);
         let number =
             unsafe { raw::totals_run(w, length, 0, header["GREATEST_RUN"], report.as_mut_ptr(), report.len()) };
         (number, report[1] as i64, report[2])
     };
-    assert_eq!(answer("INSERT", 5), (header["ADDED"], 0, 1));
-    assert_eq!(answer("INSERT", 5), (header["REPLACED"], 0, 1));
-    assert_eq!(answer("LOOKUP", 5), (header["FOUND"], -50, 0));
-    assert_eq!(answer("LOOKUP", 6), (header["NONE"], 0, 0));
-    assert_eq!(answer("DELETE", 6), (header["ABSENT"], 0, 1));
-    assert_eq!(answer("DELETE", 5), (header["REMOVED"], 0, 1));
-    assert_eq!(answer("INSERT", 6), (header["ADDED"], 0, 1));
-    assert_eq!(answer("INSERT", 7), (header["ADDED"], 0, 1));
-    assert_eq!(answer("INSERT", 8), (header["CROWDED"], 0, 1));
+    assert_eq!(answer("INSERT", 5, 70), (header["ADDED"], 0, 1));
+    assert_eq!(answer("INSERT", 5, -50), (header["REPLACED"], 0, 1));
+    assert_eq!(answer("LOOKUP", 5, 1), (header["FOUND"], -50, 0));
+    assert_eq!(answer("LOOKUP", 6, 1), (header["NONE"], 0, 0));
+    assert_eq!(answer("POST", 5, -10), (header["POSTED"], -60, 1));
+    assert_eq!(answer("POST", 5, i64::MIN), (header["OVERRUN"], 0, 1));
+    assert_eq!(answer("DELETE", 6, 1), (header["ABSENT"], 0, 1));
+    assert_eq!(answer("DELETE", 5, 1), (header["REMOVED"], 0, 1));
+    assert_eq!(answer("POST", 6, 7), (header["POSTED"], 7, 1));
+    assert_eq!(answer("INSERT", 7, 1), (header["ADDED"], 0, 1));
+    assert_eq!(answer("INSERT", 8, 1), (header["CROWDED"], 0, 1));
+    assert_eq!(answer("POST", 6, i64::MAX), (header["CROWDED"], 0, 1));
 }

@@ -38,6 +38,7 @@ impl Replay {
             Kind::Insert => table.insert(worker, account, total),
             Kind::Delete => table.delete(worker, account),
             Kind::Lookup => table.lookup(worker, account),
+            Kind::Post => table.post(worker, account, total),
         }
     }
 

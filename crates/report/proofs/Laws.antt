@@ -41,11 +41,13 @@ three-told (a ∷ b ∷ d ∷ l) x y z h =
 
 -- ---- answers
 
-pub answer-small : (a : Answer) → answerNumber a ≤ 9
+pub answer-small : (a : Answer) → answerNumber a ≤ 11
 answer-small Answer.Added = omega arith
 answer-small Answer.Replaced = omega arith
 answer-small Answer.Removed = omega arith
 answer-small Answer.Absent = omega arith
 answer-small (Answer.Found total) = omega arith
 answer-small Answer.None = omega arith
+answer-small (Answer.Posted total) = omega arith
 answer-small Answer.Crowded = omega arith
+answer-small Answer.Overrun = omega arith

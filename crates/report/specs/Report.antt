@@ -2,11 +2,13 @@
 -- on document 01's numbers.
 use Prim.Native.Nat.{ℕ, _+_}
 use mathlib.Core.List.{List, [], _∷_}
+use mathlib.Core.Option.{Option, none, some}
 use lib.Dec.{leb}
 use lib.ListN.{length}
+use lib.IntN.{ℤ}
 use mir.Syntax.{w64}
 use mir.Val.{ofZ}
-use Rattle.interface.specs.Numbers.{answerNumber}
+use Rattle.interface.specs.Numbers.{answerNumber, answerTotal}
 use Rattle.interface.specs.declared.Answer.{Answer}
 use Rattle.interface.specs.declared.Completion.{Completion}
 use Rattle.machine.specs.Choice.{if_then_else_}
@@ -27,20 +29,19 @@ endedNumber c = answerBase + answerNumber (c .answer)
 unfoldable pub told : List ℕ → List ℕ → List ℕ
 told report xs = if leb (length xs) (length report) then overlay report 0 xs else report
 
--- the total found, as a word of two's complement; 0 where the answer has none
+-- a total as a word of two's complement; 0 where there is none
+unfoldable pub wordOr0 : Option ℤ → ℕ
+wordOr0 none = 0
+wordOr0 (some total) = ofZ w64 total
+
+-- the total of found or of posted, as a word; 0 where the answer has none
 unfoldable pub totalWord : Answer → ℕ
-totalWord Answer.Added = 0
-totalWord Answer.Replaced = 0
-totalWord Answer.Removed = 0
-totalWord Answer.Absent = 0
-totalWord (Answer.Found total) = ofZ w64 total
-totalWord Answer.None = 0
-totalWord Answer.Crowded = 0
+totalWord a = wordOr0 (answerTotal a)
 
 -- a report with three words at its start, with the first two where it has two places only
 unfoldable pub toldThree : List ℕ → ℕ → ℕ → ℕ → List ℕ
 toldThree report x y z = if leb 3 (length report) then told report (x ∷ y ∷ z ∷ []) else told report (x ∷ y ∷ [])
 
--- an operation's end: its steps, the total found, and the check that answered it
+-- an operation's end: its steps, its answer's total, and the check that answered it
 unfoldable pub endedReport : List ℕ → Completion → List ℕ
 endedReport report c = toldThree report (c .steps) (totalWord (c .answer)) (c .check)

@@ -42,7 +42,7 @@ pub fn tell(report: &mut [u64], first: u64, second: u64, third: u64)
     report[2] = third;
 }
 
-// The total found, as a word; 0 where the answer has none.
+// The total of an answer, found's or posted's, as a word; 0 where it has none.
 fn total_word(answer: Answer) -> u64
     ensures { λ r. ⌜ r ≡ totalWord answer ⌝ }
 {
@@ -53,7 +53,9 @@ fn total_word(answer: Answer) -> u64
         Answer::Absent => 0,
         Answer::Found(total) => memory::word_of(total),
         Answer::None => 0,
+        Answer::Posted(total) => memory::word_of(total),
         Answer::Crowded => 0,
+        Answer::Overrun => 0,
     }
 }
 

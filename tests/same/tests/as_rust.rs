@@ -48,10 +48,14 @@ fn contracts_are_left_out_and_nothing_else_is() {
 #[test]
 fn the_source_compiled_as_rust_answers() {
     let mut words = vec![0; source::same_totals_words_needed(1, 2, 1) as usize];
-    let mut report = [0; 2];
-    let opened = source::same_totals_open(&mut words, 1, 2, 1);
-    let called = source::same_totals_call(&mut words, 0, 1, 5, 700);
-    let ran = source::same_totals_run(&mut words, 0, 99, &mut report);
-    // document 01: added, in 13 steps
-    assert_eq!(([opened, called, ran], report), ([0, 0, 17], [13, 0]));
+    assert_eq!(source::same_totals_open(&mut words, 1, 2, 1), 0);
+    let mut answer = |kind, total| {
+        let mut report = [0; 2];
+        assert_eq!(source::same_totals_call(&mut words, 0, kind, 5, total), 0);
+        let number = source::same_totals_run(&mut words, 0, 99, &mut report);
+        (number, report)
+    };
+    // document 01: added, in 13 steps; document 02: posted, with the new total
+    assert_eq!(answer(1, 700), (17, [13, 0]));
+    assert_eq!(answer(4, 50), (23, [13, 750]));
 }

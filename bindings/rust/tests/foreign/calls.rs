@@ -2,15 +2,15 @@
 //! leaves are those of the same source compiled as Rust. And counts of what came back.
 
 use crate::lent::{self, told, Lent};
-use crate::words::{any_account, any_word, bucket_swaps, directory_swaps, steps_at_checks};
+use crate::words::{any_account, any_total, any_word, bucket_swaps, directory_swaps, posted_from, steps_at_checks};
 use model::prng::Prng;
 use same::capi::capi as source;
 use same::capi::fields::*;
 use same::capi::interface::{GREATEST_KIND, KIND_INSERT, KIND_LOOKUP};
 use same::capi::layout::addresses::{held_by, worker_at};
 use same::capi::layout::shape::{settings_of, strange_words};
-use totals::raw::{self, TOTALS_ADDED, TOTALS_CROWDED, TOTALS_GREATEST_CHECK, TOTALS_GREATEST_RUN as RUN};
-use totals::raw::{TOTALS_IDLE, TOTALS_MOVED, TOTALS_OK, TOTALS_SETTINGS};
+use totals::raw::{self, TOTALS_ADDED, TOTALS_GREATEST_CHECK, TOTALS_GREATEST_RUN as RUN, TOTALS_IDLE, TOTALS_MOVED};
+use totals::raw::{TOTALS_OK, TOTALS_OVERRUN, TOTALS_POSTED, TOTALS_SETTINGS};
 
 const NAMES: [&str; 6] = ["words_needed", "open", "call", "step", "run", "list"];
 
@@ -22,7 +22,7 @@ pub type Told = [u64; 3];
 /// held against single steps.
 #[derive(Default)]
 pub struct Figures {
-    counts: [[u64; TOTALS_CROWDED as usize + 1]; NAMES.len()],
+    counts: [[u64; TOTALS_OVERRUN as usize + 1]; NAMES.len()],
     pub checks: [u64; TOTALS_GREATEST_CHECK as usize],
     pub carried: u64,
     pub split: u64,
@@ -148,6 +148,7 @@ impl<'a> Trial<'a> {
         let told = want_report.first_chunk().copied().filter(|_| number >= TOTALS_ADDED);
         if let Some(told) = told {
             told_check(&before, worker, told);
+            told_total(&before, worker, number, told);
             self.figures.add_check(told);
         }
         (number, told)
@@ -222,10 +223,9 @@ impl<'a> Trial<'a> {
 
     pub fn any_operation(&mut self, worker: u64) -> u64 {
         let any = self.prng.one_in(16);
-        let kind = if any { any_word(self.prng, 4) } else { self.prng.between(KIND_INSERT, GREATEST_KIND) };
-        let account = any_account(self.prng);
-        let total = self.prng.draw() as i64;
-        self.call(worker, kind, account, total)
+        let kind = if any { any_word(self.prng, 5) } else { self.prng.between(KIND_INSERT, GREATEST_KIND) };
+        let (account, total) = (any_account(self.prng), any_total(self.prng));
+        self.call(worker, kind, account, total as i64)
     }
 }
 
@@ -257,6 +257,17 @@ fn told_check(before: &[u64], worker: u64, [steps, _, check]: Told) {
     let passed: Vec<u64> = figures.into_iter().filter(|figure| *figure <= steps).collect();
     assert_eq!(check, passed.len() as u64, "an update of {steps} steps");
     assert!(passed.len() == figures.len() || passed.last() == Some(&steps), "an update of {steps} steps");
+}
+
+/// An update's total is the word that was settled for it, where the answer is posted, and else 0, whatever that word
+/// is. Where that word is the worker's count of own steps, it has gone up before.
+fn told_total(before: &[u64], worker: u64, number: u64, [_, total, _]: Told) {
+    let (s, w) = (settings_of(before[HEADER_SETTINGS]), worker as usize);
+    let (p, posted) = (worker_at(s, w), posted_from(s, held_by(before, s, w)) + w);
+    if before[p + WORKER_KIND] == KIND_LOOKUP || posted == p + WORKER_STEPS {
+        return;
+    }
+    assert_eq!(total, if number == TOTALS_POSTED { before[posted] } else { 0 }, "with {number}");
 }
 
 /// A run's number, what it tells, and the words it leaves.

@@ -19,7 +19,8 @@ const LISTED: [u64; 3] = [TOTALS_OK, TOTALS_STRANGE, TOTALS_NARROW];
 /// What steps give where nothing ends.
 const UNENDED: [u64; 4] = [TOTALS_MOVED, TOTALS_STRANGER, TOTALS_IDLE, TOTALS_STRANGE];
 /// What ends an update, but absent; and a lookup.
-const UPDATED: [u64; 4] = [TOTALS_ADDED, TOTALS_REPLACED, TOTALS_REMOVED, TOTALS_CROWDED];
+const UPDATED: [u64; 6] =
+    [TOTALS_ADDED, TOTALS_REPLACED, TOTALS_REMOVED, TOTALS_POSTED, TOTALS_CROWDED, TOTALS_OVERRUN];
 const LOOKED_UP: [u64; 2] = [TOTALS_FOUND, TOTALS_NONE];
 
 /// So many random calls on words, and at the end the calls that take settings.
@@ -56,7 +57,7 @@ fn class(title: &str, seed: u64, calls: u64, more: impl Fn(&mut Prng, &mut Figur
 
 #[test]
 fn random_words() {
-    let figures = class("random words", 1, 600_000, |prng, figures| {
+    let figures = class("random words", 1, 800_000, |prng, figures| {
         let w = words::random(prng);
         calls_on(&w, 30, 4, prng, figures);
     });
@@ -101,7 +102,7 @@ fn misleading_words() {
 
 #[test]
 fn tables_that_nothing_damaged_are_never_strange() {
-    let figures = class("undamaged tables", 4, 200_000, |prng, figures| {
+    let figures = class("undamaged tables", 4, 300_000, |prng, figures| {
         let s = words::settings(prng);
         let w = words::noise(words_needed(s) + prng.place(3), prng);
         let mut choices = Prng::new(prng.draw());
@@ -149,7 +150,7 @@ fn undamaged_call(trial: &mut Trial, s: Settings, prng: &mut Prng) {
 fn zeros_are_strange() {
     let mut prng = Prng::new(5);
     let mut figures = Figures::default();
-    for length in (0..2000).chain([8192, 15_169, 100_000]) {
+    for length in (0..2000).chain([8192, 17_305, 100_000]) {
         let w = vec![0; length];
         let mut trial = Trial::new(&w, &mut prng, &mut figures);
         let given = [trial.call(0, KIND_INSERT, 5, 700), trial.step(0).0, trial.run(0, 9), trial.list()];

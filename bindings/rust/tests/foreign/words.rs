@@ -4,7 +4,8 @@ use crate::calls::{Figures, Trial};
 use model::prng::Prng;
 use model::starts::EDGES;
 use same::capi::fields::*;
-use same::capi::interface::{Settings, GREATEST_TICKET, KIND_INSERT, KIND_LOOKUP};
+use same::capi::interface::{Settings, ANSWER_OVERRUN, GREATEST_KIND, GREATEST_TICKET};
+use same::capi::interface::{KIND_DELETE, KIND_INSERT, KIND_LOOKUP, KIND_POST};
 use same::capi::layout::addresses::{record_in, record_of, worker_at};
 use same::capi::layout::shape::{directory_start, settings_of, strange_words};
 use totals::raw::{totals_words_needed, TOTALS_GREATEST_RUN};
@@ -28,6 +29,15 @@ pub fn any_account(prng: &mut Prng) -> u32 {
         0 => low,
         1 => low | (prng.below(8) as u32) << 29,
         _ => low | (prng.below(256) as u32) << 24,
+    }
+}
+
+/// Words of totals: small ones, so that many sums are totals, those at the ends, so that others are not, and any.
+pub fn any_total(prng: &mut Prng) -> u64 {
+    match prng.below(4) {
+        0 | 1 => prng.one_of(&[i64::MIN, i64::MAX]) as u64,
+        2 => prng.draw(),
+        _ => prng.below(2001).wrapping_sub(1000),
     }
 }
 
@@ -90,7 +100,8 @@ fn any_entry(s: Settings, prng: &mut Prng) -> usize {
     directory_start(s) + prng.place(1 << s.depth)
 }
 
-/// Any first word with the mark: depths to 15. Small settings more often, since few words hold a whole table then.
+/// Any first word with the mark: depths to 15, of which those above 8 are strange. Small settings more often, since few
+/// words hold a whole table then.
 fn marked(prng: &mut Prng) -> u64 {
     let most = if prng.one_in(2) { [8, 16, 7] } else { [3, 4, 3] };
     let [workers, capacity, depth] = most.map(|most| prng.below(most));
@@ -191,10 +202,11 @@ fn pointer_place(s: Settings, prng: &mut Prng) -> usize {
     }
 }
 
-/// A word of the header, or the whole of its settings, the mark kept.
+/// A word of the header, the whole of its settings, the mark kept, or the mark of tables without posts.
 fn header(w: &mut [u64], prng: &mut Prng) {
-    match prng.below(6) {
+    match prng.below(7) {
         0 => w[HEADER_SETTINGS] = marked(prng),
+        6 => w[HEADER_SETTINGS] = (MARK - 1) * MARK_UNIT + w[HEADER_SETTINGS] % MARK_UNIT,
         1 => w[HEADER_SETTINGS] ^= 1 << prng.below(u64::from(MARK_UNIT.ilog2())),
         2 => w[HEADER_NEEDED] = any_word(prng, w.len()),
         3 => w[HEADER_DEPTH] = any_word(prng, 9),
@@ -213,24 +225,43 @@ fn record_word(w: &mut [u64], s: Settings, prng: &mut Prng) {
     w[at] = if prng.one_in(2) { any_word(prng, w.len()) } else { prng.below(20) };
 }
 
+/// Where the settled tickets begin in the record at q; behind them their answers, and the words of these's totals.
+fn settled_from(s: Settings, q: usize) -> usize {
+    q + RECORD_ACCOUNTS + 2 * s.capacity as usize
+}
+
+/// Where the words of the settled answers' totals begin in the record at q.
+pub fn posted_from(s: Settings, q: usize) -> usize {
+    settled_from(s, q) + 2 * s.workers as usize
+}
+
+/// The record at q has settled random tickets, with any numbers for answers and any words for totals.
+fn settled(w: &mut [u64], s: Settings, q: usize, prng: &mut Prng) {
+    let n = s.workers as usize;
+    let (tickets, rest) = w[settled_from(s, q)..][..3 * n].split_at_mut(n);
+    let (answers, posted) = rest.split_at_mut(n);
+    tickets.fill_with(|| any_ticket(prng));
+    answers.fill_with(|| if prng.one_in(16) { any_word(prng, 20) } else { prng.below(ANSWER_OVERRUN + 2) });
+    posted.fill_with(|| prng.draw());
+}
+
 /// A worker just before a bucket swap or a directory swap that succeeds, with random slots read, bits and marks, and
 /// random tickets settled in the record that it holds.
 fn poised(w: &mut [u64], s: Settings, prng: &mut Prng) {
     let (n, p) = (s.workers, any_worker(s, prng));
     let held = record_in(w, w[p + WORKER_HELD]);
-    w[p + WORKER_KIND] = KIND_INSERT + prng.below(2);
+    w[p + WORKER_KIND] = prng.one_of(&[KIND_INSERT, KIND_DELETE, KIND_POST]);
     w[p + WORKER_STEPS] = prng.one_of(&[bucket_swaps(s), directory_swaps(s)].concat());
     (w[p + WORKER_STATE], w[p + WORKER_TOGGLE]) = (w[held + RECORD_NUMBER], prng.below(256));
     (w[p + WORKER_DIRECTORY], w[p + WORKER_MARKS]) = (w[HEADER_NUMBER], prng.below(256));
     for slot in w[p + WORKER_SLOTS..][..SLOT_SIZE * n as usize].chunks_mut(SLOT_SIZE) {
         let account = u64::from(any_account(prng));
-        slot[SLOT_KIND] = prng.below(4);
+        slot[SLOT_KIND] = prng.below(GREATEST_KIND + 2);
         slot[SLOT_ACCOUNT] = account;
-        slot[SLOT_TOTAL] = prng.draw();
+        slot[SLOT_TOTAL] = any_total(prng);
         slot[SLOT_TICKET] = any_ticket(prng);
     }
-    let settled = held + RECORD_ACCOUNTS + 2 * s.capacity as usize;
-    w[settled..][..n as usize].fill_with(|| any_ticket(prng));
+    settled(w, s, held, prng);
     if prng.one_in(2) {
         ripe(w, s, p, prng);
     }
@@ -312,7 +343,7 @@ pub fn misleading(prng: &mut Prng) -> Vec<u64> {
     }
     unrest(&mut w, prng);
     if prng.one_in(4) {
-        of_workers(&mut w, WORKER_KIND, |_| prng.below(5));
+        of_workers(&mut w, WORKER_KIND, |_| prng.below(GREATEST_KIND + 2));
     }
     w
 }

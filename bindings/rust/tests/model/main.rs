@@ -11,7 +11,7 @@ mod tickets;
 use flat::Flat;
 use model::machine::{Machine, Stepped};
 use model::prng::Prng;
-use model::records::{Answer, GREATEST_TICKET, KIND_DELETE, KIND_INSERT, KIND_LOOKUP};
+use model::records::{Answer, GREATEST_TICKET, KIND_DELETE, KIND_INSERT, KIND_LOOKUP, KIND_POST};
 use model::starts::EDGES;
 use orders::{Entry, Orders};
 use safe::Safe;
@@ -49,7 +49,9 @@ impl Outcome {
     fn told(self) -> Option<[u64; 3]> {
         match self {
             Outcome::Moved(steps) => Some([steps, 0, 0]),
-            Outcome::Answered(Answer::Found(total), steps, check) => Some([steps, total as u64, check]),
+            Outcome::Answered(Answer::Found(total) | Answer::Posted(total), steps, check) => {
+                Some([steps, total as u64, check])
+            }
             Outcome::Answered(_, steps, check) => Some([steps, 0, check]),
             Outcome::Refused(_) => None,
         }
@@ -65,7 +67,9 @@ fn answer_number(answer: Answer) -> u64 {
         Answer::Absent => TOTALS_ABSENT,
         Answer::Found(_) => TOTALS_FOUND,
         Answer::None => TOTALS_NONE,
+        Answer::Posted(_) => TOTALS_POSTED,
         Answer::Crowded => TOTALS_CROWDED,
+        Answer::Overrun => TOTALS_OVERRUN,
     }
 }
 
@@ -88,7 +92,7 @@ pub trait Interface {
 struct Pair<I> {
     table: I,
     machine: Machine,
-    counts: [[u64; TOTALS_CROWDED as usize + 1]; NAMES.len()],
+    counts: [[u64; TOTALS_OVERRUN as usize + 1]; NAMES.len()],
     /// How many updates were answered by the first, second, third and fourth check.
     checks: [u64; 4],
     /// How many workers took the ticket at each edge.
@@ -110,10 +114,10 @@ const NAMES: [&str; 5] = ["open", "call", "step", "run", "list"];
 
 impl<I: Interface> Pair<I> {
     fn new(table: I) -> Pair<I> {
-        let machine = Machine::open(1, 2, 0, 150).expect("the least settings");
+        let machine = Machine::open(1, 2, 0, 162).expect("the least settings");
         let (counts, passed) = Default::default();
         let mut pair = Pair { table, machine, counts, checks: [0; 4], passed, seed: 0 };
-        pair.enter(Entry::Open([1, 2, 0], 150));
+        pair.enter(Entry::Open([1, 2, 0], 162));
         pair
     }
 
@@ -234,7 +238,7 @@ fn outcome(stepped: Stepped) -> Outcome {
 }
 
 /// What steps of an opened table give.
-const STEPPED: [u64; 10] = [
+const STEPPED: [u64; 12] = [
     TOTALS_MOVED,
     TOTALS_STRANGER,
     TOTALS_IDLE,
@@ -244,7 +248,9 @@ const STEPPED: [u64; 10] = [
     TOTALS_ABSENT,
     TOTALS_FOUND,
     TOTALS_NONE,
+    TOTALS_POSTED,
     TOTALS_CROWDED,
+    TOTALS_OVERRUN,
 ];
 
 /// Orders from so many seeds, each on the words that the one before left.
@@ -271,12 +277,14 @@ fn random_orders(title: &str, table: impl Interface, seeds: u64, any_kind: bool)
     pair.gave("list", &[TOTALS_OK, TOTALS_NARROW]);
 }
 
-/// A call of a worker by some kind up to this one, of an account with any two first bits.
-fn any_call(prng: &mut Prng, worker: u64, greatest_kind: u64, total: i64) -> Entry {
-    let kind = prng.between(KIND_INSERT, greatest_kind);
+/// A call of a worker by one of these kinds, of an account with any two first bits.
+fn any_call(prng: &mut Prng, worker: u64, kinds: &[u64], total: i64) -> Entry {
+    let kind = prng.one_of(kinds);
     let account = (prng.below(4) as u32) << 30 | prng.below(2) as u32;
     Entry::Call { worker, kind, account, total }
 }
+
+const UPDATES: [u64; 3] = [KIND_INSERT, KIND_DELETE, KIND_POST];
 
 /// Updates of worker 0 until it has no ticket left, and 200 more; worker 1 gets a few steps now and then.
 fn until_spent(title: &str, table: impl Interface) {
@@ -286,10 +294,10 @@ fn until_spent(title: &str, table: impl Interface) {
     pair.enter(Entry::Open([2, 3, 2], 400));
     pair.set_tickets(&[GREATEST_TICKET - left, 0]);
     for update in 0..left + more {
-        pair.enter(any_call(&mut prng, 0, KIND_DELETE, update as i64));
+        pair.enter(any_call(&mut prng, 0, &UPDATES, update as i64));
         pair.enter(Entry::Run(0, 99));
         if prng.percent(20) {
-            pair.enter(any_call(&mut prng, 1, KIND_LOOKUP, -1));
+            pair.enter(any_call(&mut prng, 1, &[&UPDATES[..], &[KIND_LOOKUP]].concat(), -1));
             pair.enter(Entry::Run(1, prng.between(1, 30)));
         }
     }

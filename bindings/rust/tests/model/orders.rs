@@ -5,7 +5,7 @@ use model::lines::Line;
 use model::machine::Machine;
 use model::prng::Prng;
 use model::random::Generator;
-use model::records::{KIND_DELETE, KIND_INSERT, KIND_LOOKUP};
+use model::records::{KIND_DELETE, KIND_INSERT, KIND_LOOKUP, KIND_POST};
 use model::settings::Settings;
 use model::starts::EDGES;
 use totals::raw::TOTALS_GREATEST_RUN as RUN;
@@ -125,15 +125,21 @@ impl Orders {
     }
 
     fn call(&mut self, worker: u64) -> Entry {
-        // of seven operations four are inserts, two deletes and one a lookup
-        let kind = match self.prng.below(7) {
-            0..=3 => KIND_INSERT,
-            4 | 5 => KIND_DELETE,
+        // of nine operations three are inserts, three posts, two deletes and one a lookup
+        let kind = match self.prng.below(9) {
+            0..=2 => KIND_INSERT,
+            3..=5 => KIND_POST,
+            6 | 7 => KIND_DELETE,
             _ => KIND_LOOKUP,
         };
         let account = self.prng.pick(&self.pool).unwrap_or(0);
-        let total = self.prng.pick(&[i64::MIN, i64::MAX, 0, -1]).filter(|_| self.prng.percent(20));
-        Entry::Call { worker, kind, account, total: total.unwrap_or_else(|| self.prng.draw() as i64) }
+        // an amount of any size takes a sum past an end soon
+        let total = match self.prng.below(5) {
+            0 => self.prng.one_of(&[i64::MIN, i64::MAX, 0, -1]),
+            1 => self.prng.draw() as i64,
+            _ => self.prng.below(2001) as i64 - 1000,
+        };
+        Entry::Call { worker, kind, account, total }
     }
 
     /// An entry that is mostly refused, or asks for more than there is.
@@ -154,7 +160,7 @@ impl Orders {
             4 => Entry::Run(worker, self.prng.pick(&[0, 1, RUN - 1, RUN, RUN + 1, u64::MAX]).unwrap_or(0)),
             5 if self.any_kind => match self.call(worker) {
                 Entry::Call { account, total, .. } => {
-                    Entry::Call { worker, kind: self.prng.pick(&[0, 4, 5, u64::MAX]).unwrap_or(0), account, total }
+                    Entry::Call { worker, kind: self.prng.pick(&[0, 5, 6, u64::MAX]).unwrap_or(0), account, total }
                 }
                 other => other,
             },

@@ -1,7 +1,7 @@
 //! A table by the safe interface.
 
 use crate::{Interface, Outcome, Rows};
-use model::records::{KIND_DELETE, KIND_INSERT, KIND_LOOKUP};
+use model::records::{KIND_DELETE, KIND_INSERT, KIND_LOOKUP, KIND_POST};
 use model::totals::answer_words;
 use totals::{Ran, Refusal, Settings, Stepped, Table};
 
@@ -32,6 +32,7 @@ impl Interface for Safe {
             KIND_INSERT => table.insert(worker, account, total),
             KIND_DELETE => table.delete(worker, account),
             KIND_LOOKUP => table.lookup(worker, account),
+            KIND_POST => table.post(worker, account, total),
             _ => unreachable!("the safe interface has no other kinds"),
         };
         assert_eq!(numbered(called), want);
