@@ -19,8 +19,8 @@ compare() {
   cat "$run/totals" >>"$run/all"
 }
 
-# every sort of output line that document 01 has for the program, but 7, and no other: 7 would take a worker's 2^64 - 1
-# ticket numbers, since the program's words are zeros at first; words near that end are lent to the library by
+# every sort of output line that documents 01 and 02 have for the program, but 7, and no other: 7 would take a worker's
+# 2^64 - 1 ticket numbers, since the program's words are zeros at first; words near that end are lent to the library by
 # tests/c/tickets.c, and by cases.rs, model and foreign of bindings/rust/tests
 sorts='ok
 refused 1
@@ -37,6 +37,8 @@ answered absent [0-9]+
 answered found -?[0-9]+ 2
 answered none 2
 answered crowded [0-9]+
+answered posted -?[0-9]+ [0-9]+
+answered overrun [0-9]+
 unread
 [0-9]+ -?[0-9]+
 end [0-9]+'

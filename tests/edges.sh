@@ -42,20 +42,20 @@ blocks() {
   answers "a line feed as the last byte of the last block"
 }
 
-# the most accounts that fit the lent words: 11 in each of 256 buckets; the longest rows
+# the most accounts that fit the lent words: 10 in each of 256 buckets; the longest rows
 listings() {
   awk 'BEGIN {
-    for (p = 0; p < 256; p++) for (i = 1; i <= 11; i++) printf "%.0f -9223372036854775808\n", p * 16777216 + i
+    for (p = 0; p < 256; p++) for (i = 1; i <= 10; i++) printf "%.0f -9223372036854775808\n", p * 16777216 + i
   }' >"$run/rows"
-  { echo 'O 1 11 8' && sed 's/.*/I 0 &\nS 0 9999/' "$run/rows"; } >"$run/fill"
-  echo 'end 2816' >>"$run/rows"
+  { echo 'O 1 10 8' && sed 's/.*/I 0 &\nS 0 9999/' "$run/rows"; } >"$run/fill"
+  echo 'end 2560' >>"$run/rows"
   { cat "$run/fill" && repeat 50 $'T\n' && printf 'I 0 0 1\nS 0 9999\nT'; } >"$run/input"
   "$totals" <"$run/input" >"$run/output"
-  [ "$(head -n 5633 "$run/output" | tail -n +2 | awk 'NR % 2 ? $0 == "ok" : $2 == "added"' | wc -l)" -eq 5632 ]
-  check $? "a table of 2,816 accounts, each added"
+  [ "$(head -n 5121 "$run/output" | tail -n +2 | awk 'NR % 2 ? $0 == "ok" : $2 == "added"' | wc -l)" -eq 5120 ]
+  check $? "a table of 2,560 accounts, each added"
   for i in $(seq 50); do cat "$run/rows"; done >"$run/expected"
   { printf 'ok\nanswered crowded 13\n' && cat "$run/rows"; } >>"$run/expected"
-  tail -n +5634 "$run/output" | cmp - "$run/expected"
+  tail -n +5122 "$run/output" | cmp - "$run/expected"
   check $? "51 listings of it, more than the output buffer holds"
 }
 

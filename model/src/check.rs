@@ -23,6 +23,10 @@ pub struct Counts {
     pub failed_state_swaps: u64,
     pub failed_directory_swaps: u64,
     pub crowded: u64,
+    pub posted: u64,
+    pub overruns: u64,
+    /// Posts that took effect at a step of another worker.
+    pub helped_posts: u64,
     /// Lookups whose bucket was split between their two steps.
     pub overtaken_lookups: u64,
 }
@@ -40,6 +44,9 @@ impl Counts {
         self.failed_state_swaps += other.failed_state_swaps;
         self.failed_directory_swaps += other.failed_directory_swaps;
         self.crowded += other.crowded;
+        self.posted += other.posted;
+        self.overruns += other.overruns;
+        self.helped_posts += other.helped_posts;
         self.overtaken_lookups += other.overtaken_lookups;
     }
 }
@@ -128,11 +135,17 @@ impl Checker {
             counts.lookups += u64::from(kind == Kind::Lookup);
             counts.updates += u64::from(kind != Kind::Lookup);
             counts.crowded += u64::from(answer == Answer::Crowded);
+            counts.posted += u64::from(matches!(answer, Answer::Posted(_)));
+            counts.overruns += u64::from(answer == Answer::Overrun);
             if let check @ 1.. = usize::from(report.answering_check()) {
                 counts.checks[check - 1] += 1;
             }
         }
-        let overtaken = |m: &&Moment| m.operation.kind == Kind::Lookup && m.worker != w;
-        counts.overtaken_lookups += moments.iter().filter(overtaken).count() as u64;
+        let by_another = |kind: Kind| {
+            let those = moments.iter().filter(|m| m.operation.kind == kind);
+            those.filter(|m| m.worker != w).count() as u64
+        };
+        counts.overtaken_lookups += by_another(Kind::Lookup);
+        counts.helped_posts += by_another(Kind::Post);
     }
 }

@@ -1,6 +1,7 @@
 //! The wrong machines by name: each is wrong in one way (`wrong.rs`). They test the checker itself.
 
 use crate::off_tariff::OffTariff;
+use crate::wrong_posts::WrongPost;
 use crate::wrong_tickets::WrongTicket;
 
 /// `Fault::None` is the machine as it should be.
@@ -44,6 +45,8 @@ pub enum Fault {
     AlwaysCrowded,
     /// Every answered update is answered added.
     AlwaysAdded,
+    /// Another rule of posts (`wrong_posts.rs`).
+    Post(WrongPost),
     /// Another check or another step than the tariff has (`off_tariff.rs`).
     OffTariff(OffTariff),
     /// Another rule of tickets (`wrong_tickets.rs`).
@@ -52,7 +55,7 @@ pub enum Fault {
 
 impl Fault {
     /// All faults, without `None`, those off the tariff and those on tickets.
-    pub const ALL: [Fault; 18] = [
+    pub const ALL: [Fault; 28] = [
         Fault::OnePass,
         Fault::OneBucketRound,
         Fault::OneDirectoryRound,
@@ -71,6 +74,16 @@ impl Fault {
         Fault::AnnounceApplies,
         Fault::AlwaysCrowded,
         Fault::AlwaysAdded,
+        Fault::Post(WrongPost::Replaces),
+        Fault::Post(WrongPost::OverrunWraps),
+        Fault::Post(WrongPost::OverrunSaturates),
+        Fault::Post(WrongPost::OverrunBeforeCrowded),
+        Fault::Post(WrongPost::TotalNotCopied),
+        Fault::Post(WrongPost::ZeroMakesNothing),
+        Fault::Post(WrongPost::Deletes),
+        Fault::Post(WrongPost::LastTotalTold),
+        Fault::Post(WrongPost::HelpedTwice),
+        Fault::Post(WrongPost::OverrunNotSettled),
     ];
 
     /// The faults that the tariff shows.
@@ -110,6 +123,7 @@ impl Fault {
             Fault::AnnounceApplies => "announce-applies",
             Fault::AlwaysCrowded => "always-crowded",
             Fault::AlwaysAdded => "always-added",
+            Fault::Post(fault) => fault.name(),
             Fault::OffTariff(fault) => fault.name(),
             Fault::Ticket(fault) => fault.name(),
         }

@@ -1,6 +1,7 @@
 //! Random input for `totals`, all a function of the seed: lists for every setting that fits the lent
 //! words, with lines that are refused or cannot be read in between.
 
+use crate::amounts::ends_or;
 use crate::lines::Line;
 use crate::prng::Prng;
 use crate::random::Generator;
@@ -36,6 +37,7 @@ pub struct Input {
     range: u64,
     deletes: u64,
     lookups: u64,
+    posts: u64,
     listings: u64,
 }
 
@@ -57,6 +59,7 @@ impl Input {
             range: 1,
             deletes: 0,
             lookups: 0,
+            posts: 0,
             listings: 0,
         }
     }
@@ -115,6 +118,7 @@ impl Input {
         };
         self.deletes = self.prng.between(0, if filling { 10 } else { 50 });
         self.lookups = self.prng.between(0, 30);
+        self.posts = self.prng.between(0, 80);
         opening(&self.settings)
     }
 
@@ -147,11 +151,11 @@ impl Input {
     }
 
     fn total(&mut self) -> i64 {
-        match self.prng.below(8) {
-            0 => self.prng.pick(&[i64::MIN, i64::MAX, 0, -1]).unwrap_or(0),
-            1 => self.prng.draw() as i64,
-            _ => self.prng.below(2_000) as i64 - 1_000,
-        }
+        let other = match self.prng.percent(10) {
+            true => self.prng.draw() as i64,
+            false => self.prng.below(2_000) as i64 - 1_000,
+        };
+        ends_or(&mut self.prng, 20, other)
     }
 
     /// A call to an idle worker or a step of a busy one, of those that are not parked.
@@ -182,11 +186,12 @@ impl Input {
         let kind = match self.prng.below(100) {
             chance if chance < self.deletes => Kind::Delete,
             chance if chance < self.deletes + self.lookups => Kind::Lookup,
+            _ if self.prng.percent(self.posts) => Kind::Post,
             _ => Kind::Insert,
         };
         let total = match kind {
-            Kind::Insert => self.total(),
-            _ => 0,
+            Kind::Insert | Kind::Post => self.total(),
+            Kind::Delete | Kind::Lookup => 0,
         };
         Line::Call {
             kind,

@@ -2,6 +2,7 @@
 //! sequential specification, and a checker that asserts the claims after every step.
 #![forbid(unsafe_code)]
 
+pub mod amounts;
 pub mod check;
 pub mod explain;
 pub mod fault;
@@ -33,4 +34,5 @@ pub mod trace;
 pub mod violation;
 pub mod working;
 mod wrong;
+pub mod wrong_posts;
 pub mod wrong_tickets;

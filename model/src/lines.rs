@@ -19,6 +19,7 @@ pub enum Line {
         kind: Kind,
         worker: usize,
         account: u32,
+        /// Of an insert; of a post its amount; otherwise 0.
         total: i64,
     },
     Step {
@@ -38,6 +39,7 @@ pub fn read_line(bytes: &[u8]) -> Option<Line> {
             m: small(m)?,
         }),
         [b"I", w, account, total] => call(Kind::Insert, w, account, signed(total)?),
+        [b"P", w, account, amount] => call(Kind::Post, w, account, signed(amount)?),
         [b"D", w, account] => call(Kind::Delete, w, account, 0),
         [b"L", w, account] => call(Kind::Lookup, w, account, 0),
         [b"S", w, count] => Some(Line::Step {
@@ -113,6 +115,7 @@ impl std::fmt::Display for Line {
                 Kind::Insert => write!(out, "I {worker} {account} {total}"),
                 Kind::Delete => write!(out, "D {worker} {account}"),
                 Kind::Lookup => write!(out, "L {worker} {account}"),
+                Kind::Post => write!(out, "P {worker} {account} {total}"),
             },
             Line::Step { worker, count } => write!(out, "S {worker} {count}"),
             Line::List => write!(out, "T"),

@@ -156,6 +156,9 @@ fn print_counts(out: &mut impl Write, counts: &Counts) -> io::Result<()> {
         counts.failed_directory_swaps
     )?;
     writeln!(out, "crowded {}", counts.crowded)?;
+    writeln!(out, "posted {}", counts.posted)?;
+    writeln!(out, "overruns {}", counts.overruns)?;
+    writeln!(out, "helped posts {}", counts.helped_posts)?;
     writeln!(out, "overtaken lookups {}", counts.overtaken_lookups)
 }
 

@@ -1,10 +1,13 @@
 //! Variations of stored orders: random search near orders that reach rare states.
 
+use crate::amounts::ends_or;
 use crate::lines::{read_lines, Line};
 use crate::prng::Prng;
+use crate::records::Kind;
 
-/// Stored orders that reach the third and fourth check, or park a worker at a late swap.
-const STORED: [&str; 7] = [
+/// Stored orders that reach the third and fourth check, park a worker at a late swap, or settle a
+/// post by a split.
+const STORED: [&str; 9] = [
     include_str!("../orders/crowded-after-anothers-split.txt"),
     include_str!("../orders/crowded-after-own-split.txt"),
     include_str!("../orders/one-directory-round.txt"),
@@ -12,6 +15,8 @@ const STORED: [&str; 7] = [
     include_str!("../orders/own-update-only.txt"),
     include_str!("../orders/directory-swap-blind.txt"),
     include_str!("../orders/announce-applies.txt"),
+    include_str!("../orders/overrun-not-settled.txt"),
+    include_str!("../orders/posts-at-once.txt"),
 ];
 
 /// A stored order with one to six random changes; its opening stays first.
@@ -52,32 +57,41 @@ fn split_steps(prng: &mut Prng, lines: &mut Vec<Line>, place: usize) {
     }
 }
 
-/// Other settings, another account nearby, or a few steps more or less.
+/// Other settings, another account nearby, a post in place of a call, or a few steps more or less.
 fn changed(prng: &mut Prng, line: Line) -> Line {
     match line {
         Line::Open { n, b, m } => Line::Open { n, b, m: m + 1 },
+        Line::Call {
+            worker, account, ..
+        } if prng.percent(40) => Line::Call {
+            kind: Kind::Post,
+            worker,
+            account,
+            total: ends_or(prng, 30, 7),
+        },
         Line::Call {
             kind,
             worker,
             account,
             total,
-        } => {
-            let bit = match prng.percent(70) {
-                true => 31 - prng.below(4),
-                false => prng.below(32),
-            };
-            let account = account ^ (1 << bit);
-            Line::Call {
-                kind,
-                worker,
-                account,
-                total,
-            }
-        }
+        } => Line::Call {
+            kind,
+            worker,
+            account: account ^ bit(prng),
+            total,
+        },
         Line::Step { worker, count } => {
             let count = (count + prng.below(7)).max(4) - 3;
             Line::Step { worker, count }
         }
         Line::List => Line::List,
+    }
+}
+
+/// Mostly one of the first four bits of an account.
+fn bit(prng: &mut Prng) -> u32 {
+    match prng.percent(70) {
+        true => 1 << (31 - prng.below(4)),
+        false => 1 << prng.below(32),
     }
 }

@@ -3,6 +3,7 @@
 
 use crate::machine::Machine;
 use crate::moments::is_done;
+use crate::records::Kind;
 use crate::task::{Position, Task};
 use std::rc::Rc;
 
@@ -68,6 +69,10 @@ pub fn is_held_back(machine: &Machine, w: usize) -> bool {
             .any(|p| is_about_to_swap(machine, p) && splits_unseen(p, w, Some(task))),
         // Before the second bucket pass: let others fill the bucket first.
         Position::Flip | Position::ReadDirectory if task.checks == 2 => !full && below,
+        // A post that is announced and not flipped: let another worker's split carry it out.
+        Position::ReadDirectory if task.operation.kind == Kind::Post && task.checks == 0 => {
+            full && below && w >= 1
+        }
         // A lookup that holds a bucket about to be split; others must be left to split it.
         Position::LookupState => full && below && w >= 2,
         _ => false,

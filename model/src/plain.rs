@@ -31,7 +31,7 @@ impl Plain {
         agreeing.count() >= self.bucket_size
     }
 
-    /// Feeds one operation; the total counts for an insert only.
+    /// Feeds one operation; the total counts for an insert, and for a post, whose amount it is.
     pub fn apply(&mut self, kind: Kind, account: u32, total: i64) -> Answer {
         match kind {
             Kind::Lookup => match self.accounts.get(&account) {
@@ -47,6 +47,19 @@ impl Plain {
                 Some(_) => Answer::Removed,
                 None => Answer::Absent,
             },
+            Kind::Post => self.post(account, total),
+        }
+    }
+
+    /// An account that is not there starts from 0 and is made, also by an amount of 0.
+    fn post(&mut self, account: u32, amount: i64) -> Answer {
+        let before = self.accounts.get(&account).copied().unwrap_or(0);
+        match i64::try_from(i128::from(before) + i128::from(amount)) {
+            Ok(sum) => {
+                self.accounts.insert(account, sum);
+                Answer::Posted(sum)
+            }
+            Err(_) => Answer::Overrun,
         }
     }
 

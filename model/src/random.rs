@@ -1,5 +1,6 @@
 //! Random orders: settings, accounts, parking styles and kinds, all a function of the seed.
 
+use crate::amounts::ends_or;
 use crate::lines::Line;
 use crate::machine::Machine;
 use crate::overtake;
@@ -30,7 +31,12 @@ pub struct Generator {
     /// Per worker the tick until which it is parked.
     parked: Vec<u64>,
     tick: u64,
-    inserts: u64,
+    /// Inserts and posts in a hundred calls.
+    puts: u64,
+    /// Posts in a hundred of these.
+    posts: u64,
+    /// Totals and amounts at the ends of their range in a hundred.
+    ends: u64,
     deletes: u64,
     listings: u64,
 }
@@ -39,22 +45,23 @@ impl Generator {
     /// `small` keeps n at most 4, for the external search.
     pub fn new(seed: u64, small: bool) -> Generator {
         let mut prng = Prng::new(seed);
-        let style = match prng.below(8) {
-            0 => Style::Single,
-            1 => Style::Bursts,
-            2 => Style::RoundRobin,
-            3 | 4 => Style::Parking,
-            _ => Style::Overtaking,
-        };
+        let style = draw_style(&mut prng);
         let settings = match style == Style::Overtaking && prng.percent(80) {
             true => splitting_settings(&mut prng, small),
             false => draw_settings(&mut prng, small),
         };
-        let pool = draw_pool(&mut prng, &settings);
+        let mut pool = draw_pool(&mut prng, &settings);
+        let posts = prng.one_of(&[0, 30, 60, 95]);
+        // So few accounts that all workers post to the same ones.
+        if posts > 30 && prng.percent(50) {
+            pool.truncate(prng.between(1, 3) as usize);
+        }
         Generator {
             parked: vec![0; settings.workers],
             tick: 0,
-            inserts: prng.between(40, 90),
+            puts: prng.between(40, 90),
+            posts,
+            ends: prng.one_of(&[0, 20, 70]),
             deletes: prng.between(0, 100),
             listings: if small { 15 } else { 1 },
             prng,
@@ -130,22 +137,20 @@ impl Generator {
     }
 
     fn call(&mut self, machine: &Machine, worker: usize) -> Line {
-        let kind = if self.prng.percent(self.inserts) {
-            Kind::Insert
-        } else if self.prng.percent(self.deletes) {
-            Kind::Delete
-        } else {
-            Kind::Lookup
-        };
+        let kind = self.kind();
         let near = self.prng.percent(80) && self.style == Style::Overtaking;
-        let account = if near {
+        let account = if kind == Kind::Post && self.prng.percent(50) {
+            self.account_under_way(machine)
+        } else if near {
             self.near_account(machine)
         } else {
             self.any_account()
         };
+        // Numbers that differ show which of them were added.
+        let own = self.tick as i64 - 50;
         let total = match kind {
-            Kind::Insert => self.tick as i64 - 50,
-            _ => 0,
+            Kind::Insert | Kind::Post => ends_or(&mut self.prng, self.ends, own),
+            Kind::Delete | Kind::Lookup => 0,
         };
         Line::Call {
             kind,
@@ -155,19 +160,37 @@ impl Generator {
         }
     }
 
+    fn kind(&mut self) -> Kind {
+        if self.prng.percent(self.puts) {
+            match self.prng.percent(self.posts) {
+                true => Kind::Post,
+                false => Kind::Insert,
+            }
+        } else if self.prng.percent(self.deletes) {
+            Kind::Delete
+        } else {
+            Kind::Lookup
+        }
+    }
+
     fn any_account(&mut self) -> u32 {
         let place = self.prng.below(self.pool.len() as u64);
         self.pool[place as usize]
     }
 
+    /// The account of an update under way, so that two work on one account at once.
+    fn account_under_way(&mut self, machine: &Machine) -> u32 {
+        let updates = updated_accounts(machine);
+        match self.prng.pick(&updates) {
+            Some(account) => account,
+            None => self.any_account(),
+        }
+    }
+
     /// An account of the bucket in which some update is under way.
     fn near_account(&mut self, machine: &Machine) -> u32 {
         let wanted = overtake::accounts_to_overtake(machine);
-        let tasks = machine.workers.iter().filter_map(|w| w.task.as_ref());
-        let updates: Vec<u32> = tasks
-            .filter(|task| task.is_update())
-            .map(|task| task.operation.account)
-            .collect();
+        let updates = updated_accounts(machine);
         let first = self.prng.pick(&wanted);
         let Some(account) = first.or_else(|| self.prng.pick(&updates)) else {
             return self.any_account();
@@ -208,6 +231,23 @@ impl Generator {
         }
         self.prng.pick(busy).unwrap_or(0)
     }
+}
+
+fn draw_style(prng: &mut Prng) -> Style {
+    match prng.below(8) {
+        0 => Style::Single,
+        1 => Style::Bursts,
+        2 => Style::RoundRobin,
+        3 | 4 => Style::Parking,
+        _ => Style::Overtaking,
+    }
+}
+
+/// The accounts of the updates under way.
+fn updated_accounts(machine: &Machine) -> Vec<u32> {
+    let tasks = machine.workers.iter().filter_map(|w| w.task.as_ref());
+    let updates = tasks.filter(|task| task.is_update());
+    updates.map(|task| task.operation.account).collect()
 }
 
 /// Settings that produce many splits: small buckets, some depth.

@@ -8,8 +8,9 @@ use std::rc::Rc;
 pub const KIND_INSERT: u64 = 1;
 pub const KIND_DELETE: u64 = 2;
 pub const KIND_LOOKUP: u64 = 3;
+pub const KIND_POST: u64 = 4;
 
-/// The greatest ticket number, and with it how many inserts and deletes one worker may make.
+/// The greatest ticket number, and with it how many updates one worker may make.
 pub const GREATEST_TICKET: u64 = u64::MAX;
 
 /// What an operation does.
@@ -18,16 +19,18 @@ pub enum Kind {
     Insert,
     Delete,
     Lookup,
+    Post,
 }
 
 impl Kind {
-    pub const ALL: [Kind; 3] = [Kind::Insert, Kind::Delete, Kind::Lookup];
+    pub const ALL: [Kind; 4] = [Kind::Insert, Kind::Delete, Kind::Lookup, Kind::Post];
 
     pub fn number(self) -> u64 {
         match self {
             Kind::Insert => KIND_INSERT,
             Kind::Delete => KIND_DELETE,
             Kind::Lookup => KIND_LOOKUP,
+            Kind::Post => KIND_POST,
         }
     }
 
@@ -47,9 +50,14 @@ pub enum Answer {
     Found(i64),
     None,
     Crowded,
+    /// With the account's new total.
+    Posted(i64),
+    /// The sum of a post is outside the range of totals.
+    Overrun,
 }
 
-/// An announced update. The ticket is the worker's sequence number for it.
+/// An announced update. The ticket is the worker's sequence number for it; the total of a post is
+/// its amount.
 #[derive(Clone, Copy, PartialEq, Eq, Debug)]
 pub struct Update {
     pub kind: Kind,
@@ -58,7 +66,8 @@ pub struct Update {
     pub ticket: u64,
 }
 
-/// The last settled ticket (sequence number of the last applied update) and its answer.
+/// The last settled ticket (sequence number of the last applied update) and its answer, with its
+/// total if posted.
 #[derive(Clone, Copy, PartialEq, Eq, Debug, Default)]
 pub struct Settled {
     pub ticket: u64,
@@ -124,8 +133,17 @@ impl State {
 
     /// Carries out an update on this private copy and settles its ticket.
     pub fn carry_out(&mut self, worker: usize, update: &Update) {
+        let answer = self.change(update);
+        self.settled[worker] = Settled {
+            ticket: update.ticket,
+            answer: Some(answer),
+        };
+    }
+
+    /// Changes the accounts as an update has it, and gives its answer.
+    pub fn change(&mut self, update: &Update) -> Answer {
         let place = self.items.iter().position(|item| item.0 == update.account);
-        let answer = match (update.kind, place) {
+        match (update.kind, place) {
             (Kind::Insert, Some(at)) => {
                 self.items[at].1 = update.total;
                 Answer::Replaced
@@ -134,16 +152,32 @@ impl State {
                 self.items.push((update.account, update.total));
                 Answer::Added
             }
-            (_, Some(at)) => {
+            (Kind::Delete, Some(at)) => {
                 self.items.swap_remove(at);
                 Answer::Removed
             }
-            (_, None) => Answer::Absent,
+            (Kind::Delete, None) => Answer::Absent,
+            (Kind::Post, _) => self.post(update),
+            (Kind::Lookup, _) => unreachable!("a lookup is not announced"),
+        }
+    }
+
+    /// The sum becomes the account's total, unless it is outside the range of totals.
+    fn post(&mut self, update: &Update) -> Answer {
+        let before = self.find(update.account).unwrap_or(0);
+        let Some(sum) = before.checked_add(update.total) else {
+            return Answer::Overrun;
         };
-        self.settled[worker] = Settled {
-            ticket: update.ticket,
-            answer: Some(answer),
-        };
+        self.put(update.account, sum);
+        Answer::Posted(sum)
+    }
+
+    /// Sets the account's total; the account is made if it is not there.
+    pub fn put(&mut self, account: u32, total: i64) {
+        match self.items.iter_mut().find(|item| item.0 == account) {
+            Some(item) => item.1 = total,
+            None => self.items.push((account, total)),
+        }
     }
 }
 

@@ -36,8 +36,8 @@ impl Settings {
         let n = self.workers as u64;
         let b = self.bucket_size as u64;
         let entries = 1u64 << self.greatest_depth;
-        let states = (entries + n + 2) * (2 * b + 2 * n + 6);
-        16 + entries + 4 * n + n * (4 * n + 24) + states + 53
+        let states = (entries + n + 2) * (2 * b + 3 * n + 6);
+        16 + entries + 4 * n + n * (4 * n + 24) + states + 61
     }
 
     /// The greatest number of steps an update may take: 12n + 33.

@@ -25,12 +25,18 @@ fn size(order: &[Line]) -> (usize, u64, u64) {
     });
     let weight = order.iter().map(|line| match line {
         Line::Open { n, b, m } => n + b + m,
-        Line::Call { account, total, .. } => {
-            u64::from(account.count_ones()) + total.unsigned_abs().min(64)
-        }
+        Line::Call { account, total, .. } => u64::from(account.count_ones()) + heft(*total),
         _ => 0,
     });
     (order.len(), steps.sum(), weight.sum())
+}
+
+/// An end of the range is simpler than its neighbours.
+fn heft(total: i64) -> u64 {
+    match total {
+        i64::MIN | i64::MAX => 32,
+        other => other.unsigned_abs().min(64),
+    }
 }
 
 fn without(order: &[Line], from: usize, count: usize) -> Vec<Line> {
@@ -165,7 +171,7 @@ fn simplify(order: Vec<Line>, fails: &dyn Fn(&[Line]) -> bool) -> Vec<Line> {
             };
             let bits = (0..32).map(|bit| account & !(1u32 << bit));
             let mut simpler: Vec<Line> = bits.map(|account| call(account, total)).collect();
-            simpler.extend([0, 1, 2].map(|total| call(account, total)));
+            simpler.extend([i64::MAX, i64::MIN, 2, 1, 0].map(|total| call(account, total)));
             simpler
         }
         _ => Vec::new(),

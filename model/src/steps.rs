@@ -132,13 +132,23 @@ pub trait Steps {
         for (j, slot) in task.slots.iter().enumerate() {
             let Some(update) = slot else { continue };
             let flipped = task.toggle[j] != read.applied[j];
-            let pending = flipped && !self.is_settled(&copy, j, update.ticket);
+            let pending = flipped && self.is_pending(&copy, j, update);
             if pending && !copy.is_full(settings.bucket_size) {
-                copy.carry_out(j, update);
+                self.carry_out(&mut copy, j, update);
             }
         }
         copy.applied.clone_from(&task.toggle);
         copy
+    }
+
+    /// A bucket pass carries out an update whose bit is flipped only if its ticket is not settled.
+    fn is_pending(&self, copy: &State, worker: usize, update: &Update) -> bool {
+        !self.is_settled(copy, worker, update.ticket)
+    }
+
+    /// Carries out an update on a private copy that is not full, and settles its ticket.
+    fn carry_out(&self, copy: &mut State, worker: usize, update: &Update) {
+        copy.carry_out(worker, update);
     }
 
     fn check_directory(&self, machine: &Machine, task: &mut Task) -> StepKind {
@@ -232,8 +242,15 @@ pub trait Steps {
             self.split(working, update.account);
             splits += 1;
         }
-        working.carry_out(settings, k, update);
+        self.carry_out_there(settings, working, k, update);
         splits
+    }
+
+    /// Carries out an update in its bucket of the working copy unless that is full.
+    fn carry_out_there(&self, settings: &Settings, working: &Working, k: usize, update: &Update) {
+        working.change(settings, update.account, &|copy| {
+            self.carry_out(copy, k, update)
+        });
     }
 
     /// Splits the account's bucket; the directory doubles where it is not deep enough.

@@ -58,6 +58,7 @@ pub(crate) fn words(w: usize, kind: Kind) -> String {
         Kind::Insert => format!("insert of worker {w}"),
         Kind::Delete => format!("delete of worker {w}"),
         Kind::Lookup => format!("lookup of worker {w}"),
+        Kind::Post => format!("post of worker {w}"),
     }
 }
 
@@ -76,7 +77,9 @@ fn broken(w: usize, kind: Kind, text: String) -> Result<(), Violation> {
 fn told(s: &Settings, w: usize, kind: Kind, steps: u64, check: u8) -> Result<(), Violation> {
     let due = match (kind, check) {
         (Kind::Lookup, 0) => LOOKUP_STEPS,
-        (Kind::Insert | Kind::Delete, 1..=4) => s.check_steps()[usize::from(check) - 1],
+        (Kind::Insert | Kind::Delete | Kind::Post, 1..=4) => {
+            s.check_steps()[usize::from(check) - 1]
+        }
         _ => return broken(w, kind, format!("told check {check}")),
     };
     if steps != due {

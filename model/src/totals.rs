@@ -21,7 +21,7 @@ pub struct Driver {
     start: Start,
 }
 
-/// An answer as it is printed, with its total if found.
+/// An answer as it is printed, with its total if found or posted.
 pub fn answer_words(answer: Answer) -> String {
     match answer {
         Answer::Added => "added".to_string(),
@@ -31,6 +31,8 @@ pub fn answer_words(answer: Answer) -> String {
         Answer::Found(total) => format!("found {total}"),
         Answer::None => "none".to_string(),
         Answer::Crowded => "crowded".to_string(),
+        Answer::Posted(total) => format!("posted {total}"),
+        Answer::Overrun => "overrun".to_string(),
     }
 }
 

@@ -1,6 +1,6 @@
 //! The working copy of the directory in a directory pass.
 
-use crate::records::{prefix_of, Bucket, Directory, State, Update};
+use crate::records::{prefix_of, Bucket, Directory, State};
 use crate::settings::Settings;
 use std::rc::Rc;
 
@@ -54,13 +54,13 @@ impl Working {
         self.made.push(bucket);
     }
 
-    /// Carries out a worker's update unless its bucket is full. Only a bucket made in this round is
-    /// changed: it is still private.
-    pub fn carry_out(&self, settings: &Settings, worker: usize, update: &Update) {
-        let bucket = self.bucket(update.account);
+    /// Changes the account's bucket unless it is full. Only a bucket made in this round is changed:
+    /// it is still private.
+    pub fn change(&self, settings: &Settings, account: u32, change: &dyn Fn(&mut State)) {
+        let bucket = self.bucket(account);
         let mut copy = State::clone(&bucket.current());
         if self.is_made(bucket) && !copy.is_full(settings.bucket_size) {
-            copy.carry_out(worker, update);
+            change(&mut copy);
             *bucket.state.borrow_mut() = Rc::new(copy);
         }
     }

@@ -1,5 +1,6 @@
 //! The wrong machines: each is the true one but for one function, or two where it would not end.
-//! Nothing but this, `off_tariff.rs` and `wrong_tickets.rs` makes a step or a call wrong.
+//! Nothing but this, `off_tariff.rs`, `wrong_posts.rs` and `wrong_tickets.rs` makes a step or a
+//! call wrong.
 
 use crate::fault::Fault;
 use crate::machine::Machine;
@@ -33,6 +34,7 @@ impl Fault {
             Fault::AnnounceApplies => &AnnounceApplies,
             Fault::AlwaysCrowded => &AlwaysCrowded,
             Fault::AlwaysAdded => &AlwaysAdded,
+            Fault::Post(fault) => fault.machine(),
             Fault::OffTariff(fault) => fault.machine(),
             Fault::Ticket(fault) => fault.machine(),
         }
@@ -215,7 +217,7 @@ impl Steps for DoubledInRow {
             splits += 1;
         }
         if own(working) {
-            working.carry_out(settings, k, update);
+            self.carry_out_there(settings, working, k, update);
         }
         splits
     }

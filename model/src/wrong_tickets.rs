@@ -16,6 +16,8 @@ pub enum WrongTicket {
     SpentEarly,
     /// After the last number an update is accepted, with ticket 0.
     SpentLate,
+    /// After the last number a post is accepted, with ticket 0.
+    PostSpentLate,
     /// An update is refused 7 after 65,535, which was the limit of document 01.
     SpentAfter65535,
     /// After the last number a lookup is refused 7 too.
@@ -37,9 +39,10 @@ pub enum WrongTicket {
 }
 
 impl WrongTicket {
-    pub const ALL: [WrongTicket; 11] = [
+    pub const ALL: [WrongTicket; 12] = [
         WrongTicket::SpentEarly,
         WrongTicket::SpentLate,
+        WrongTicket::PostSpentLate,
         WrongTicket::SpentAfter65535,
         WrongTicket::LookupSpent,
         WrongTicket::LookupNumbered,
@@ -55,6 +58,7 @@ impl WrongTicket {
         match self {
             WrongTicket::SpentEarly => "spent-early",
             WrongTicket::SpentLate => "spent-late",
+            WrongTicket::PostSpentLate => "post-spent-late",
             WrongTicket::SpentAfter65535 => "spent-after-65535",
             WrongTicket::LookupSpent => "lookup-spent",
             WrongTicket::LookupNumbered => "lookup-numbered",
@@ -71,6 +75,7 @@ impl WrongTicket {
         match self {
             WrongTicket::SpentEarly => &SpentAfter(GREATEST_TICKET - 1),
             WrongTicket::SpentLate => &SpentLate,
+            WrongTicket::PostSpentLate => &PostSpentLate,
             WrongTicket::SpentAfter65535 => &SpentAfter(65_535),
             WrongTicket::LookupSpent => &LookupSpent,
             WrongTicket::LookupNumbered => &LookupNumbered,
@@ -104,6 +109,15 @@ struct SpentLate;
 impl Steps for SpentLate {
     fn last_ticket(&self, kind: Kind, before: u64) -> Option<u64> {
         Some(True.last_ticket(kind, before).unwrap_or(0))
+    }
+}
+
+struct PostSpentLate;
+
+impl Steps for PostSpentLate {
+    fn last_ticket(&self, kind: Kind, before: u64) -> Option<u64> {
+        let last = True.last_ticket(kind, before);
+        last.or((kind == Kind::Post).then_some(0))
     }
 }
 

@@ -4,7 +4,9 @@ mod session;
 
 use model::fault::Fault;
 use model::machine::{Machine, Stepped};
-use model::records::{Answer, Kind, GREATEST_TICKET, KIND_DELETE, KIND_INSERT, KIND_LOOKUP};
+use model::records::{
+    Answer, Kind, GREATEST_TICKET, KIND_DELETE, KIND_INSERT, KIND_LOOKUP, KIND_POST,
+};
 use model::refusal;
 use model::settings::Settings;
 
@@ -47,6 +49,35 @@ fn the_words_needed_are_within_the_limit_for_all_settings() {
 
 fn all_settings() -> impl Iterator<Item = (u64, u64, u64)> {
     (1..=8).flat_map(|n| (2..=16).flat_map(move |b| (0..=8).map(move |m| (n, b, m))))
+}
+
+#[test]
+fn the_least_and_the_greatest_words_needed() {
+    let words = |(n, b, m)| Settings::new(n, b, m).expect("in range").words();
+    assert_eq!(words((1, 2, 0)), 162);
+    assert_eq!(words((8, 16, 8)), 17_305);
+    assert_eq!(all_settings().map(words).min(), Some(162));
+    assert_eq!(all_settings().map(words).max(), Some(17_305));
+    let fitting = all_settings().filter(|settings| words(*settings) <= 8_192);
+    assert_eq!(fitting.count(), 983);
+}
+
+#[test]
+fn settings_at_the_border_of_the_lent_words() {
+    session(
+        &[
+            ("O 8 16 7", "refused 2"),
+            ("T", "refused 8"),
+            ("O 8 12 7", "ok"),
+            ("O 5 4 8", "refused 2"),
+            ("T", "end 0"),
+        ],
+        &[],
+    );
+    let words = |n, b, m| Settings::new(n, b, m).expect("in range").words();
+    assert_eq!(words(8, 16, 7), 9_241);
+    assert_eq!(words(8, 12, 7), 8_137);
+    assert_eq!(words(5, 4, 8), 8_200);
 }
 
 #[test]
@@ -186,11 +217,12 @@ fn refusals_of_a_call_come_in_order() {
     let mut machine = Machine::open(1, 2, 1, u64::MAX).expect("in range");
     assert_eq!(machine.call(1, 9, 5, 0), Err(refusal::STRANGER));
     assert_eq!(machine.call(0, 0, 5, 0), Err(refusal::KIND));
-    assert_eq!(machine.call(0, 4, 5, 0), Err(refusal::KIND));
+    assert_eq!(machine.call(0, 5, 5, 0), Err(refusal::KIND));
     machine.workers[0].last_ticket = GREATEST_TICKET;
-    assert_eq!(machine.call(0, 4, 5, 0), Err(refusal::KIND));
+    assert_eq!(machine.call(0, 5, 5, 0), Err(refusal::KIND));
     assert_eq!(machine.call(0, KIND_INSERT, 5, 0), Err(refusal::SPENT));
     assert_eq!(machine.call(0, KIND_DELETE, 5, 0), Err(refusal::SPENT));
+    assert_eq!(machine.call(0, KIND_POST, 5, 0), Err(refusal::SPENT));
     assert_eq!(machine.call(0, KIND_LOOKUP, 5, 0), Ok(()));
     assert_eq!(machine.call(0, 9, 5, 0), Err(refusal::BUSY));
     assert_eq!(machine.step(1).stepped, Stepped::Refused(refusal::STRANGER));

@@ -51,6 +51,35 @@ const BAD: &[&str] = &[
     "I 0 5 -9223372036854775809",
     "I 0 5 18446744073709551616",
     "I 0 5 \u{0667}",
+    "P",
+    "P 0",
+    "P 0 5",
+    "P 0 5 ",
+    "P 0  5 7",
+    "P 0 5 7 ",
+    "P 0 5 7 7",
+    " P 0 5 7",
+    "p 0 5 7",
+    "P 65536 5 7",
+    "P -1 5 7",
+    "P 00 5 7",
+    "P 0 4294967296 7",
+    "P 0 -5 7",
+    "P 0 05 7",
+    "P 0 5 07",
+    "P 0 5 -07",
+    "P 0 5 00",
+    "P 0 5 -0",
+    "P 0 5 -",
+    "P 0 5 --1",
+    "P 0 5 +1",
+    "P 0 5 7.0",
+    "P 0 5 0x7",
+    "P 0 5 9223372036854775808",
+    "P 0 5 -9223372036854775809",
+    "P 0 5 18446744073709551616",
+    "P 0 5 \u{0667}",
+    "P 0 5 7\r",
     "D 0",
     "D 0 5 7",
     "D 0 99999999999999999999999999",
@@ -82,6 +111,10 @@ fn good_lines_are_read_and_printed_as_they_were() {
         "I 65535 4294967295 -9223372036854775808",
         "I 0 0 9223372036854775807",
         "I 1 10 -1",
+        "P 65535 4294967295 -9223372036854775808",
+        "P 0 0 9223372036854775807",
+        "P 1 10 -1",
+        "P 0 0 0",
         "D 3 0",
         "L 0 4294967295",
         "S 0 1",
@@ -117,8 +150,9 @@ fn line_ends() {
 
 #[test]
 fn memory_of_zeros_is_strange_whatever_else_is_wrong() {
-    let input = "T\nS 9 1\nI 9 5 7\nD 0 5\nL 0 5\nO 0 2 1\nT\nO 8 16 8\nS 0 1\nS 0 0\n";
-    let output = "refused 8\nrefused 8\nrefused 8\nrefused 8\nrefused 8\nrefused 1\nrefused 8\n\
+    let input = "T\nS 9 1\nI 9 5 7\nP 9 5 7\nD 0 5\nL 0 5\nO 0 2 1\nT\nO 8 16 8\nS 0 1\nS 0 0\n";
+    let output =
+        "refused 8\nrefused 8\nrefused 8\nrefused 8\nrefused 8\nrefused 8\nrefused 1\nrefused 8\n\
                   refused 2\nrefused 8\nunread\n";
     assert_eq!(answers(input), output);
 }
@@ -132,9 +166,35 @@ fn a_refused_opening_changes_nothing_and_an_accepted_one_everything() {
     assert_eq!(answers(input), output);
 }
 
+#[test]
+fn a_post_is_read_exactly_where_an_insert_is() {
+    let mut prng = Prng::new(8);
+    let mut read = 0;
+    for _ in 0..50_000 {
+        let field = |prng: &mut Prng| {
+            let length = prng.between(0, 20);
+            let bytes = (0..length).map(|_| prng.one_of(b"0123456789-0000999 "));
+            String::from_utf8(bytes.collect()).expect("text")
+        };
+        let number = prng.draw() as i64 >> prng.below(64);
+        let rest = match prng.below(4) {
+            0 => format!("0 {} {}", field(&mut prng), number),
+            1 => format!("0 5 {}", field(&mut prng)),
+            2 => format!("{} 5 {}", field(&mut prng), number),
+            _ => format!("{} {} {number}", prng.below(70_000), prng.draw() >> 31),
+        };
+        let insert = read_line(format!("I {rest}").as_bytes());
+        let post = read_line(format!("P {rest}").as_bytes());
+        let shown = insert.map(|line| line.to_string().replace('I', "P"));
+        assert_eq!(post.map(|line| line.to_string()), shown, "{rest:?}");
+        read += u64::from(post.is_some());
+    }
+    assert!((5_000..45_000).contains(&read), "{read}");
+}
+
 /// Bytes that are often almost lines.
 fn random_bytes(prng: &mut Prng, length: usize) -> Vec<u8> {
-    const LIKELY: &[u8] = b"OIDLST   001234569-\n\n\n\r\0\xff";
+    const LIKELY: &[u8] = b"OIDLPST   001234569-\n\n\n\r\0\xff";
     let mut bytes = Vec::new();
     while bytes.len() < length {
         match prng.below(4) {
@@ -142,7 +202,8 @@ fn random_bytes(prng: &mut Prng, length: usize) -> Vec<u8> {
             1 => bytes.extend_from_slice(format!("\nS {} 9\n", prng.below(3)).as_bytes()),
             2 => bytes.extend_from_slice(
                 format!(
-                    "\nI {} {} {}\n",
+                    "\n{} {} {} {}\n",
+                    prng.one_of(&['I', 'P']),
                     prng.below(3),
                     prng.draw() as u32,
                     prng.below(5)

@@ -79,6 +79,43 @@ fn crowded_is_explained_exactly_by_the_crowding_rule() {
 }
 
 #[test]
+fn two_posts_at_once_are_told_their_sums_in_one_order() {
+    let both = |first: i64, second: i64, listed: i64| {
+        let mut all = fresh();
+        all.called(0, operation(Kind::Post, 5, 7));
+        all.called(1, operation(Kind::Post, 5, 20));
+        let outcome = all.answered(0, Answer::Posted(first));
+        let outcome = outcome.and_then(|()| all.answered(1, Answer::Posted(second)));
+        outcome.and_then(|()| all.listed(&[(5, listed)])).is_ok()
+    };
+    assert!(both(7, 27, 27));
+    assert!(both(27, 20, 27));
+    // One is lost, one is added twice, one is told the other's sum, or a total replaces another.
+    assert!(!both(7, 20, 20));
+    assert!(!both(7, 27, 34));
+    assert!(!both(27, 27, 27));
+    assert!(!both(7, 20, 27));
+}
+
+#[test]
+fn an_overrun_is_explained_exactly_by_a_sum_outside_the_range() {
+    for (total, amount) in [(i64::MAX, 1), (i64::MIN, -1), (1, i64::MAX)] {
+        let mut all = fresh();
+        all.called(0, operation(Kind::Insert, 5, total));
+        assert!(all.answered(0, Answer::Added).is_ok());
+        let mut inside = all.clone();
+        all.called(0, operation(Kind::Post, 5, amount));
+        assert!(all.answered(0, Answer::Overrun).is_ok());
+        assert!(all.listed(&[(5, total)]).is_ok());
+        inside.called(0, operation(Kind::Post, 5, -amount));
+        assert!(inside.answered(0, Answer::Overrun).is_err());
+    }
+    let mut missing = fresh();
+    missing.called(0, operation(Kind::Post, 5, i64::MIN));
+    assert!(missing.answered(0, Answer::Overrun).is_err());
+}
+
+#[test]
 fn eight_pending_operations_are_all_followed() {
     let mut all = Explainer::new(&Settings::new(8, 2, 0).expect("in range"));
     for worker in 0..8 {

@@ -15,11 +15,16 @@ use model::search::{search, verdict, By};
 use model::task::StepKind;
 use model::trace::record::record;
 use model::trace::Step;
+use model::wrong_posts::WrongPost;
 use stored::{lines, output, stored};
 
 /// Wrong machines that random search with this seed and budget does not catch by the external
 /// statement; their stored orders do.
-const NOT_BY_SEARCH: [Fault; 2] = [Fault::OneDirectoryRound, Fault::AnnounceApplies];
+const NOT_BY_SEARCH: [Fault; 3] = [
+    Fault::OneDirectoryRound,
+    Fault::AnnounceApplies,
+    Fault::Post(WrongPost::OverrunNotSettled),
+];
 
 /// The wrong machine of which no order is known that the external statement rejects: where it
 /// misses an update, a later moment is found for it. Its stored order tells it apart by the output.
@@ -29,7 +34,7 @@ const BUDGET: u64 = 100_000;
 
 /// Stored orders that are not named after a fault, with the fault whose output they tell apart
 /// from the true machine's.
-const MORE: [(&str, Fault); 6] = [
+const MORE: [(&str, Fault); 8] = [
     ("crowded-after-anothers-split", Fault::OneDirectoryRound),
     ("crowded-after-own-split", Fault::OneDirectoryRound),
     ("own-update-only-listing", Fault::OwnUpdateOnly),
@@ -39,6 +44,11 @@ const MORE: [(&str, Fault); 6] = [
         "one-worker-splits",
         Fault::OffTariff(OffTariff::FirstDirectoryPassIdle),
     ),
+    (
+        "overrun-at-both-ends",
+        Fault::Post(WrongPost::OverrunSaturates),
+    ),
+    ("posts-at-once", Fault::Post(WrongPost::LastTotalTold)),
 ];
 
 /// Rejected by the external statement, and not merely undecided.

@@ -39,7 +39,7 @@ fn every_sort_of_answer_occurs() {
     assert_eq!(refusals.len(), 6, "{refusals:?}");
     let sorts: HashSet<String> = text.lines().map(words).collect();
     let answers = [
-        "added", "replaced", "removed", "absent", "found", "none", "crowded",
+        "added", "replaced", "removed", "absent", "found", "none", "crowded", "posted", "overrun",
     ];
     for answer in answers {
         assert!(sorts.contains(&format!("answered {answer}")), "{answer}");

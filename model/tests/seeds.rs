@@ -24,6 +24,9 @@ fn every_assertion_holds_over_the_fixed_seeds() {
     assert!(counts.failed_directory_swaps > 1_000, "{counts:?}");
     assert!(counts.crowded > 10_000, "{counts:?}");
     assert!(counts.splits > 10_000, "{counts:?}");
+    assert!(counts.posted > 20_000, "{counts:?}");
+    assert!(counts.overruns > 1_000, "{counts:?}");
+    assert!(counts.helped_posts > 5_000, "{counts:?}");
 }
 
 #[test]

@@ -15,7 +15,7 @@ use stored::{folder, lines, output, stored};
 
 /// Every stored order with the checks told with its answers, in turn; `one-pass` is document 01's
 /// last case.
-const CHECKS: [(&str, &[u8]); 24] = [
+const CHECKS: [(&str, &[u8]); 36] = [
     ("always-added", &[1]),
     ("always-crowded", &[1]),
     ("announce-applies", &[1, 1, 2, 1, 1]),
@@ -30,12 +30,24 @@ const CHECKS: [(&str, &[u8]); 24] = [
     ("directory-swap-blind", &[1, 1, 2]),
     ("doubled-in-row", &[1, 1, 2, 2, 0]),
     ("full-as-read", &[1, 1, 1]),
+    ("last-total-told", &[1, 1]),
     ("one-bucket-round", &[1]),
     ("one-directory-round", &[1, 1, 2, 4]),
     ("one-pass", &[1, 1, 2, 3]),
     ("one-worker-splits", &[1, 1, 2, 1, 1]),
+    ("overrun-at-both-ends", &[1, 1, 1, 1, 1, 1, 1, 1, 1]),
+    ("overrun-before-crowded", &[1, 1, 1]),
+    ("overrun-not-settled", &[1, 1, 1, 1, 2]),
+    ("overrun-saturates", &[1, 1]),
+    ("overrun-wraps", &[1, 1]),
     ("own-update-only", &[1, 1, 1, 2]),
     ("own-update-only-listing", &[1, 1, 2, 1]),
+    ("post-deletes", &[1]),
+    ("post-helped-twice", &[1, 1, 2, 1]),
+    ("post-of-zero-makes-nothing", &[1]),
+    ("post-replaces", &[1, 1]),
+    ("posted-total-not-copied", &[1, 2, 1]),
+    ("posts-at-once", &[1, 1, 1, 1, 1, 2, 1]),
     ("settled-not-copied", &[1, 2, 1]),
     ("slots-backwards", &[1, 1]),
     ("toggle-ignored", &[1, 1]),

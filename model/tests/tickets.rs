@@ -42,6 +42,7 @@ fn the_last_number_is_used_and_no_update_follows_it() {
             ("S 0 99", "answered added 15"),
             ("I 0 6 60", "refused 7"),
             ("D 0 5", "refused 7"),
+            ("P 0 5 1", "refused 7"),
             ("S 0 1", "refused 5"),
             ("L 0 5", "ok"),
             ("D 0 5", "refused 4"),
@@ -54,6 +55,27 @@ fn the_last_number_is_used_and_no_update_follows_it() {
             ("T", "6 60\nend 1"),
         ],
         &[1, 0, 1, 1],
+    );
+}
+
+#[test]
+fn a_post_uses_up_a_number() {
+    session(
+        first(&[GREATEST_TICKET - 2]),
+        &[
+            ("O 1 3 1", "ok"),
+            ("P 0 5 9223372036854775807", "ok"),
+            ("S 0 99", "answered posted 9223372036854775807 13"),
+            ("P 0 5 1", "ok"),
+            ("S 0 99", "answered overrun 13"),
+            ("P 0 5 1", "refused 7"),
+            ("I 0 5 1", "refused 7"),
+            ("L 0 5", "ok"),
+            ("S 0 2", "answered found 9223372036854775807 2"),
+            ("P 0 5 -1", "refused 7"),
+            ("T", "5 9223372036854775807\nend 1"),
+        ],
+        &[1, 1, 0],
     );
 }
 
@@ -83,7 +105,7 @@ fn lookups_need_no_number() {
 fn a_spent_call_changes_nothing() {
     let mut machine = first(&[GREATEST_TICKET]).open(1, 2, 1).expect("in range");
     let before = format!("{machine:?}");
-    for kind in [Kind::Insert, Kind::Delete] {
+    for kind in [Kind::Insert, Kind::Delete, Kind::Post] {
         let called = machine.call(0, kind.number(), 5, 50);
         assert_eq!(called, Err(refusal::SPENT));
         assert_eq!(format!("{machine:?}"), before);

@@ -10,7 +10,7 @@ use model::starts::{near_edges, Start};
 use model::wrong_tickets::WrongTicket;
 
 /// One worker's three updates and a lookup.
-const SHOWING: &str = "O 1 2 0\nI 0 5 50\nS 0 99\nL 0 5\nS 0 2\nI 0 5 51\nS 0 99\nD 0 5\nS 0 99\n";
+const SHOWING: &str = "O 1 2 0\nI 0 5 50\nS 0 99\nL 0 5\nS 0 2\nP 0 5 1\nS 0 99\nD 0 5\nS 0 99\n";
 
 /// A wrong machine, the least last ticket from which that order shows it, what all assertions say
 /// then, and what the external statement says. No wrong machine on tickets is hidden from either.
@@ -21,7 +21,7 @@ const fn spent(fault: WrongTicket, least: u64, words: &'static str) -> Wrong {
     (fault, least, words, words)
 }
 
-const WRONG: [Wrong; 11] = [
+const WRONG: [Wrong; 12] = [
     spent(
         WrongTicket::SpentEarly,
         GREATEST_TICKET - 3,
@@ -31,6 +31,11 @@ const WRONG: [Wrong; 11] = [
         WrongTicket::SpentLate,
         GREATEST_TICKET - 2,
         "spent: delete of worker 0 told ok, numbers left 0",
+    ),
+    spent(
+        WrongTicket::PostSpentLate,
+        GREATEST_TICKET - 1,
+        "spent: post of worker 0 told ok, numbers left 0",
     ),
     spent(
         WrongTicket::SpentAfter65535,
@@ -51,13 +56,13 @@ const WRONG: [Wrong; 11] = [
         WrongTicket::LastOf16Bits,
         (1 << 16) - 3,
         "S3: worker 0: settled 65535, slot 0",
-        "no choice of moments explains: worker 0 got Replaced",
+        "no choice of moments explains: worker 0 got Posted(51)",
     ),
     (
         WrongTicket::LastOf32Bits,
         (1 << 32) - 3,
         "S3: worker 0: settled 4294967295, slot 0",
-        "no choice of moments explains: worker 0 got Replaced",
+        "no choice of moments explains: worker 0 got Posted(51)",
     ),
     (
         WrongTicket::SlotOf32Bits,
@@ -75,7 +80,7 @@ const WRONG: [Wrong; 11] = [
         WrongTicket::SettledSigned,
         (1 << 63) - 3,
         "W0: worker 0",
-        "no choice of moments explains: worker 0 got Replaced",
+        "no choice of moments explains: worker 0 got Posted(51)",
     ),
     (
         WrongTicket::SettledByDifference,

@@ -20,7 +20,14 @@ pub fn operation(update: &Update) -> String {
         Kind::Insert => format!("insert {} = {}", update.account, update.total),
         Kind::Delete => format!("delete {}", update.account),
         Kind::Lookup => format!("lookup {}", update.account),
+        Kind::Post => format!("post {} {}", update.account, amount(update.total)),
     }
+}
+
+/// An amount with its sign, as it is added to a total.
+fn amount(amount: i64) -> String {
+    let sign = if amount < 0 { '-' } else { '+' };
+    format!("{sign} {}", amount.unsigned_abs())
 }
 
 /// How an operation ended: its answer, its steps and, of an update, the check that answered.

@@ -10,7 +10,9 @@ use std::fs::{read, read_to_string};
 use std::process::{Command, Output, Stdio};
 
 const DOCS: &str = concat!(env!("CARGO_MANIFEST_DIR"), "/../docs/trace");
-const NAMES: [&str; 3] = ["second-pass", "helped", "overtaken"];
+const NAMES: [&str; 4] = ["second-pass", "helped", "overtaken", "posts"];
+/// Those with a picture.
+const PICTURES: [&str; 3] = ["second-pass", "helped", "overtaken"];
 /// Bytes of a picture.
 const MOST: usize = 200_000;
 
@@ -58,14 +60,17 @@ fn the_pages_in_docs_are_fresh() {
 #[test]
 fn the_pictures_are_small_and_the_text_shows_them() {
     let text = read_to_string(format!("{DOCS}/README.md")).expect("a text");
-    for name in NAMES {
+    for name in PICTURES {
         let picture = read(format!("{DOCS}/{name}.png")).expect("a picture");
         assert!(
             picture.starts_with(b"\x89PNG") && picture.len() < MOST,
             "{name}"
         );
         assert!(text.contains(&format!("({name}.png)")), "{name}");
+    }
+    for name in NAMES {
         assert!(text.contains(&format!("({name}.html)")), "{name}");
+        assert!(text.contains(&format!("({name}.lines)")), "{name}");
     }
 }
 
@@ -143,6 +148,35 @@ fn an_overtaken_lookup_has_its_moment_before_the_split() {
         seen[2..],
         expected.map(|(what, at)| (what.into(), at.into()))
     );
+}
+
+#[test]
+fn of_two_posts_at_once_each_is_told_its_own_total() {
+    let expected = [
+        "added",
+        "posted 1700",
+        "posted 1500",
+        "posted 1730",
+        "overrun",
+    ];
+    assert_eq!(
+        answers("posts"),
+        expected.map(|a| format!("answered {a} 15"))
+    );
+    let lines = input("posts");
+    assert_end(&lines, "post 5 + 30", "posted 1730, 15 steps, check 1");
+    assert_end(&lines, "post 5 - 230", "posted 1500, 15 steps, check 1");
+    let last = "post 5 + 9223372036854775807";
+    assert_end(&lines, last, "overrun, 15 steps, check 1");
+    let seen = moments("posts");
+    let expected = [
+        ("2 post 5 + 1000: posted 1700", "29, of worker 0"),
+        ("3 post 5 + 30: posted 1730", "29, of worker 1"),
+        ("4 post 5 - 230: posted 1500", "45, of worker 0"),
+        ("5 post 5 + 9223372036854775807: overrun", "74, of worker 0"),
+    ];
+    let shown = expected.map(|(what, at)| (format!("moment {what}"), format!("at entry {at}")));
+    assert_eq!(seen[1..], shown);
 }
 
 fn command(arguments: &[&str], input: Stdio) -> Output {

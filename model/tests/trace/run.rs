@@ -5,7 +5,7 @@ use model::judge::{Event, Internal, Judge};
 use model::lines::{read_line, Line};
 use model::machine::{Machine, Stepped};
 use model::moments::Moment;
-use model::records::Kind;
+use model::records::{Answer, Kind};
 use model::task::StepKind;
 use model::totals::{answer_words, Driver};
 use std::collections::BTreeMap;
@@ -151,9 +151,16 @@ impl Run {
     fn moment(&mut self, moment: &Moment) {
         let update = moment.operation;
         self.numbered += 1;
-        match answer_words(moment.answer).as_str() {
-            "added" | "replaced" => drop(self.held.insert(update.account, update.total)),
-            "removed" => drop(self.held.remove(&update.account)),
+        match moment.answer {
+            Answer::Added | Answer::Replaced => {
+                self.held.insert(update.account, update.total);
+            }
+            Answer::Removed => {
+                self.held.remove(&update.account);
+            }
+            Answer::Posted(total) => {
+                self.held.insert(update.account, total);
+            }
             _ => {}
         }
         let held: Vec<String> = self
@@ -201,5 +208,7 @@ fn name(kind: Kind, account: u32, total: i64) -> String {
         Kind::Insert => format!("insert {account} = {total}"),
         Kind::Delete => format!("delete {account}"),
         Kind::Lookup => format!("lookup {account}"),
+        Kind::Post if total < 0 => format!("post {account} - {}", total.unsigned_abs()),
+        Kind::Post => format!("post {account} + {total}"),
     }
 }
