@@ -59,8 +59,8 @@ goals() {
       goal("lookup by single steps", value["lookups", 1, "steps"], 220)
       goal("insert by single steps, n 1", value["inserts", 1, "steps"], 1750)
       goal("insert by single steps, n 8", value["inserts", 8, "steps"], 3300)
-      split("inserts deletes lookups mixed growing", works, " ")
-      for (i = 1; i <= 5; i++) for (n = 1; n <= 8; n *= 2) if (n != 4) {
+      count = split("inserts deletes posts lookups mixed growing", works, " ")
+      for (i = 1; i <= count; i++) for (n = 1; n <= 8; n *= 2) if (n != 4) {
         x = value[works[i], n, "steps"] / value[works[i], n, "same"]
         if (x > worst) worst = x
       }
@@ -75,7 +75,7 @@ goals() {
 
 counted >"$folder/counts"
 printf '%s' 'instructions an operation, b 8, M 8 '
-echo '(inserts, deletes, lookups, mixed: 1,000 accounts are there; growing: they are inserted)'
+echo '(inserts, deletes, posts, lookups, mixed: 1,000 accounts are there; growing: they are inserted)'
 table .0f <"$folder/counts"
 echo
 goals <"$folder/counts"

@@ -4,6 +4,7 @@
 pub const KIND_INSERT: u64 = 1;
 pub const KIND_DELETE: u64 = 2;
 pub const KIND_LOOKUP: u64 = 3;
+pub const KIND_POST: u64 = 4;
 pub const GREATEST_TICKET: u64 = u64::MAX;
 
 pub const GREATEST_WORKERS: usize = 8;
@@ -24,11 +25,13 @@ pub const TOTALS_REMOVED: u64 = 19;
 pub const TOTALS_ABSENT: u64 = 20;
 pub const TOTALS_FOUND: u64 = 21;
 pub const TOTALS_NONE: u64 = 22;
+pub const TOTALS_POSTED: u64 = 23;
 pub const TOTALS_CROWDED: u64 = 25;
+pub const TOTALS_OVERRUN: u64 = 27;
 
 pub const TOTALS_GREATEST_COUNT: usize = 4096;
 pub const TOTALS_GREATEST_RUN: u64 = 256;
 
 pub const RECORD_COUNT: usize = 0;
 pub const RECORD_ACCOUNTS: usize = 6;
-pub const WIDEST_RECORD: usize = 2 * GREATEST_CAPACITY + 2 * GREATEST_WORKERS + RECORD_ACCOUNTS;
+pub const WIDEST_RECORD: usize = 2 * GREATEST_CAPACITY + 3 * GREATEST_WORKERS + RECORD_ACCOUNTS;

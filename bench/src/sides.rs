@@ -7,8 +7,8 @@ use std::collections::HashMap;
 use std::hint::black_box;
 use std::sync::Mutex;
 
-// TOTALS_MOVED, a refusal's number, or an answer's number with the steps of the operation, the total found and the
-// check that answered.
+// TOTALS_MOVED, a refusal's number, or an answer's number with the steps of the operation, the total found or posted
+// and the check that answered.
 #[derive(Clone, Copy, PartialEq, Eq, Debug)]
 pub struct Reply {
     pub code: u64,
@@ -213,7 +213,9 @@ fn reply_of(stepped: Stepped) -> Reply {
         Answer::Absent => (TOTALS_ABSENT, 0),
         Answer::Found(total) => (TOTALS_FOUND, total),
         Answer::None => (TOTALS_NONE, 0),
+        Answer::Posted(total) => (TOTALS_POSTED, total),
         Answer::Crowded => (TOTALS_CROWDED, 0),
+        Answer::Overrun => (TOTALS_OVERRUN, 0),
     };
     Reply::new(code, [steps, total as u64, check])
 }
@@ -227,6 +229,7 @@ impl Table for Twin {
         let kind = match o.kind {
             KIND_INSERT => Kind::Insert,
             KIND_DELETE => Kind::Delete,
+            KIND_POST => Kind::Post,
             _ => Kind::Lookup,
         };
         u64::from(Twin::call(self, worker as usize, kind, o.account, o.total))
@@ -255,7 +258,7 @@ impl Map {
         Map(Mutex::new(HashMap::with_capacity(accounts)))
     }
 
-    // The answer's code and the total found.
+    // The answer's code and the total found or posted.
     #[inline(never)]
     pub fn operate(&self, o: Operation) -> (u64, i64) {
         let mut map = self.0.lock().unwrap();
@@ -276,6 +279,15 @@ impl Map {
                 },
                 0,
             ),
+            KIND_POST => {
+                // a sum with 0 is no overrun: an account that is made here stays
+                let total = map.entry(o.account).or_insert(0);
+                let Some(sum) = total.checked_add(o.total) else {
+                    return (TOTALS_OVERRUN, 0);
+                };
+                *total = sum;
+                (TOTALS_POSTED, sum)
+            }
             _ => map
                 .get(&o.account)
                 .map_or((TOTALS_NONE, 0), |total| (TOTALS_FOUND, *total)),

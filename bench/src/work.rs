@@ -1,10 +1,11 @@
 // Operations for all sides, from fixed seeds.
-use crate::fields::{KIND_DELETE, KIND_INSERT, KIND_LOOKUP};
+use crate::fields::{KIND_DELETE, KIND_INSERT, KIND_LOOKUP, KIND_POST};
 
 #[path = "../../model/src/prng.rs"]
 mod prng;
 pub use prng::Prng;
 
+// A post's total is its amount.
 #[derive(Clone, Copy)]
 pub struct Operation {
     pub kind: u64,
@@ -65,7 +66,7 @@ fn mixed_kind(random: &mut Prng) -> u64 {
 }
 
 // So many operations on 1,000 accounts, b 8, M 8. Growing is their first insert; the other works start after it.
-// Deletes are one of each account.
+// Deletes are one of each account; no sum of posts is an overrun.
 pub fn work(name: &'static str, workers: u64, count: usize) -> Work {
     let mut random = Prng::new(88172645463325252);
     let accounts = spread_accounts(1000, &mut random);
@@ -73,6 +74,7 @@ pub fn work(name: &'static str, workers: u64, count: usize) -> Work {
     let mut operation = |_| {
         let kind = match name {
             "inserts" => KIND_INSERT,
+            "posts" => KIND_POST,
             "lookups" => KIND_LOOKUP,
             _ => mixed_kind(&mut random),
         };

@@ -13,6 +13,16 @@ struct Case {
     operations: Vec<Operation>,
 }
 
+// A total or an amount: any, or one that many sums with are totals.
+fn any_total(random: &mut Prng) -> i64 {
+    let total = random.draw() as i64;
+    if random.below(2) == 0 {
+        total
+    } else {
+        total >> 40
+    }
+}
+
 // Settings at random, and operations on few accounts, many of them with the same first bits.
 fn case(random: &mut Prng) -> Case {
     let (workers, capacity, depth) = (1 + random.below(8), 2 + random.below(15), random.below(9));
@@ -24,9 +34,9 @@ fn case(random: &mut Prng) -> Case {
         .collect();
     let operations = (0..random.below(400))
         .map(|_| Operation {
-            kind: [KIND_INSERT, KIND_INSERT, KIND_DELETE, KIND_LOOKUP][random.below(4) as usize],
+            kind: [KIND_INSERT, KIND_POST, KIND_DELETE, KIND_LOOKUP][random.below(4) as usize],
             account: accounts[random.below(accounts.len() as u64) as usize],
-            total: random.draw() as i64,
+            total: any_total(random),
         })
         .collect();
     Case {
@@ -97,7 +107,7 @@ fn single_steps_in_turn_answer_alike() {
 #[test]
 fn operations_run_to_their_answer_answer_as_a_map() {
     let mut random = Prng::new(2);
-    let mut crowded = 0;
+    let (mut crowded, mut posted, mut overrun) = (0, 0, 0);
     for _ in 0..1500 {
         let c = case(&mut random);
         let (ours, proved) = replies::<Proved>(&c, ran);
@@ -105,15 +115,19 @@ fn operations_run_to_their_answer_answer_as_a_map() {
         assert_eq!(ours, replies::<Twin>(&c, ran).0);
         let map = Map::default();
         for (o, reply) in c.operations.iter().zip(&ours) {
-            if reply.code == TOTALS_CROWDED {
-                crowded += 1;
-            } else {
+            crowded += (reply.code == TOTALS_CROWDED) as u32;
+            posted += (reply.code == TOTALS_POSTED) as u32;
+            overrun += (reply.code == TOTALS_OVERRUN) as u32;
+            if reply.code != TOTALS_CROWDED {
                 assert_eq!((reply.code, reply.total), map.operate(*o));
             }
         }
         assert_eq!(proved.rows(), map.rows());
     }
-    assert!(crowded > 1000, "only {crowded} updates were crowded");
+    assert!(
+        crowded > 1000 && posted > 1000 && overrun > 1000,
+        "{crowded} updates were crowded, {posted} posted, {overrun} an overrun"
+    );
 }
 
 // A call, a step or a run of one worker.
@@ -150,11 +164,11 @@ fn turn(random: &mut Prng, workers: u64, most: u64, operation: Operation) -> Tur
 }
 
 // Calls, steps and runs of any worker in any order, the refused ones too: the same replies, and the same words after
-// each. The twin knows no kinds but three.
+// each. The twin knows no kinds but four.
 #[test]
 fn any_order_of_calls_steps_and_runs_answers_alike() {
     let mut random = Prng::new(3);
-    let mut replied = [0; TOTALS_CROWDED as usize + 1];
+    let mut replied = [0; TOTALS_OVERRUN as usize + 1];
     for _ in 0..400 {
         let c = case(&mut random);
         let mut proved = Proved::open(c.workers, c.capacity, c.depth);
@@ -174,7 +188,9 @@ fn any_order_of_calls_steps_and_runs_answers_alike() {
         TOTALS_BUSY,
         TOTALS_IDLE,
         TOTALS_ADDED,
+        TOTALS_POSTED,
         TOTALS_CROWDED,
+        TOTALS_OVERRUN,
     ] {
         assert!(replied[code as usize] > 100, "{code}: {replied:?}");
     }
@@ -198,7 +214,7 @@ fn damaged(random: &mut Prng, workers: u64) -> Vec<u64> {
 
 fn any_operation(random: &mut Prng) -> Operation {
     Operation {
-        kind: random.below(5),
+        kind: random.below(6),
         account: random.draw() as u32,
         total: random.draw() as i64,
     }

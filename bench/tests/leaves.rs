@@ -2,7 +2,7 @@
 use bench::leaf::{proved, rust, Work};
 use bench::work::Prng;
 
-// small numbers, numbers about 16 and 54, and any word
+// small numbers, numbers about 16 and 62, and any word
 fn word(random: &mut Prng) -> u64 {
     match random.below(4) {
         0 => random.below(4),

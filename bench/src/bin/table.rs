@@ -10,7 +10,7 @@ use std::time::Instant;
 const SIDES: [&str; 7] = [
     "steps", "run", "same", "same-run", "twin", "twin-run", "map",
 ];
-const WORKS: [&str; 5] = ["inserts", "deletes", "lookups", "mixed", "growing"];
+const WORKS: [&str; 6] = ["inserts", "deletes", "posts", "lookups", "mixed", "growing"];
 const WORKERS: [u64; 3] = [1, 2, 8];
 
 // A sum that changes with any answer, whatever the order of answers.

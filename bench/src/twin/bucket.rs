@@ -9,7 +9,9 @@ pub enum Answer {
     Absent,
     Found(i64),
     None,
+    Posted(i64),
     Crowded,
+    Overrun,
 }
 
 #[derive(Clone, Copy, PartialEq, Eq)]
@@ -17,9 +19,10 @@ pub enum Kind {
     Insert,
     Delete,
     Lookup,
+    Post,
 }
 
-// An announced update.
+// An announced update; a post's total is its amount.
 #[derive(Clone, Copy)]
 pub struct Update {
     pub kind: Kind,
@@ -86,21 +89,37 @@ impl Bucket {
         }
     }
 
-    fn insert(&mut self, account: u32, total: i64) -> Answer {
-        match self.search(account) {
-            Ok(i) => {
-                self.totals[i] = total;
-                Answer::Replaced
-            }
+    // The account's total set, where it stands or where it belongs.
+    fn put(&mut self, place: Result<usize, usize>, account: u32, total: i64) {
+        match place {
+            Ok(i) => self.totals[i] = total,
             Err(i) => {
                 self.accounts.copy_within(i..self.count, i + 1);
                 self.totals.copy_within(i..self.count, i + 1);
                 self.accounts[i] = account;
                 self.totals[i] = total;
                 self.count += 1;
-                Answer::Added
             }
         }
+    }
+
+    fn insert(&mut self, account: u32, total: i64) -> Answer {
+        let place = self.search(account);
+        self.put(place, account, total);
+        match place {
+            Ok(_) => Answer::Replaced,
+            Err(_) => Answer::Added,
+        }
+    }
+
+    fn post(&mut self, account: u32, amount: i64) -> Answer {
+        let place = self.search(account);
+        let total = place.map_or(0, |i| self.totals[i]);
+        let Some(sum) = total.checked_add(amount) else {
+            return Answer::Overrun;
+        };
+        self.put(place, account, sum);
+        Answer::Posted(sum)
     }
 
     fn delete(&mut self, account: u32) -> Answer {
@@ -119,7 +138,8 @@ impl Bucket {
     pub fn carry(&mut self, j: usize, update: &Update) {
         let answer = match update.kind {
             Kind::Insert => self.insert(update.account, update.total),
-            _ => self.delete(update.account),
+            Kind::Post => self.post(update.account, update.total),
+            Kind::Delete | Kind::Lookup => self.delete(update.account),
         };
         self.settled[j] = update.ticket;
         self.answers[j] = answer;
