@@ -4,7 +4,7 @@
 use crate::invariants::Ledger;
 use crate::machine::{Machine, Report, Stepped};
 use crate::moments::{Moment, Moments};
-use crate::records::{Answer, Kind};
+use crate::records::{prefix_of, Answer, Kind, Update};
 use crate::spent::{Called, Numbers};
 use crate::tariff::{is_last_made, Meter};
 use crate::task::StepKind;
@@ -25,10 +25,66 @@ pub struct Counts {
     pub crowded: u64,
     pub posted: u64,
     pub overruns: u64,
+    /// Updates that took effect where b accounts agreed with their own in the first M bits.
+    pub amid_full: AmidFull,
     /// Posts that took effect at a step of another worker.
     pub helped_posts: u64,
     /// Lookups whose bucket was split between their two steps.
     pub overtaken_lookups: u64,
+}
+
+/// The updates that took effect in a full bucket at depth M, by what they did.
+#[derive(Clone, Copy, PartialEq, Eq, Debug, Default)]
+pub struct AmidFull {
+    pub crowded: u64,
+    pub replaced: u64,
+    pub removed: u64,
+    pub absent: u64,
+    pub posted: u64,
+    pub overruns: u64,
+    /// Those of them that another worker's step settled as crowded.
+    pub helped_crowded: u64,
+    /// Those that were answered crowded when there was room again.
+    pub room_since: u64,
+    /// Those that were removed and made room for an account added at the same step.
+    pub made_room: u64,
+}
+
+impl AmidFull {
+    pub fn add(&mut self, other: &AmidFull) {
+        self.crowded += other.crowded;
+        self.replaced += other.replaced;
+        self.removed += other.removed;
+        self.absent += other.absent;
+        self.posted += other.posted;
+        self.overruns += other.overruns;
+        self.helped_crowded += other.helped_crowded;
+        self.room_since += other.room_since;
+        self.made_room += other.made_room;
+    }
+
+    /// Counts the moments of one step of worker w.
+    fn count(&mut self, w: usize, depth: u32, moments: &[Moment]) {
+        for (place, moment) in moments.iter().enumerate().filter(|(_, m)| m.amid_full) {
+            let prefix = |m: &Moment| prefix_of(m.operation.account, depth);
+            let same = |m: &&Moment| prefix(m) == prefix(moment);
+            let mut later = moments[place..].iter().filter(same);
+            match moment.answer {
+                Answer::Crowded => self.crowded += 1,
+                Answer::Replaced => self.replaced += 1,
+                Answer::Removed => self.removed += 1,
+                Answer::Absent => self.absent += 1,
+                Answer::Posted(_) => self.posted += 1,
+                Answer::Overrun => self.overruns += 1,
+                Answer::Added | Answer::Found(_) | Answer::None => continue,
+            }
+            let (crowded, removed) = (Answer::Crowded, Answer::Removed);
+            let helped = moment.answer == crowded && moment.worker != w;
+            let fills = moment.answer == removed && later.any(|m| m.answer == Answer::Added);
+            self.helped_crowded += u64::from(helped);
+            self.made_room += u64::from(fills);
+        }
+    }
 }
 
 impl Counts {
@@ -46,6 +102,7 @@ impl Counts {
         self.crowded += other.crowded;
         self.posted += other.posted;
         self.overruns += other.overruns;
+        self.amid_full.add(&other.amid_full);
         self.helped_posts += other.helped_posts;
         self.overtaken_lookups += other.overtaken_lookups;
     }
@@ -97,16 +154,16 @@ impl Checker {
     /// A step with all assertions; the moments of the step in their order.
     pub fn step(&mut self, w: usize) -> Result<(Report, Vec<Moment>), Violation> {
         let task = self.machine.workers.get(w).and_then(|x| x.task.as_ref());
-        let kind = task.map(|task| task.operation.kind);
+        let operation = task.map(|task| task.operation);
         self.moments.before_step(&self.machine);
         let report = self.machine.step(w);
-        let Some(kind) = kind else {
+        let Some(operation) = operation else {
             return Ok((report, Vec::new()));
         };
-        self.tariff(w, kind, &report)?;
+        self.tariff(w, operation.kind, &report)?;
         let moments = self.moments.after_step(&self.machine, w, &report)?;
         self.ledger.after_step(&self.machine)?;
-        self.count(w, kind, &report, &moments);
+        self.count(w, &operation, &report, &moments);
         Ok((report, moments))
     }
 
@@ -122,8 +179,9 @@ impl Checker {
         }
     }
 
-    fn count(&mut self, w: usize, kind: Kind, report: &Report, moments: &[Moment]) {
+    fn count(&mut self, w: usize, operation: &Update, report: &Report, moments: &[Moment]) {
         let counts = &mut self.counts;
+        let kind = operation.kind;
         counts.steps += 1;
         match report.kind {
             StepKind::ResizeState { splits, .. } => counts.splits += u64::from(splits),
@@ -134,7 +192,10 @@ impl Checker {
         if let Stepped::Answered { answer, .. } = report.stepped {
             counts.lookups += u64::from(kind == Kind::Lookup);
             counts.updates += u64::from(kind != Kind::Lookup);
-            counts.crowded += u64::from(answer == Answer::Crowded);
+            let crowded = answer == Answer::Crowded;
+            let full = self.moments.plain.is_full_around(operation.account);
+            counts.crowded += u64::from(crowded);
+            counts.amid_full.room_since += u64::from(crowded && !full);
             counts.posted += u64::from(matches!(answer, Answer::Posted(_)));
             counts.overruns += u64::from(answer == Answer::Overrun);
             if let check @ 1.. = usize::from(report.answering_check()) {
@@ -147,5 +208,7 @@ impl Checker {
         };
         counts.overtaken_lookups += by_another(Kind::Lookup);
         counts.helped_posts += by_another(Kind::Post);
+        let depth = self.machine.settings.greatest_depth;
+        counts.amid_full.count(w, depth, moments);
     }
 }

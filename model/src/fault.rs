@@ -1,6 +1,7 @@
 //! The wrong machines by name: each is wrong in one way (`wrong.rs`). They test the checker itself.
 
 use crate::off_tariff::OffTariff;
+use crate::wrong_crowding::WrongCrowding;
 use crate::wrong_posts::WrongPost;
 use crate::wrong_tickets::WrongTicket;
 
@@ -15,13 +16,13 @@ pub enum Fault {
     OneBucketRound,
     /// The second round of every directory pass touches nothing.
     OneDirectoryRound,
-    /// Full is tested on the state that was read, not on the copy being changed.
+    /// A bucket pass tests full on the state that was read, not on the copy being changed.
     FullAsRead,
     /// A state step of the directory pass takes only its own worker's update.
     OwnUpdateOnly,
     /// A bucket pass carries out a delete on a full bucket below depth M.
     DeleteIntoFull,
-    /// A check answers crowded from a full bucket of any depth.
+    /// A bucket pass settles a new account as crowded in a full bucket below depth M.
     CrowdedBelowDepth,
     /// The right half of a split gets settled tickets 0 and no answers.
     SettledNotCopied,
@@ -39,12 +40,14 @@ pub enum Fault {
     ToggleIgnored,
     /// The slots are read from the last worker's to the first's.
     SlotsBackwards,
-    /// Announcing carries out the update on its bucket if that is not full.
+    /// Announcing carries out the update on its bucket unless that holds it back.
     AnnounceApplies,
     /// Every update is answered crowded at its first check.
     AlwaysCrowded,
     /// Every answered update is answered added.
     AlwaysAdded,
+    /// Another rule of crowding at depth M (`wrong_crowding.rs`).
+    Crowding(WrongCrowding),
     /// Another rule of posts (`wrong_posts.rs`).
     Post(WrongPost),
     /// Another check or another step than the tariff has (`off_tariff.rs`).
@@ -55,7 +58,7 @@ pub enum Fault {
 
 impl Fault {
     /// All faults, without `None`, those off the tariff and those on tickets.
-    pub const ALL: [Fault; 28] = [
+    pub const ALL: [Fault; 39] = [
         Fault::OnePass,
         Fault::OneBucketRound,
         Fault::OneDirectoryRound,
@@ -74,10 +77,21 @@ impl Fault {
         Fault::AnnounceApplies,
         Fault::AlwaysCrowded,
         Fault::AlwaysAdded,
+        Fault::Crowding(WrongCrowding::NotSettled),
+        Fault::Crowding(WrongCrowding::AtCheck),
+        Fault::Crowding(WrongCrowding::Unsettled),
+        Fault::Crowding(WrongCrowding::Delete),
+        Fault::Crowding(WrongCrowding::AbsentDelete),
+        Fault::Crowding(WrongCrowding::Replacement),
+        Fault::Crowding(WrongCrowding::Post),
+        Fault::Crowding(WrongCrowding::NewIntoFull),
+        Fault::Crowding(WrongCrowding::HeldBack),
+        Fault::Crowding(WrongCrowding::HeldBackAfterSplits),
+        Fault::Crowding(WrongCrowding::TriedAgain),
+        Fault::Crowding(WrongCrowding::TriedAfterAnswer),
         Fault::Post(WrongPost::Replaces),
         Fault::Post(WrongPost::OverrunWraps),
         Fault::Post(WrongPost::OverrunSaturates),
-        Fault::Post(WrongPost::OverrunBeforeCrowded),
         Fault::Post(WrongPost::TotalNotCopied),
         Fault::Post(WrongPost::ZeroMakesNothing),
         Fault::Post(WrongPost::Deletes),
@@ -123,6 +137,7 @@ impl Fault {
             Fault::AnnounceApplies => "announce-applies",
             Fault::AlwaysCrowded => "always-crowded",
             Fault::AlwaysAdded => "always-added",
+            Fault::Crowding(fault) => fault.name(),
             Fault::Post(fault) => fault.name(),
             Fault::OffTariff(fault) => fault.name(),
             Fault::Ticket(fault) => fault.name(),

@@ -39,6 +39,8 @@ pub struct Input {
     lookups: u64,
     posts: u64,
     listings: u64,
+    /// Every list has b 2, M 0 to 2, and more accounts in a prefix than a bucket takes.
+    crowded: bool,
 }
 
 impl Input {
@@ -61,6 +63,15 @@ impl Input {
             lookups: 0,
             posts: 0,
             listings: 0,
+            crowded: false,
+        }
+    }
+
+    /// Lists in which buckets at the greatest depth are full most of the time.
+    pub fn crowded(seed: u64) -> Input {
+        Input {
+            crowded: true,
+            ..Input::new(seed)
         }
     }
 
@@ -92,22 +103,28 @@ impl Input {
 
     /// Draws a new list, and its opening.
     fn begin(&mut self) -> Line {
-        let filling = self.prng.percent(3);
+        let filling = !self.crowded && self.prng.percent(3);
         self.left = match filling {
             true => self.prng.between(2_000, 8_000),
             false => self.prng.between(20, 500),
         };
         let orders = Generator::new(self.prng.draw(), false);
         self.listings = if filling { 1 } else { self.prng.between(2, 30) };
-        if !filling && self.prng.percent(50) {
+        if !filling && !self.crowded && self.prng.percent(50) {
             let opening = orders.opening();
             self.settings = orders.settings;
             self.orders = Some(orders);
             return opening;
         }
         self.orders = None;
-        self.settings = fitting(&mut self.prng);
-        self.draw_accounts(filling);
+        self.settings = match self.crowded {
+            true => small(&mut self.prng),
+            false => fitting(&mut self.prng),
+        };
+        match self.crowded {
+            true => self.draw_neighbours(),
+            false => self.draw_accounts(filling),
+        }
         self.parked = vec![0; self.settings.workers];
         self.pace = match self.prng.below(4) {
             _ if filling => Pace::Whole,
@@ -137,6 +154,17 @@ impl Input {
             true => prng.between(1, size - 1),
             false => prng.between(size, size * 2),
         };
+    }
+
+    /// Two to six accounts in each of a few prefixes, of as many bits as a bucket can have.
+    fn draw_neighbours(&mut self) {
+        let bits = self.settings.greatest_depth.max(1);
+        let count = self.prng.between(1, 3);
+        let prng = &mut self.prng;
+        self.prefixes = (0..count)
+            .map(|_| (prng.draw() as u32) >> (32 - bits) << (32 - bits))
+            .collect();
+        self.range = prng.between(2, 6);
     }
 
     fn account(&mut self) -> u32 {
@@ -252,6 +280,15 @@ fn any_settings(prng: &mut Prng, test: impl Fn(&Settings) -> bool) -> Settings {
         if test(&settings) {
             return settings;
         }
+    }
+}
+
+/// The least bucket size, and at most four buckets.
+fn small(prng: &mut Prng) -> Settings {
+    Settings {
+        workers: prng.between(1, Settings::GREATEST_WORKERS) as usize,
+        bucket_size: Settings::LEAST_BUCKET_SIZE as usize,
+        greatest_depth: prng.below(3) as u32,
     }
 }
 

@@ -34,5 +34,6 @@ pub mod trace;
 pub mod violation;
 pub mod working;
 mod wrong;
+pub mod wrong_crowding;
 pub mod wrong_posts;
 pub mod wrong_tickets;

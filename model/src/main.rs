@@ -14,7 +14,7 @@ use std::process::ExitCode;
 
 const USAGE: &str = "usage:
   model totals [--fault NAME]
-  model lines SEED COUNT
+  model lines SEED COUNT [--crowded]
   model search --seed S --steps N [--fault NAME] [--external]
   model replay [--fault NAME]
   model faults
@@ -95,16 +95,19 @@ fn options(arguments: &[String]) -> Option<Options> {
 
 /// Writes so many lines of random input; an odd seed's last line has no line feed.
 fn lines(arguments: &[String]) -> ExitCode {
-    let numbers: Option<Vec<u64>> = arguments.iter().map(|word| word.parse().ok()).collect();
+    let (words, input): (_, fn(u64) -> Input) = match arguments {
+        [words @ .., last] if last == "--crowded" => (words, Input::crowded),
+        words => (words, Input::new),
+    };
+    let numbers: Option<Vec<u64>> = words.iter().map(|word| word.parse().ok()).collect();
     match numbers.as_deref() {
-        Some([seed, count]) => exit_code(write_lines(*seed, *count)),
+        Some([seed, count]) => exit_code(write_lines(input(*seed), *seed, *count)),
         _ => usage(),
     }
 }
 
-fn write_lines(seed: u64, count: u64) -> io::Result<u8> {
+fn write_lines(mut input: Input, seed: u64, count: u64) -> io::Result<u8> {
     let mut out = io::BufWriter::new(io::stdout().lock());
-    let mut input = Input::new(seed);
     for place in 1..=count {
         out.write_all(&input.next_line())?;
         if place < count || seed.is_multiple_of(2) {
@@ -158,6 +161,15 @@ fn print_counts(out: &mut impl Write, counts: &Counts) -> io::Result<()> {
     writeln!(out, "crowded {}", counts.crowded)?;
     writeln!(out, "posted {}", counts.posted)?;
     writeln!(out, "overruns {}", counts.overruns)?;
+    let full = &counts.amid_full;
+    writeln!(out, "crowded by another's step {}", full.helped_crowded)?;
+    writeln!(out, "crowded with room since {}", full.room_since)?;
+    writeln!(out, "amid b accounts: replaced {}", full.replaced)?;
+    writeln!(out, "amid b accounts: removed {}", full.removed)?;
+    writeln!(out, "amid b accounts: absent {}", full.absent)?;
+    writeln!(out, "amid b accounts: posted {}", full.posted)?;
+    writeln!(out, "amid b accounts: overruns {}", full.overruns)?;
+    writeln!(out, "room made and taken at one step {}", full.made_room)?;
     writeln!(out, "helped posts {}", counts.helped_posts)?;
     writeln!(out, "overtaken lookups {}", counts.overtaken_lookups)
 }

@@ -15,6 +15,8 @@ pub struct Moment {
     pub worker: usize,
     pub operation: Update,
     pub answer: Answer,
+    /// Before it, b accounts agreed with its own in the first M bits.
+    pub amid_full: bool,
 }
 
 /// The plain table, and per worker the answer of the operation under way once it took effect.
@@ -41,6 +43,23 @@ pub fn is_done(machine: &Machine, worker: usize, update: &Update) -> bool {
     let bucket = machine.directory.bucket(update.account);
     let settled = bucket.state.borrow().is_settled(worker, update.ticket);
     settled
+}
+
+/// An update is settled with the plain table's answer, whether or not its worker reads it.
+fn compare_settled(machine: &Machine, moment: &Moment) -> Result<(), Violation> {
+    let Moment {
+        worker,
+        operation,
+        answer,
+        ..
+    } = *moment;
+    let state = machine.directory.bucket(operation.account).current();
+    let settled = state.settled[worker].answer;
+    if operation.kind == Kind::Lookup || settled == Some(answer) {
+        return Ok(());
+    }
+    let detail = format!("worker {worker}: {settled:?}, the plain table says {answer:?}");
+    Err(Violation::new("settled", detail))
 }
 
 fn before(machine: &Machine, worker: usize, task: &Task) -> Before {
@@ -88,7 +107,9 @@ impl Moments {
         chosen.extend(self.own_moment(w, report));
         let mut moments = Vec::new();
         for worker in chosen {
-            moments.push(self.take_effect(worker)?);
+            let moment = self.take_effect(worker)?;
+            compare_settled(machine, &moment)?;
+            moments.push(moment);
         }
         if let Stepped::Answered { answer, .. } = report.stepped {
             self.compare_answer(w, answer)?;
@@ -129,15 +150,12 @@ impl Moments {
         Ok(done)
     }
 
-    /// A crowded update's moment is the check that answers it; a lookup's is its second step
-    /// unless it was overtaken.
+    /// A lookup's moment is its second step unless it was overtaken. An update, crowded or not, has
+    /// its moment where it becomes Done, which no check does.
     fn own_moment(&self, w: usize, report: &Report) -> Option<usize> {
-        let Stepped::Answered { answer, .. } = report.stepped else {
-            return None;
-        };
+        let answered = matches!(report.stepped, Stepped::Answered { .. });
         let before = self.under_way[w].as_ref()?;
-        let crowded = before.operation.kind != Kind::Lookup && answer == Answer::Crowded;
-        (crowded || before.held_is_current).then_some(w)
+        (answered && before.held_is_current).then_some(w)
     }
 
     fn take_effect(&mut self, worker: usize) -> Result<Moment, Violation> {
@@ -153,12 +171,14 @@ impl Moments {
             total,
             ..
         } = operation;
+        let amid_full = self.plain.is_full_around(account);
         let answer = self.plain.apply(kind, account, total);
         self.taken[worker] = Some(answer);
         Ok(Moment {
             worker,
             operation,
             answer,
+            amid_full,
         })
     }
 

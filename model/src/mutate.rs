@@ -5,9 +5,9 @@ use crate::lines::{read_lines, Line};
 use crate::prng::Prng;
 use crate::records::Kind;
 
-/// Stored orders that reach the third and fourth check, park a worker at a late swap, or settle a
-/// post by a split.
-const STORED: [&str; 9] = [
+/// Stored orders that reach the third and fourth check, park a worker at a late swap, settle a post
+/// by a split, or make room in a full bucket at depth M while a new account is under way.
+const STORED: [&str; 12] = [
     include_str!("../orders/crowded-after-anothers-split.txt"),
     include_str!("../orders/crowded-after-own-split.txt"),
     include_str!("../orders/one-directory-round.txt"),
@@ -17,6 +17,9 @@ const STORED: [&str; 9] = [
     include_str!("../orders/announce-applies.txt"),
     include_str!("../orders/overrun-not-settled.txt"),
     include_str!("../orders/posts-at-once.txt"),
+    include_str!("../orders/crowded-tried-again.txt"),
+    include_str!("../orders/room-in-one-split.txt"),
+    include_str!("../orders/room-in-one-swap.txt"),
 ];
 
 /// A stored order with one to six random changes; its opening stays first.

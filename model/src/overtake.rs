@@ -1,5 +1,7 @@
 //! The overtaking style of random orders: whom to park, whom to hurry, which accounts to fill, so
-//! that updates are overtaken by splits and answered only by the third or fourth check.
+//! that updates are overtaken by splits and answered only by the third or fourth check. The crowding
+//! style: whom to park, so that new accounts find their bucket full at depth M, and room comes and
+//! goes before they are answered.
 
 use crate::machine::Machine;
 use crate::moments::is_done;
@@ -77,6 +79,44 @@ pub fn is_held_back(machine: &Machine, w: usize) -> bool {
         Position::LookupState => full && below && w >= 2,
         _ => false,
     }
+}
+
+/// The crowding style: whether this worker's new account waits for what others do in its bucket.
+/// Worker 0 never waits.
+pub fn awaits_neighbours(machine: &Machine, w: usize) -> bool {
+    let Some(task) = task(machine, w).filter(|_| w >= 1) else {
+        return false;
+    };
+    let leaf = machine.directory.bucket(task.operation.account);
+    let new = leaf.current().creates(&task.operation);
+    let full = is_full(machine, task.operation.account);
+    let deepest = leaf.depth == machine.settings.greatest_depth;
+    match task.next {
+        // Announced and not flipped: let a split settle it as crowded, then let others make room.
+        Position::ReadDirectory if task.checks == 0 => new && (full || !deepest),
+        // Tried: let others make room before it reads its answer.
+        Position::CheckDirectory => new && full && deepest,
+        // Without an answer, though it was tried: let others take the room again.
+        Position::Flip | Position::ReadDirectory if task.checks == 2 => new && !full && deepest,
+        _ => false,
+    }
+}
+
+/// What others have to do for the first account that waits: a delete in its bucket if that is full
+/// at depth M, else an insert of an account that it does not hold.
+pub fn awaited(machine: &Machine, pool: &[u32]) -> Option<(Kind, Vec<u32>)> {
+    let mut all = 0..machine.settings.workers;
+    let w = all.find(|w| awaits_neighbours(machine, *w))?;
+    let account = task(machine, w)?.operation.account;
+    let leaf = machine.directory.bucket(account);
+    let state = leaf.current();
+    if is_full(machine, account) && leaf.depth == machine.settings.greatest_depth {
+        let held = state.items.iter().map(|item| item.0).collect();
+        return Some((Kind::Delete, held));
+    }
+    let others = pool.iter().filter(|other| **other != account);
+    let new = others.filter(|other| leaf.covers(**other) && state.find(**other).is_none());
+    Some((Kind::Insert, new.copied().collect()))
 }
 
 /// A late update lets another directory swap go first; that one waits until the late update is

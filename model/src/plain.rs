@@ -21,8 +21,8 @@ impl Plain {
         }
     }
 
-    /// Whether b accounts agree with this one in the first M bits.
-    pub fn is_crowded(&self, account: u32) -> bool {
+    /// Whether b accounts agree with this one in the first M bits, its own counted if it is there.
+    pub fn is_full_around(&self, account: u32) -> bool {
         let depth = self.greatest_depth;
         let rest = u32::MAX.checked_shr(depth).unwrap_or(0);
         let range = (account & !rest)..=(account | rest);
@@ -31,14 +31,23 @@ impl Plain {
         agreeing.count() >= self.bucket_size
     }
 
+    /// Whether an operation would make its account: it is an insert or a post, and the account is
+    /// not there.
+    fn creates(&self, kind: Kind, account: u32) -> bool {
+        let puts = matches!(kind, Kind::Insert | Kind::Post);
+        puts && !self.accounts.contains_key(&account)
+    }
+
     /// Feeds one operation; the total counts for an insert, and for a post, whose amount it is.
+    /// Crowded is exactly a new account where b others agree with it in the first M bits: what is
+    /// there can be replaced, posted to and removed, however many neighbours it has.
     pub fn apply(&mut self, kind: Kind, account: u32, total: i64) -> Answer {
         match kind {
             Kind::Lookup => match self.accounts.get(&account) {
                 Some(total) => Answer::Found(*total),
                 None => Answer::None,
             },
-            _ if self.is_crowded(account) => Answer::Crowded,
+            _ if self.creates(kind, account) && self.is_full_around(account) => Answer::Crowded,
             Kind::Insert => match self.accounts.insert(account, total) {
                 Some(_) => Answer::Replaced,
                 None => Answer::Added,

@@ -19,6 +19,9 @@ enum Style {
     /// Parks workers where others can overtake them: before a directory swap, and before the
     /// second bucket pass.
     Overtaking,
+    /// Few accounts in full buckets at depth M, many deletes; parks workers whose new account is
+    /// crowded or has room.
+    Crowding,
 }
 
 /// Draws the lines of one order.
@@ -46,23 +49,29 @@ impl Generator {
     pub fn new(seed: u64, small: bool) -> Generator {
         let mut prng = Prng::new(seed);
         let style = draw_style(&mut prng);
-        let settings = match style == Style::Overtaking && prng.percent(80) {
-            true => splitting_settings(&mut prng, small),
-            false => draw_settings(&mut prng, small),
+        let crowding = style == Style::Crowding;
+        let settings = match style {
+            Style::Crowding => crowding_settings(&mut prng, small),
+            Style::Overtaking if prng.percent(80) => splitting_settings(&mut prng, small),
+            _ => draw_settings(&mut prng, small),
         };
-        let mut pool = draw_pool(&mut prng, &settings);
+        let mut pool = match crowding {
+            true => crowding_pool(&mut prng, &settings),
+            false => draw_pool(&mut prng, &settings),
+        };
         let posts = prng.one_of(&[0, 30, 60, 95]);
         // So few accounts that all workers post to the same ones.
-        if posts > 30 && prng.percent(50) {
+        if posts > 30 && !crowding && prng.percent(50) {
             pool.truncate(prng.between(1, 3) as usize);
         }
+        let fewest_deletes = if crowding { 60 } else { 0 };
         Generator {
             parked: vec![0; settings.workers],
             tick: 0,
             puts: prng.between(40, 90),
             posts,
             ends: prng.one_of(&[0, 20, 70]),
-            deletes: prng.between(0, 100),
+            deletes: prng.between(fewest_deletes, 100),
             listings: if small { 15 } else { 1 },
             prng,
             settings,
@@ -102,6 +111,13 @@ impl Generator {
                 call = false;
             }
         }
+        if self.style == Style::Crowding && self.prng.percent(99) {
+            let waits = |w: &usize| overtake::awaits_neighbours(machine, *w);
+            let free: Vec<usize> = busy.iter().copied().filter(|w| !waits(w)).collect();
+            if !free.is_empty() || !idle.is_empty() {
+                busy = free;
+            }
+        }
         call |= busy.is_empty();
         match self.prng.pick(&idle) {
             Some(worker) if call => self.call(machine, worker),
@@ -137,9 +153,17 @@ impl Generator {
     }
 
     fn call(&mut self, machine: &Machine, worker: usize) -> Line {
-        let kind = self.kind();
+        let (mut kind, mut awaited) = (self.kind(), None);
         let near = self.prng.percent(80) && self.style == Style::Overtaking;
-        let account = if kind == Kind::Post && self.prng.percent(50) {
+        if self.style == Style::Crowding && self.prng.percent(60) {
+            if let Some((wanted, accounts)) = overtake::awaited(machine, &self.pool) {
+                awaited = self.prng.pick(&accounts);
+                kind = awaited.map_or(kind, |_| wanted);
+            }
+        }
+        let account = if let Some(account) = awaited {
+            account
+        } else if kind == Kind::Post && self.prng.percent(50) {
             self.account_under_way(machine)
         } else if near {
             self.near_account(machine)
@@ -210,6 +234,7 @@ impl Generator {
         let count = match self.style {
             Style::Single | Style::RoundRobin => 1,
             Style::Bursts => self.prng.between(1, 60),
+            Style::Crowding => self.prng.between(1, 4),
             Style::Parking => self.prng.between(1, 12),
             Style::Overtaking => self.prng.between(1, 5),
         };
@@ -234,11 +259,12 @@ impl Generator {
 }
 
 fn draw_style(prng: &mut Prng) -> Style {
-    match prng.below(8) {
+    match prng.below(10) {
         0 => Style::Single,
         1 => Style::Bursts,
         2 => Style::RoundRobin,
         3 | 4 => Style::Parking,
+        5 | 6 => Style::Crowding,
         _ => Style::Overtaking,
     }
 }
@@ -258,6 +284,28 @@ fn splitting_settings(prng: &mut Prng, small: bool) -> Settings {
         bucket_size: prng.between(2, 3) as usize,
         greatest_depth: prng.between(2, 5) as u32,
     }
+}
+
+/// Settings by which few accounts make a bucket full at depth M.
+fn crowding_settings(prng: &mut Prng, small: bool) -> Settings {
+    let most_workers = if small { 3 } else { 4 };
+    Settings {
+        workers: prng.between(2, most_workers) as usize,
+        bucket_size: prng.between(2, 3) as usize,
+        greatest_depth: prng.one_of(&[0, 1, 1, 2]),
+    }
+}
+
+/// One or two prefixes of M bits, with one to three accounts each that have no room beside b others.
+fn crowding_pool(prng: &mut Prng, settings: &Settings) -> Vec<u32> {
+    let rest = u32::MAX >> settings.greatest_depth;
+    let each = settings.bucket_size as u64 + prng.between(1, 3);
+    let prefixes: Vec<u32> = (0..prng.between(1, 2))
+        .map(|_| prng.draw() as u32 & !rest)
+        .collect();
+    let accounts = |prefix: &u32| (0..each as u32).map(move |low| *prefix | low).collect();
+    let pools: Vec<Vec<u32>> = prefixes.iter().map(accounts).collect();
+    pools.concat()
 }
 
 fn draw_settings(prng: &mut Prng, small: bool) -> Settings {

@@ -1,6 +1,7 @@
 //! The records of the table: announced updates, bucket states, buckets and directories.
 //! Records are shared by reference, and identity is the identity of the reference.
 
+use crate::settings::Settings;
 use std::cell::RefCell;
 use std::rc::Rc;
 
@@ -66,8 +67,8 @@ pub struct Update {
     pub ticket: u64,
 }
 
-/// The last settled ticket (sequence number of the last applied update) and its answer, with its
-/// total if posted.
+/// The last settled ticket (sequence number of the last update that was carried out or was crowded)
+/// and its answer, with its total if posted.
 #[derive(Clone, Copy, PartialEq, Eq, Debug, Default)]
 pub struct Settled {
     pub ticket: u64,
@@ -126,14 +127,25 @@ impl State {
         self.items.len() >= bucket_size
     }
 
+    /// Full, in a bucket of this depth below M: it has to be split before it takes an update.
+    pub fn is_full_below(&self, settings: &Settings, depth: u32) -> bool {
+        self.is_full(settings.bucket_size) && depth < settings.greatest_depth
+    }
+
+    /// Whether an update would make its account here: it is an insert or a post, and the account is
+    /// not there.
+    pub fn creates(&self, update: &Update) -> bool {
+        let puts = matches!(update.kind, Kind::Insert | Kind::Post);
+        puts && self.find(update.account).is_none()
+    }
+
     /// A ticket is settled when the settled number is not below it.
     pub fn is_settled(&self, worker: usize, ticket: u64) -> bool {
         self.settled[worker].ticket >= ticket
     }
 
-    /// Carries out an update on this private copy and settles its ticket.
-    pub fn carry_out(&mut self, worker: usize, update: &Update) {
-        let answer = self.change(update);
+    /// Settles an update's ticket on this private copy, with this answer.
+    pub fn settle(&mut self, worker: usize, update: &Update, answer: Answer) {
         self.settled[worker] = Settled {
             ticket: update.ticket,
             answer: Some(answer),

@@ -128,13 +128,13 @@ pub trait Steps {
     /// then the applied bits become the toggle as it was read.
     fn bucket_copy(&self, settings: &Settings, task: &Task) -> State {
         let read = task.state_read();
+        let depth = task.pass_bucket().depth;
         let mut copy = State::clone(read);
         for (j, slot) in task.slots.iter().enumerate() {
             let Some(update) = slot else { continue };
             let flipped = task.toggle[j] != read.applied[j];
-            let pending = flipped && self.is_pending(&copy, j, update);
-            if pending && !copy.is_full(settings.bucket_size) {
-                self.carry_out(&mut copy, j, update);
+            if flipped && self.is_pending(&copy, j, update) {
+                self.carry_out(settings, depth, &mut copy, j, update);
             }
         }
         copy.applied.clone_from(&task.toggle);
@@ -146,9 +146,47 @@ pub trait Steps {
         !self.is_settled(copy, worker, update.ticket)
     }
 
-    /// Carries out an update on a private copy that is not full, and settles its ticket.
-    fn carry_out(&self, copy: &mut State, worker: usize, update: &Update) {
-        copy.carry_out(worker, update);
+    /// Carries out an update on a private copy of a bucket of this depth, unless that holds it back,
+    /// and settles its ticket: as crowded, with the accounts as they are, or with the answer of what
+    /// it did. All of it goes by the copy as it stands, so that a delete makes room for the updates
+    /// of the workers after its own.
+    fn carry_out(
+        &self,
+        settings: &Settings,
+        depth: u32,
+        copy: &mut State,
+        worker: usize,
+        update: &Update,
+    ) {
+        if self.holds_back(settings, depth, copy, update) {
+            return;
+        }
+        let answer = match self.is_crowded(settings, copy, update) {
+            true => Answer::Crowded,
+            false => self.change(copy, update),
+        };
+        self.settle(copy, worker, update, answer);
+    }
+
+    /// In both passes an update is held back by a bucket that is full below depth M, whatever it is:
+    /// the bucket has to be split first.
+    fn holds_back(&self, settings: &Settings, depth: u32, copy: &State, _: &Update) -> bool {
+        copy.is_full_below(settings, depth)
+    }
+
+    /// Where an update is not held back, a full bucket has depth M: it takes no new account.
+    fn is_crowded(&self, settings: &Settings, copy: &State, update: &Update) -> bool {
+        copy.is_full(settings.bucket_size) && copy.creates(update)
+    }
+
+    /// Changes the accounts of a private copy as an update has it, and gives its answer.
+    fn change(&self, copy: &mut State, update: &Update) -> Answer {
+        copy.change(update)
+    }
+
+    /// A settled ticket is not tried again, whatever its answer.
+    fn settle(&self, copy: &mut State, worker: usize, update: &Update, answer: Answer) {
+        copy.settle(worker, update, answer);
     }
 
     fn check_directory(&self, machine: &Machine, task: &mut Task) -> StepKind {
@@ -166,15 +204,11 @@ pub trait Steps {
         (kind, answer.map(|answer| (answer, self.told(task))))
     }
 
-    /// Settled there: the answer that stands there. Else crowded if full at depth M.
-    fn check_answer(&self, settings: &Settings, w: usize, task: &Task) -> Option<Answer> {
-        let bucket = task.own_bucket();
-        let state = bucket.current();
-        if self.is_settled(&state, w, task.operation.ticket) {
-            return state.settled[w].answer;
-        }
-        let deepest = bucket.depth == settings.greatest_depth;
-        (state.is_full(settings.bucket_size) && deepest).then_some(Answer::Crowded)
+    /// Settled there: the answer that stands there. Else none, whatever the bucket holds.
+    fn check_answer(&self, _: &Settings, w: usize, task: &Task) -> Option<Answer> {
+        let state = task.own_bucket().current();
+        let settled = self.is_settled(&state, w, task.operation.ticket);
+        state.settled[w].answer.filter(|_| settled)
     }
 
     fn resize_directory(&self, machine: &Machine, task: &mut Task) -> StepKind {
@@ -215,8 +249,7 @@ pub trait Steps {
         bucket: &Rc<Bucket>,
     ) -> u32 {
         let state = bucket.current();
-        let below = bucket.depth < settings.greatest_depth;
-        if !state.is_full(settings.bucket_size) || !below {
+        if !state.is_full_below(settings, bucket.depth) {
             return 0;
         }
         working.found.push((Rc::clone(bucket), Rc::clone(&state)));
@@ -234,8 +267,8 @@ pub trait Steps {
         splits
     }
 
-    /// Takes one update: its bucket is split while full and below depth M; the update is
-    /// carried out if the bucket is then not full. Answers the number of splits.
+    /// Takes one update: its bucket is split while full and below depth M; then the update is
+    /// carried out. Answers the number of splits.
     fn take(&self, settings: &Settings, working: &mut Working, k: usize, update: &Update) -> u32 {
         let mut splits = 0;
         while working.is_splittable(settings, update.account) {
@@ -246,10 +279,11 @@ pub trait Steps {
         splits
     }
 
-    /// Carries out an update in its bucket of the working copy unless that is full.
+    /// Carries out an update in its bucket of the working copy.
     fn carry_out_there(&self, settings: &Settings, working: &Working, k: usize, update: &Update) {
-        working.change(settings, update.account, &|copy| {
-            self.carry_out(copy, k, update)
+        let depth = working.bucket(update.account).depth;
+        working.change(update.account, &|copy| {
+            self.carry_out(settings, depth, copy, k, update)
         });
     }
 

@@ -42,7 +42,7 @@ impl Working {
     /// The account's bucket is full and below depth M.
     pub fn is_splittable(&self, settings: &Settings, account: u32) -> bool {
         let bucket = self.bucket(account);
-        bucket.current().is_full(settings.bucket_size) && bucket.depth < settings.greatest_depth
+        bucket.current().is_full_below(settings, bucket.depth)
     }
 
     /// Puts a bucket made in this round at the entries whose first bits are its prefix.
@@ -54,12 +54,12 @@ impl Working {
         self.made.push(bucket);
     }
 
-    /// Changes the account's bucket unless it is full. Only a bucket made in this round is changed:
-    /// it is still private.
-    pub fn change(&self, settings: &Settings, account: u32, change: &dyn Fn(&mut State)) {
+    /// Changes the account's bucket. Only a bucket made in this round is changed: it is still
+    /// private.
+    pub fn change(&self, account: u32, change: &dyn Fn(&mut State)) {
         let bucket = self.bucket(account);
         let mut copy = State::clone(&bucket.current());
-        if self.is_made(bucket) && !copy.is_full(settings.bucket_size) {
+        if self.is_made(bucket) {
             change(&mut copy);
             *bucket.state.borrow_mut() = Rc::new(copy);
         }

@@ -1,6 +1,6 @@
 //! The wrong machines: each is the true one but for one function, or two where it would not end.
-//! Nothing but this, `off_tariff.rs`, `wrong_posts.rs` and `wrong_tickets.rs` makes a step or a
-//! call wrong.
+//! Nothing but this, `off_tariff.rs`, `wrong_crowding.rs`, `wrong_posts.rs` and `wrong_tickets.rs`
+//! makes a step or a call wrong.
 
 use crate::fault::Fault;
 use crate::machine::Machine;
@@ -34,6 +34,7 @@ impl Fault {
             Fault::AnnounceApplies => &AnnounceApplies,
             Fault::AlwaysCrowded => &AlwaysCrowded,
             Fault::AlwaysAdded => &AlwaysAdded,
+            Fault::Crowding(fault) => fault.machine(),
             Fault::Post(fault) => fault.machine(),
             Fault::OffTariff(fault) => fault.machine(),
             Fault::Ticket(fault) => fault.machine(),
@@ -78,22 +79,20 @@ impl Steps for OneDirectoryRound {
     }
 }
 
-/// Settings by which no bucket is full.
-fn unbounded(settings: &Settings) -> Settings {
-    Settings {
-        bucket_size: usize::MAX,
-        ..*settings
-    }
-}
-
 struct FullAsRead;
 
 impl Steps for FullAsRead {
+    /// With a bucket size by which every copy is full, or none.
     fn bucket_copy(&self, settings: &Settings, task: &Task) -> State {
-        match task.state_read().is_full(settings.bucket_size) {
-            true => True.bucket_copy(settings, task),
-            false => True.bucket_copy(&unbounded(settings), task),
-        }
+        let bucket_size = match task.state_read().is_full(settings.bucket_size) {
+            true => 0,
+            false => usize::MAX,
+        };
+        let as_read = Settings {
+            bucket_size,
+            ..*settings
+        };
+        True.bucket_copy(&as_read, task)
     }
 }
 
@@ -121,32 +120,16 @@ impl Steps for OwnUpdateOnly {
 struct DeleteIntoFull;
 
 impl Steps for DeleteIntoFull {
-    /// One slot after the other, since a delete makes room for what follows.
-    fn bucket_copy(&self, settings: &Settings, task: &Task) -> State {
-        let below = task.pass_bucket().depth < settings.greatest_depth;
-        let mut alone = task.clone();
-        for (j, slot) in task.slots.iter().enumerate() {
-            let delete = slot.is_some_and(|update| update.kind == Kind::Delete);
-            alone.slots = only(&task.slots, j);
-            let mut copy = match below && delete {
-                true => True.bucket_copy(&unbounded(settings), &alone),
-                false => True.bucket_copy(settings, &alone),
-            };
-            copy.applied.clone_from(&task.state_read().applied);
-            alone.state = Some(Rc::new(copy));
-        }
-        alone.slots.clear();
-        True.bucket_copy(settings, &alone)
+    fn holds_back(&self, settings: &Settings, depth: u32, copy: &State, update: &Update) -> bool {
+        update.kind != Kind::Delete && True.holds_back(settings, depth, copy, update)
     }
 }
 
 struct CrowdedBelowDepth;
 
 impl Steps for CrowdedBelowDepth {
-    fn check_answer(&self, settings: &Settings, w: usize, task: &Task) -> Option<Answer> {
-        let full = task.own_bucket().current().is_full(settings.bucket_size);
-        let crowded = full.then_some(Answer::Crowded);
-        True.check_answer(settings, w, task).or(crowded)
+    fn holds_back(&self, settings: &Settings, depth: u32, copy: &State, update: &Update) -> bool {
+        !copy.creates(update) && True.holds_back(settings, depth, copy, update)
     }
 }
 
@@ -257,10 +240,11 @@ struct AnnounceApplies;
 
 impl Steps for AnnounceApplies {
     fn announce(&self, machine: &mut Machine, w: usize, task: &Task) -> StepKind {
+        let settings = &machine.settings;
         let bucket = machine.directory.bucket(task.operation.account);
         let mut copy = State::clone(&bucket.current());
-        if !copy.is_full(machine.settings.bucket_size) {
-            copy.carry_out(w, &task.operation);
+        True.carry_out(settings, bucket.depth, &mut copy, w, &task.operation);
+        if copy != *bucket.current() {
             *bucket.state.borrow_mut() = Rc::new(copy);
         }
         True.announce(machine, w, task)

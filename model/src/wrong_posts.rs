@@ -1,7 +1,7 @@
 //! The wrong machines on posts: another sum, another total told, an overrun that is not settled, or
 //! decided at the wrong place. Without posts each of them does what the true one does.
 
-use crate::records::{Answer, Kind, Settled, State, Update};
+use crate::records::{Answer, Kind, State, Update};
 use crate::settings::Settings;
 use crate::steps::{Steps, True};
 use crate::task::Task;
@@ -14,8 +14,6 @@ pub enum WrongPost {
     OverrunWraps,
     /// A sum outside the range becomes the end that is nearer to it.
     OverrunSaturates,
-    /// A check of a full bucket at depth M answers overrun where the sum is outside the range.
-    OverrunBeforeCrowded,
     /// The right half of a split gets 0 for the total of each settled posted.
     TotalNotCopied,
     /// An amount of 0 does not make an account that is not there.
@@ -26,16 +24,15 @@ pub enum WrongPost {
     LastTotalTold,
     /// A bucket pass carries out a post whose bit is flipped though its ticket is settled.
     HelpedTwice,
-    /// An overrun is not settled: each check of a bucket that is not full tries it again.
+    /// An overrun is not settled: each check of a bucket that holds nothing back tries it again.
     OverrunNotSettled,
 }
 
 impl WrongPost {
-    pub const ALL: [WrongPost; 10] = [
+    pub const ALL: [WrongPost; 9] = [
         WrongPost::Replaces,
         WrongPost::OverrunWraps,
         WrongPost::OverrunSaturates,
-        WrongPost::OverrunBeforeCrowded,
         WrongPost::TotalNotCopied,
         WrongPost::ZeroMakesNothing,
         WrongPost::Deletes,
@@ -49,7 +46,6 @@ impl WrongPost {
             WrongPost::Replaces => "post-replaces",
             WrongPost::OverrunWraps => "overrun-wraps",
             WrongPost::OverrunSaturates => "overrun-saturates",
-            WrongPost::OverrunBeforeCrowded => "overrun-before-crowded",
             WrongPost::TotalNotCopied => "posted-total-not-copied",
             WrongPost::ZeroMakesNothing => "post-of-zero-makes-nothing",
             WrongPost::Deletes => "post-deletes",
@@ -64,7 +60,6 @@ impl WrongPost {
             WrongPost::Replaces => &Replaces,
             WrongPost::OverrunWraps => &OverrunWraps,
             WrongPost::OverrunSaturates => &OverrunSaturates,
-            WrongPost::OverrunBeforeCrowded => &OverrunBeforeCrowded,
             WrongPost::TotalNotCopied => &TotalNotCopied,
             WrongPost::ZeroMakesNothing => &ZeroMakesNothing,
             WrongPost::Deletes => &Deletes,
@@ -86,66 +81,38 @@ fn overruns(state: &State, update: &Update) -> bool {
     update.kind == Kind::Post && sum.is_none()
 }
 
-/// Sets the account's total, whatever the sum should be.
-fn posted(copy: &mut State, update: &Update, total: i64) -> Answer {
+/// Sets the account's total to this in place of the sum; any other update is as it should be.
+fn post(copy: &mut State, update: &Update, total: i64) -> Answer {
+    if update.kind != Kind::Post {
+        return True.change(copy, update);
+    }
     copy.put(update.account, total);
     Answer::Posted(total)
-}
-
-/// Carries out a post in this way and settles it; any other update as it should be.
-fn post_by(
-    copy: &mut State,
-    worker: usize,
-    update: &Update,
-    way: impl FnOnce(&mut State) -> Answer,
-) {
-    if update.kind != Kind::Post {
-        return True.carry_out(copy, worker, update);
-    }
-    let answer = way(copy);
-    copy.settled[worker] = Settled {
-        ticket: update.ticket,
-        answer: Some(answer),
-    };
 }
 
 struct Replaces;
 
 impl Steps for Replaces {
-    fn carry_out(&self, copy: &mut State, worker: usize, update: &Update) {
-        let way = |copy: &mut State| posted(copy, update, update.total);
-        post_by(copy, worker, update, way);
+    fn change(&self, copy: &mut State, update: &Update) -> Answer {
+        post(copy, update, update.total)
     }
 }
 
 struct OverrunWraps;
 
 impl Steps for OverrunWraps {
-    fn carry_out(&self, copy: &mut State, worker: usize, update: &Update) {
+    fn change(&self, copy: &mut State, update: &Update) -> Answer {
         let sum = before(copy, update).wrapping_add(update.total);
-        post_by(copy, worker, update, |copy| posted(copy, update, sum));
+        post(copy, update, sum)
     }
 }
 
 struct OverrunSaturates;
 
 impl Steps for OverrunSaturates {
-    fn carry_out(&self, copy: &mut State, worker: usize, update: &Update) {
+    fn change(&self, copy: &mut State, update: &Update) -> Answer {
         let sum = before(copy, update).saturating_add(update.total);
-        post_by(copy, worker, update, |copy| posted(copy, update, sum));
-    }
-}
-
-struct OverrunBeforeCrowded;
-
-impl Steps for OverrunBeforeCrowded {
-    fn check_answer(&self, settings: &Settings, w: usize, task: &Task) -> Option<Answer> {
-        let answer = True.check_answer(settings, w, task);
-        let crowded = answer == Some(Answer::Crowded);
-        match crowded && overruns(&task.own_bucket().current(), &task.operation) {
-            true => Some(Answer::Overrun),
-            false => answer,
-        }
+        post(copy, update, sum)
     }
 }
 
@@ -173,31 +140,33 @@ impl Steps for TotalNotCopied {
 struct ZeroMakesNothing;
 
 impl Steps for ZeroMakesNothing {
-    fn carry_out(&self, copy: &mut State, worker: usize, update: &Update) {
-        let nothing = update.total == 0 && copy.find(update.account).is_none();
-        post_by(copy, worker, update, |copy| match nothing {
+    fn change(&self, copy: &mut State, update: &Update) -> Answer {
+        let zero = update.kind == Kind::Post && update.total == 0;
+        match zero && copy.find(update.account).is_none() {
             true => Answer::Posted(0),
-            false => copy.change(update),
-        });
+            false => True.change(copy, update),
+        }
     }
 }
 
 struct Deletes;
 
 impl Steps for Deletes {
-    fn carry_out(&self, copy: &mut State, worker: usize, update: &Update) {
-        let kind = Kind::Delete;
-        let delete = Update { kind, ..*update };
-        post_by(copy, worker, update, |copy| copy.change(&delete));
+    fn change(&self, copy: &mut State, update: &Update) -> Answer {
+        let kind = match update.kind {
+            Kind::Post => Kind::Delete,
+            kind => kind,
+        };
+        True.change(copy, &Update { kind, ..*update })
     }
 }
 
 struct LastTotalTold;
 
 impl Steps for LastTotalTold {
-    fn carry_out(&self, copy: &mut State, worker: usize, update: &Update) {
-        True.carry_out(copy, worker, update);
-        if let Some(Answer::Posted(total)) = copy.settled[worker].answer {
+    fn settle(&self, copy: &mut State, worker: usize, update: &Update, answer: Answer) {
+        True.settle(copy, worker, update, answer);
+        if let Answer::Posted(total) = answer {
             tell(copy, total);
         }
     }
@@ -214,15 +183,17 @@ impl Steps for HelpedTwice {
 struct OverrunNotSettled;
 
 impl Steps for OverrunNotSettled {
-    fn carry_out(&self, copy: &mut State, worker: usize, update: &Update) {
-        if !overruns(copy, update) {
-            True.carry_out(copy, worker, update);
+    fn settle(&self, copy: &mut State, worker: usize, update: &Update, answer: Answer) {
+        if answer != Answer::Overrun {
+            True.settle(copy, worker, update, answer);
         }
     }
 
     fn check_answer(&self, settings: &Settings, w: usize, task: &Task) -> Option<Answer> {
-        let state = task.own_bucket().current();
-        let tried = !state.is_full(settings.bucket_size) && overruns(&state, &task.operation);
+        let bucket = task.own_bucket();
+        let state = bucket.current();
+        let held_back = state.is_full_below(settings, bucket.depth);
+        let tried = !held_back && overruns(&state, &task.operation);
         let overrun = tried.then_some(Answer::Overrun);
         True.check_answer(settings, w, task).or(overrun)
     }

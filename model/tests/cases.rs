@@ -122,11 +122,15 @@ fn a_split_then_crowded() {
         ("S 0 99", "answered added 23"),
         ("I 0 7 70", "ok"),
         ("S 0 99", "answered crowded 13"),
-        ("D 0 5", "ok"),
-        ("S 0 99", "answered crowded 13"),
         ("T", "5 50\n6 60\n2147483648 80\nend 3"),
+        // Document 02: it can be closed, and makes room.
+        ("D 0 5", "ok"),
+        ("S 0 99", "answered removed 13"),
+        ("I 0 7 70", "ok"),
+        ("S 0 99", "answered added 13"),
+        ("T", "6 60\n7 70\n2147483648 80\nend 3"),
     ]);
-    session(&pairs, &[1, 1, 2, 1, 1]);
+    session(&pairs, &[1, 1, 2, 1, 1, 1]);
 }
 
 #[test]
@@ -137,9 +141,23 @@ fn crowded_straight_away_and_the_split_stays() {
         ("S 0 99", "answered crowded 23"),
         ("T", "5 50\n6 60\nend 2"),
         ("D 0 5", "ok"),
-        ("S 0 99", "answered crowded 13"),
+        ("S 0 99", "answered removed 13"),
+        ("T", "6 60\nend 1"),
     ]);
     session(&pairs, &[1, 1, 2, 1]);
+}
+
+/// A full bucket below depth M still holds a delete back: it is split first.
+#[test]
+fn a_delete_splits_first() {
+    let mut pairs = HOLDING.to_vec();
+    pairs.extend([
+        ("D 0 5", "ok"),
+        ("S 0 22", "moved 22"),
+        ("S 0 1", "answered removed 23"),
+        ("T", "6 60\nend 1"),
+    ]);
+    session(&pairs, &[1, 1, 2]);
 }
 
 #[test]
@@ -251,8 +269,14 @@ fn the_plain_table_answers_as_its_rules_say() {
     assert_eq!(plain.apply(Kind::Lookup, 5, 0), Answer::Found(2));
     assert_eq!(plain.apply(Kind::Insert, 1 << 31, 3), Answer::Added);
     assert_eq!(plain.apply(Kind::Insert, 6, 4), Answer::Added);
-    assert_eq!(plain.apply(Kind::Insert, 5, 9), Answer::Crowded);
-    assert_eq!(plain.apply(Kind::Delete, 7, 0), Answer::Crowded);
+    // 5 and 6 leave no room for 7; what is there can be changed.
+    assert_eq!(plain.apply(Kind::Insert, 7, 9), Answer::Crowded);
+    assert_eq!(plain.apply(Kind::Lookup, 7, 0), Answer::None);
+    assert_eq!(plain.apply(Kind::Delete, 7, 0), Answer::Absent);
+    assert_eq!(plain.apply(Kind::Insert, 5, 9), Answer::Replaced);
     assert_eq!(plain.apply(Kind::Delete, 1 << 31, 0), Answer::Removed);
-    assert!(plain.lists_as(&[(5, 2), (6, 4)]));
+    assert!(plain.lists_as(&[(5, 9), (6, 4)]));
+    assert_eq!(plain.apply(Kind::Delete, 6, 0), Answer::Removed);
+    assert_eq!(plain.apply(Kind::Insert, 7, 9), Answer::Added);
+    assert!(plain.lists_as(&[(5, 9), (7, 9)]));
 }

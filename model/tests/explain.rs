@@ -71,11 +71,43 @@ fn crowded_is_explained_exactly_by_the_crowding_rule() {
         all.called(0, operation(Kind::Insert, account, 7));
         assert!(all.answered(0, Answer::Added).is_ok());
     }
-    let mut other_half = all.clone();
-    all.called(0, operation(Kind::Delete, 5, 0));
-    assert!(all.answered(0, Answer::Crowded).is_ok());
-    other_half.called(0, operation(Kind::Delete, 1 << 31, 0));
-    assert!(other_half.answered(0, Answer::Crowded).is_err());
+    let explains = |kind: Kind, account: u32, answer: Answer| {
+        let mut all = all.clone();
+        all.called(0, operation(kind, account, 9));
+        all.answered(0, answer).is_ok()
+    };
+    for (kind, there, new) in [
+        (Kind::Insert, Answer::Replaced, Answer::Added),
+        (Kind::Post, Answer::Posted(16), Answer::Posted(9)),
+        (Kind::Delete, Answer::Removed, Answer::Absent),
+    ] {
+        // An account that is there, a new one beside it, and one in the other half.
+        let crowds = kind != Kind::Delete;
+        assert!(explains(kind, 5, there) && !explains(kind, 5, Answer::Crowded));
+        assert_eq!(explains(kind, 7, Answer::Crowded), crowds);
+        assert_eq!(explains(kind, 7, new), !crowds);
+        assert!(explains(kind, 1 << 31, new) && !explains(kind, 1 << 31, Answer::Crowded));
+    }
+}
+
+#[test]
+fn crowded_is_explained_by_a_moment_before_room_was_made() {
+    for late in [false, true] {
+        let mut all = fresh();
+        for account in [5, 6] {
+            all.called(0, operation(Kind::Insert, account, 7));
+            assert!(all.answered(0, Answer::Added).is_ok());
+        }
+        if !late {
+            all.called(1, operation(Kind::Insert, 7, 7));
+        }
+        all.called(0, operation(Kind::Delete, 5, 0));
+        assert!(all.answered(0, Answer::Removed).is_ok());
+        if late {
+            all.called(1, operation(Kind::Insert, 7, 7));
+        }
+        assert_eq!(all.answered(1, Answer::Crowded).is_ok(), !late);
+    }
 }
 
 #[test]

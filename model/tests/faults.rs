@@ -1,5 +1,5 @@
-//! Each wrong machine is caught by the external statement, but for one, which the output of its
-//! stored order tells apart; each stored order is judged well on the true machine and gives the
+//! Each wrong machine is caught by the external statement, but for two, which the output of their
+//! stored orders tells apart; each stored order is judged well on the true machine and gives the
 //! stored output.
 
 mod stored;
@@ -15,28 +15,49 @@ use model::search::{search, verdict, By};
 use model::task::StepKind;
 use model::trace::record::record;
 use model::trace::Step;
+use model::wrong_crowding::WrongCrowding;
 use model::wrong_posts::WrongPost;
 use stored::{lines, output, stored};
 
 /// Wrong machines that random search with this seed and budget does not catch by the external
 /// statement; their stored orders do.
-const NOT_BY_SEARCH: [Fault; 3] = [
+const NOT_BY_SEARCH: [Fault; 4] = [
     Fault::OneDirectoryRound,
     Fault::AnnounceApplies,
+    Fault::Crowding(WrongCrowding::AtCheck),
     Fault::Post(WrongPost::OverrunNotSettled),
 ];
 
-/// The wrong machine of which no order is known that the external statement rejects: where it
-/// misses an update, a later moment is found for it. Its stored order tells it apart by the output.
-const NOT_BY_STATEMENT: [Fault; 1] = [Fault::SlotsBackwards];
+/// The wrong machines of which no order is known that the external statement rejects: a later moment
+/// is found for an update that the one misses, and for a crowded one that the other carries out
+/// before its worker has an answer. Their stored orders tell them apart by the output.
+const NOT_BY_STATEMENT: [Fault; 2] = [
+    Fault::SlotsBackwards,
+    Fault::Crowding(WrongCrowding::TriedAgain),
+];
+
+/// The wrong machine whose stored order only tells it apart by the output, and the order that the
+/// external statement rejects.
+const REJECTED_BY: (Fault, &str) = (Fault::DeleteIntoFull, "account-brought-back");
 const SEED: u64 = 1;
 const BUDGET: u64 = 100_000;
 
 /// Stored orders that are not named after a fault, with the fault whose output they tell apart
 /// from the true machine's.
-const MORE: [(&str, Fault); 8] = [
+const MORE: [(&str, Fault); 13] = [
+    ("account-brought-back", Fault::DeleteIntoFull),
     ("crowded-after-anothers-split", Fault::OneDirectoryRound),
     ("crowded-after-own-split", Fault::OneDirectoryRound),
+    (
+        "crowded-is-settled",
+        Fault::Crowding(WrongCrowding::AtCheck),
+    ),
+    ("full-takes-changes", Fault::Crowding(WrongCrowding::Delete)),
+    (
+        "room-in-one-split",
+        Fault::Crowding(WrongCrowding::HeldBackAfterSplits),
+    ),
+    ("room-in-one-swap", Fault::FullAsRead),
     ("own-update-only-listing", Fault::OwnUpdateOnly),
     ("toggle-ignored-listing", Fault::ToggleIgnored),
     ("announce-applies-listing", Fault::AnnounceApplies),
@@ -75,7 +96,10 @@ fn random_search_catches_faults_by_the_external_statement() {
 fn every_fault_has_a_stored_order_that_the_external_statement_rejects() {
     let rejected = |fault: &Fault| !NOT_BY_STATEMENT.contains(fault);
     for fault in Fault::ALL.into_iter().filter(rejected) {
-        let order = lines(fault.name());
+        let order = match fault == REJECTED_BY.0 {
+            true => lines(REJECTED_BY.1),
+            false => lines(fault.name()),
+        };
         assert!(is_rejected(fault, &order), "{fault:?}");
         assert!(
             verdict(By::AllAssertions, fault, &order).is_err(),
@@ -114,7 +138,12 @@ fn the_second_directory_round_is_needed() {
     assert_eq!(last.worker, 0);
     assert_eq!(last.report.stepped, answered);
     assert_eq!(last.report.kind, StepKind::CheckState { check: 4 });
-    assert_eq!(last.moments.len(), 1);
+    // Crowded is settled by the swap before, with nothing left for the check to find out.
+    let settles = |event: &&Event| event.moments.iter().any(|moment| moment.worker == 0);
+    let settling = all.events.iter().rfind(settles).expect("a moment");
+    assert_eq!(settling.moments[0].answer, Answer::Crowded);
+    let swapped = StepKind::SwapDirectory { succeeded: true };
+    assert_eq!((settling.worker, settling.report.kind), (0, swapped));
     let fault = Fault::OneDirectoryRound;
     assert!(verdict(By::AllAssertions, fault, &order).is_err());
     assert!(verdict(By::External, fault, &order).is_err());
@@ -154,15 +183,35 @@ fn an_announcement_that_applies_changes_two_cells_at_once() {
 
 #[test]
 fn slots_read_backwards_show_in_a_listing() {
+    let fault = Fault::SlotsBackwards;
+    // Worker 1 announces between worker 0's two reads of slots, and is taken.
+    assert!(output(fault.name(), Fault::None).ends_with("2147483649 90\nend 4\n"));
+    // Read backwards, its slot comes too early: it is not taken, and has its moment later.
+    assert!(output(fault.name(), fault).ends_with("2147483648 80\nend 3\n"));
+}
+
+#[test]
+fn a_crowded_update_that_is_tried_again_shows_in_its_answer() {
+    let fault = Fault::Crowding(WrongCrowding::TriedAgain);
+    // Worker 0's split settles worker 1's insert as crowded, and then worker 0 makes room.
+    let listing = "6 60\n2147483648 80\nend 2\n";
+    let crowded = format!("answered removed 15\nanswered crowded 15\n{listing}");
+    assert!(output(fault.name(), Fault::None).ends_with(&crowded));
+    let listing = "6 60\n7 70\n2147483648 80\nend 3\n";
+    let added = format!("answered removed 15\nanswered added 15\n{listing}");
+    assert!(output(fault.name(), fault).ends_with(&added));
+}
+
+#[test]
+fn some_wrong_machines_are_found_by_all_assertions_only() {
     for fault in NOT_BY_STATEMENT {
         let order = lines(fault.name());
-        // Worker 1 announces between worker 0's two reads of slots, and is taken.
-        assert!(output(fault.name(), Fault::None).ends_with("2147483649 90\nend 4\n"));
-        // Read backwards, its slot comes too early: it is not taken, and has its moment later.
-        assert!(output(fault.name(), fault).ends_with("2147483648 80\nend 3\n"));
+        assert!(verdict(By::AllAssertions, fault, &order).is_err());
         assert!(verdict(By::External, fault, &order).is_ok());
+        let (_, failure) = search(By::AllAssertions, fault, SEED, BUDGET);
+        assert!(failure.is_some(), "{fault:?}");
         let (_, failure) = search(By::External, fault, SEED, BUDGET);
-        assert!(failure.is_none());
+        assert!(failure.is_none(), "{fault:?}");
     }
 }
 

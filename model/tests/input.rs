@@ -1,7 +1,10 @@
 //! Random input for `totals`: a function of the seed, worth answering, and with settings of every sort.
 
+use model::check::Counts;
 use model::fault::Fault;
 use model::input::Input;
+use model::judge::{judge, Internal};
+use model::lines::{read_line, Line};
 use model::totals::transcript;
 use std::collections::HashSet;
 
@@ -47,6 +50,45 @@ fn every_sort_of_answer_occurs() {
     for word in ["ok", "refused", "moved", "unread", "end"] {
         assert!(sorts.contains(word), "{word}");
     }
+}
+
+#[test]
+fn full_buckets_at_the_greatest_depth_are_met_with_every_update() {
+    let mut counts = Counts::default();
+    for seed in 1..=20 {
+        let read = |line: &Vec<u8>| read_line(line);
+        let order: Vec<Line> = lines(seed, 1_500).iter().filter_map(read).collect();
+        let judged = judge(&mut Internal::new(Fault::None), &order);
+        counts.add(&judged.expect("every assertion holds"));
+    }
+    println!("{counts:?}");
+    let full = counts.amid_full;
+    assert!(full.crowded > 300, "{full:?}");
+    assert!(full.replaced > 200, "{full:?}");
+    assert!(full.posted > 100, "{full:?}");
+    assert!(full.removed > 50, "{full:?}");
+    assert!(full.absent > 50, "{full:?}");
+    assert!(full.overruns > 20, "{full:?}");
+    assert!(full.helped_crowded > 10, "{full:?}");
+    assert!(full.room_since > 2, "{full:?}");
+    assert!(full.made_room > 2, "{full:?}");
+}
+
+#[test]
+fn crowded_input_keeps_buckets_full() {
+    let mut input = Input::crowded(3);
+    let order: Vec<Line> = (0..30_000)
+        .filter_map(|_| read_line(&input.next_line()))
+        .collect();
+    let judged = judge(&mut Internal::new(Fault::None), &order);
+    let counts = judged.expect("every assertion holds");
+    println!("{counts:?}");
+    let full = counts.amid_full;
+    assert!(full.crowded > 500, "{full:?}");
+    assert!(full.replaced > 300, "{full:?}");
+    assert!(full.removed > 100, "{full:?}");
+    assert!(full.posted > 200, "{full:?}");
+    assert!(full.absent > 100, "{full:?}");
 }
 
 #[test]

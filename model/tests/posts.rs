@@ -1,12 +1,12 @@
 //! Posts as document 02 has them: the sum, the account made, overrun at both ends of the range,
-//! crowded first, and what a helped worker is told.
+//! crowded for a new account only, and what a helped worker is told.
 
 mod session;
 
 use model::fault::Fault;
 use model::machine::{Machine, Stepped};
 use model::plain::Plain;
-use model::records::{Answer, Kind, Settled, KIND_INSERT, KIND_POST};
+use model::records::{Answer, Kind, Settled, KIND_DELETE, KIND_INSERT, KIND_POST};
 use model::settings::Settings;
 
 fn session(pairs: &[(&str, &str)], checks: &[u8]) {
@@ -141,8 +141,9 @@ fn a_sum_below_the_range_is_turned_down() {
     );
 }
 
+/// A sum outside the range needs a total that is there, and crowded an account that is not.
 #[test]
-fn crowded_is_decided_first() {
+fn only_a_post_to_a_new_account_is_crowded() {
     session(
         &[
             ("O 1 2 1", "ok"),
@@ -151,13 +152,15 @@ fn crowded_is_decided_first() {
             ("P 0 6 60", "ok"),
             ("S 0 99", "answered posted 60 13"),
             // The split comes before the answer.
-            ("P 0 5 1", "ok"),
+            ("P 0 7 1", "ok"),
             ("S 0 99", "answered crowded 23"),
             ("P 0 5 1", "ok"),
-            ("S 0 99", "answered crowded 13"),
-            ("P 0 6 0", "ok"),
-            ("S 0 99", "answered crowded 13"),
+            ("S 0 99", "answered overrun 13"),
+            ("P 0 6 -60", "ok"),
+            ("S 0 99", "answered posted 0 13"),
             ("P 0 7 0", "ok"),
+            ("S 0 99", "answered crowded 13"),
+            ("P 0 7 -9223372036854775808", "ok"),
             ("S 0 99", "answered crowded 13"),
             ("P 0 2147483648 -9223372036854775808", "ok"),
             ("S 0 99", "answered posted -9223372036854775808 13"),
@@ -165,10 +168,10 @@ fn crowded_is_decided_first() {
             ("S 0 99", "answered overrun 13"),
             (
                 "T",
-                "5 9223372036854775807\n6 60\n2147483648 -9223372036854775808\nend 3",
+                "5 9223372036854775807\n6 0\n2147483648 -9223372036854775808\nend 3",
             ),
         ],
-        &[1, 1, 2, 1, 1, 1, 1, 1],
+        &[1, 1, 2, 1, 1, 1, 1, 1, 1],
     );
 }
 
@@ -242,7 +245,7 @@ fn run(machine: &mut Machine, kind: u64, account: u32, total: i64) -> Stepped {
 }
 
 #[test]
-fn every_answer_of_a_post_but_crowded_is_settled_with_its_total() {
+fn every_answer_of_a_post_is_settled_with_its_total() {
     let mut machine = Machine::open(1, 2, 0, u64::MAX).expect("in range");
     let mut ticket = 0;
     let mut settles = |kind, account, total, answer: Answer| {
@@ -260,16 +263,14 @@ fn every_answer_of_a_post_but_crowded_is_settled_with_its_total() {
     settles(KIND_POST, 5, -7, Answer::Posted(i64::MAX - 7));
     settles(KIND_INSERT, 5, 50, Answer::Replaced);
     settles(KIND_POST, 6, 0, Answer::Posted(0));
-    // Full now: the last settled stays.
-    let stepped = run(&mut machine, KIND_POST, 6, 1);
-    let crowded = Stepped::Answered {
-        answer: Answer::Crowded,
-        steps: 13,
-        check: 1,
-    };
-    assert_eq!(stepped, crowded);
-    let bucket = machine.directory.bucket(6);
-    assert_eq!(bucket.current().settled[0].ticket, 5);
+    // Full now, at depth M.
+    settles(KIND_POST, 7, 1, Answer::Crowded);
+    settles(KIND_INSERT, 7, 1, Answer::Crowded);
+    settles(KIND_POST, 6, 1, Answer::Posted(1));
+    settles(KIND_POST, 6, i64::MAX, Answer::Overrun);
+    settles(KIND_DELETE, 7, 0, Answer::Absent);
+    settles(KIND_DELETE, 6, 0, Answer::Removed);
+    settles(KIND_POST, 7, 1, Answer::Posted(1));
 }
 
 #[test]
@@ -284,9 +285,12 @@ fn the_plain_table_posts() {
     assert_eq!(post(1 << 31, i64::MAX), Answer::Posted(i64::MAX));
     assert_eq!(post(1 << 31, i64::MAX), Answer::Overrun);
     assert_eq!(post(6, 7), Answer::Posted(7));
-    // 5 and 6 crowd each other out, whatever the sum would be.
-    assert_eq!(post(5, i64::MIN), Answer::Crowded);
-    assert_eq!(post(6, 0), Answer::Crowded);
-    assert_eq!(post(7, 0), Answer::Crowded);
-    assert!(plain.lists_as(&[(5, -1), (6, 7), (1 << 31, i64::MAX)]));
+    // 5 and 6 leave no room for 7, whatever the amount; their own totals can be changed.
+    assert_eq!(post(5, i64::MIN), Answer::Overrun);
+    assert_eq!(post(6, 0), Answer::Posted(7));
+    assert_eq!(post(6, -8), Answer::Posted(-1));
+    for amount in [0, 1, i64::MAX, i64::MIN] {
+        assert_eq!(post(7, amount), Answer::Crowded);
+    }
+    assert!(plain.lists_as(&[(5, -1), (6, -1), (1 << 31, i64::MAX)]));
 }

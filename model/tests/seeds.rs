@@ -27,6 +27,15 @@ fn every_assertion_holds_over_the_fixed_seeds() {
     assert!(counts.posted > 20_000, "{counts:?}");
     assert!(counts.overruns > 1_000, "{counts:?}");
     assert!(counts.helped_posts > 5_000, "{counts:?}");
+    let full = counts.amid_full;
+    assert!(full.replaced > 10_000, "{full:?}");
+    assert!(full.posted > 5_000, "{full:?}");
+    assert!(full.removed > 5_000, "{full:?}");
+    assert!(full.absent > 2_000, "{full:?}");
+    assert!(full.overruns > 1_000, "{full:?}");
+    assert!(full.helped_crowded > 2_000, "{full:?}");
+    assert!(full.room_since > 500, "{full:?}");
+    assert!(full.made_room > 200, "{full:?}");
 }
 
 #[test]

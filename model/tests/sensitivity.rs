@@ -118,7 +118,7 @@ fn run(machine: &mut Machine, ledger: &mut Ledger, line: &Line, failed: &mut BTr
 fn every_such_assertion_can_fail() {
     let mut failed = BTreeMap::new();
     let mut seeds = Prng::new(11);
-    for number in 0..600 {
+    for number in 0..3_000 {
         let seed = seeds.draw();
         let mut generator = Generator::new(seed, false);
         let stored = variation(&mut Prng::new(seed));

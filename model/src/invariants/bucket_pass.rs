@@ -100,22 +100,25 @@ fn b2(scene: &Scene) -> Check {
     })
 }
 
-fn settled_or_full(scene: &Scene, j: usize, task: &Task) -> bool {
+fn settled_or_held_back(scene: &Scene, j: usize, task: &Task) -> bool {
     let bucket = task.pass_bucket();
     let settled = bucket.state.borrow().is_settled(j, task.operation.ticket);
-    settled || scene.is_full(bucket)
+    settled || scene.is_full_below(bucket)
 }
 
-/// In rounds with applied equal to toggle: settled there, or the bucket is full.
+/// In rounds with applied equal to toggle: settled there, or the bucket is full below
+/// depth M.
 fn w0(scene: &Scene) -> Check {
     every_update(scene, Task::in_bucket_rounds, |j, task| {
         let bucket = task.pass_bucket();
         let differs = applied_bit(bucket, j) != toggle_bit(bucket, j);
-        differs || settled_or_full(scene, j, task)
+        differs || settled_or_held_back(scene, j, task)
     })
 }
 
 /// The same after the bucket pass.
 fn w1(scene: &Scene) -> Check {
-    every_update(scene, after_pass, |j, task| settled_or_full(scene, j, task))
+    every_update(scene, after_pass, |j, task| {
+        settled_or_held_back(scene, j, task)
+    })
 }

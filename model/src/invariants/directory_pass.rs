@@ -50,22 +50,22 @@ fn w2(scene: &Scene) -> Check {
     every_update(scene, at, |j, task| all_saw(scene, j, task))
 }
 
-/// Pass 2's bucket pass past the directory read: the bucket is the leaf, or closed.
+/// Pass 2's bucket pass past the directory read: the bucket is the leaf, or Done.
 fn w3_first(scene: &Scene) -> Check {
     let bucket_pass = |task: &Task| task.in_bucket_rounds() || task.next == Position::Flip;
     let at = |task: &Task| task.checks == 2 && bucket_pass(task);
     every_update(scene, at, |j, task| {
         let leaf = scene.leaf(task.operation.account);
-        Rc::ptr_eq(task.own_bucket(), leaf) || scene.is_closed(j, &task.operation)
+        Rc::ptr_eq(task.own_bucket(), leaf) || scene.is_done(j, &task.operation)
     })
 }
 
-/// Pass 2 past the bucket pass: Done, or the leaf is full.
+/// Pass 2 past the bucket pass: Done, or the leaf is full below depth M.
 fn w3(scene: &Scene) -> Check {
     let at = |task: &Task| task.checks == 3 || (task.checks == 2 && in_check(task));
     every_update(scene, at, |j, task| {
-        let full = scene.is_full(scene.leaf(task.operation.account));
-        full || scene.is_done(j, &task.operation)
+        let held_back = scene.is_full_below(scene.leaf(task.operation.account));
+        held_back || scene.is_done(j, &task.operation)
     })
 }
 
@@ -89,18 +89,18 @@ fn w4_self(scene: &Scene) -> Check {
     every_update(scene, at, |j, task| scene.covers(task, j, &task.operation))
 }
 
-/// Pass 2's round 2 past the directory read: directory-fresh, or closed.
+/// Pass 2's round 2 past the directory read: directory-fresh, or Done.
 fn w4a(scene: &Scene) -> Check {
     let at = |task: &Task| task.checks == 3 && task.round == 1 && task.working.is_some();
     every_update(scene, at, |j, task| {
-        scene.is_closed(j, &task.operation) || scene.is_directory_fresh(task)
+        scene.is_done(j, &task.operation) || scene.is_directory_fresh(task)
     })
 }
 
-/// After it: closed.
+/// After it: Done.
 fn w4(scene: &Scene) -> Check {
     let at = |task: &Task| (task.checks == 3 && in_check(task)) || task.checks > 3;
-    every_update(scene, at, |j, task| scene.is_closed(j, &task.operation))
+    every_update(scene, at, |j, task| scene.is_done(j, &task.operation))
 }
 
 /// What a directory-fresh worker has found full below M is still a leaf, and full: accounts,
@@ -114,7 +114,7 @@ fn d4(scene: &Scene) -> Check {
             let leaf = scene.current.iter().any(|leaf| Rc::ptr_eq(leaf, bucket));
             let now = bucket.current();
             let same = now.items == read.items && now.settled == read.settled;
-            ensure(leaf && same && scene.is_full(bucket), || {
+            ensure(leaf && same && scene.is_full_below(bucket), || {
                 format!("worker {p}, bucket {}:{}", bucket.depth, bucket.prefix)
             })?;
         }
@@ -141,7 +141,7 @@ fn working_copy(scene: &Scene) -> Check {
     Ok(())
 }
 
-/// In the fourth check the bucket held has the ticket settled or is full at depth M.
+/// In the fourth check the bucket held has the ticket settled.
 fn fourth_check(scene: &Scene) -> Check {
     for (j, task) in scene.updates() {
         ensure(task.checks <= 3, || format!("worker {j} is past it"))?;
@@ -149,9 +149,7 @@ fn fourth_check(scene: &Scene) -> Check {
             let bucket = task.own_bucket();
             let state = bucket.current();
             let settled = state.is_settled(j, task.operation.ticket);
-            ensure(settled || scene.is_full_at_most_depth(bucket), || {
-                format!("worker {j}")
-            })?;
+            ensure(settled, || format!("worker {j}"))?;
         }
     }
     Ok(())

@@ -24,25 +24,15 @@ impl<'a> Scene<'a> {
         self.current.iter().chain(self.retired)
     }
 
-    pub fn is_full(&self, bucket: &Bucket) -> bool {
-        let size = self.machine.settings.bucket_size;
-        let full = bucket.state.borrow().is_full(size);
-        full
-    }
-
-    /// Full at depth M.
-    pub fn is_full_at_most_depth(&self, bucket: &Bucket) -> bool {
-        bucket.depth == self.machine.settings.greatest_depth && self.is_full(bucket)
+    /// What holds an update back: full below depth M.
+    pub fn is_full_below(&self, bucket: &Bucket) -> bool {
+        let state = bucket.state.borrow();
+        state.is_full_below(&self.machine.settings, bucket.depth)
     }
 
     /// Done: settled in the account's current bucket.
     pub fn is_done(&self, worker: usize, update: &Update) -> bool {
         crate::moments::is_done(self.machine, worker, update)
-    }
-
-    /// Closed: Done, or the current bucket is full at depth M.
-    pub fn is_closed(&self, worker: usize, update: &Update) -> bool {
-        self.is_done(worker, update) || self.is_full_at_most_depth(self.leaf(update.account))
     }
 
     /// Workers with an announced update under way.
@@ -84,7 +74,7 @@ impl<'a> Scene<'a> {
             .filter(|(_, task)| self.is_directory_fresh(task))
     }
 
-    /// If p is past its state step j: j is Closed, or its leaf is among the buckets p splits.
+    /// If p is past its state step j: j is Done, or its leaf is among the buckets p splits.
     pub fn covers(&self, p: &Task, j: usize, update: &Update) -> bool {
         let past = match p.next {
             Position::ResizeState(next) => next > j,
@@ -93,7 +83,7 @@ impl<'a> Scene<'a> {
         };
         // For a directory-fresh p the leaf is split exactly if its place holds a made bucket.
         let splits = |working: &Working| working.is_made(working.bucket(update.account));
-        !past || self.is_closed(j, update) || p.working.as_ref().is_some_and(splits)
+        !past || self.is_done(j, update) || p.working.as_ref().is_some_and(splits)
     }
 }
 

@@ -74,8 +74,7 @@ fn lies_in(bucket: &Bucket, other: &Bucket) -> bool {
 fn s4(scene: &Scene) -> Check {
     let depth = scene.machine.directory.depth;
     for bucket in scene.retired {
-        let below = bucket.depth < scene.machine.settings.greatest_depth;
-        ensure(below && scene.is_full(bucket), || {
+        ensure(scene.is_full_below(bucket), || {
             format!("retired {}:{} not full", bucket.depth, bucket.prefix)
         })?;
         ensure(bucket.depth <= depth, || "deeper than all".to_string())?;
@@ -103,13 +102,13 @@ fn s5(scene: &Scene) -> Check {
     Ok(())
 }
 
-/// A slot's update is Closed, or it is the announced update under way.
+/// A slot's update is Done, or it is the announced update under way.
 fn slots(scene: &Scene) -> Check {
     for (j, slot) in scene.machine.slots.iter().enumerate() {
         let Some(update) = slot else { continue };
         let task = scene.machine.workers[j].task.as_ref();
         let under_way = task.is_some_and(|t| t.is_announced() && t.operation == *update);
-        ensure(under_way || scene.is_closed(j, update), || {
+        ensure(under_way || scene.is_done(j, update), || {
             format!("slot {j} holds {update:?}")
         })?;
     }
@@ -122,7 +121,7 @@ fn d2(scene: &Scene) -> Check {
         for (j, read) in task.slots.iter().enumerate() {
             let Some(update) = read else { continue };
             let stands = scene.machine.slots[j] == *read;
-            ensure(stands || scene.is_closed(j, update), || {
+            ensure(stands || scene.is_done(j, update), || {
                 format!("worker {p} read slot {j} as {update:?}")
             })?;
         }
