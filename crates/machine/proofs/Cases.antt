@@ -104,13 +104,14 @@ session-lines =
     ∷ L 0 5 ⟶ ok ∷ S 0 2 ⟶ answered (Found (pos 700)) 2 ∷ T ⟶ listed ((5, pos 700) ∷ []) ∷ [])
     refl
 
--- "P: n 1, b 2, M 1, holding 5 and 6: insert 2147483648 is added in 23 steps. Then insert 7 is crowded in 13; so is delete 5."
+-- "P: n 1, b 2, M 1, holding 5 and 6: insert 2147483648 is added in 23 steps. Then insert 7 is crowded in 13"; 02, No. 2: "delete 5 is
+-- then removed, 13 steps."
 unfoldable pub split-then-crowded : Case
 unfolding computing
 split-then-crowded =
     driverCase (
-    one-holding-5-6 ++ I 0 2_147_483_648 (pos 1) gets Added at 23 ++ I 0 7 (pos 70) gets Crowded at 13 ++ D 0 5 gets Crowded at 13
-    ++ T ⟶ listed ((5, pos 50) ∷ (6, pos 60) ∷ (2_147_483_648, pos 1) ∷ []) ∷ [])
+    one-holding-5-6 ++ I 0 2_147_483_648 (pos 1) gets Added at 23 ++ I 0 7 (pos 70) gets Crowded at 13 ++ D 0 5 gets Removed at 13
+    ++ T ⟶ listed ((6, pos 60) ∷ (2_147_483_648, pos 1) ∷ []) ∷ [])
     refl
 
 -- "P: same, but insert 7 straight after 5 and 6: crowded in 23, and the split stays": the next insert into the other half takes 13
@@ -475,8 +476,8 @@ unfolding computing
 split-while-full =
     driverCase (
     O 1 2 3 ⟶ ok ∷ [] ++ I 0 5 (pos 50) gets Added at 13 ++ I 0 6 (pos 60) gets Added at 13 ++ I 0 536_870_912 (pos 1) gets Added at 23
-    ++ D 0 5 gets Crowded at 13 ++ L 0 5 gets Found (pos 50) at 2 ++ T ⟶ listed ((5, pos 50) ∷ (6, pos 60) ∷ (536_870_912, pos 1) ∷ [])
-    ∷ [])
+    ++ I 0 7 (pos 70) gets Crowded at 13 ++ L 0 5 gets Found (pos 50) at 2
+    ++ T ⟶ listed ((5, pos 50) ∷ (6, pos 60) ∷ (536_870_912, pos 1) ∷ []) ∷ [])
     refl
 
 -- A directory of depth 1 doubled without moving its entries: the other half would be lost.

@@ -46,13 +46,15 @@ overrun-at-both-ends =
     ∷ T ⟶ listed ((5, negℤ (pos 9_223_372_036_854_775_808)) ∷ (6, negℤ (pos 9_223_372_036_854_775_808)) ∷ []) ∷ [])
     refl
 
--- overrun is "decided after crowded"
+-- A post that overruns on an account that is there is overrun, also among b neighbours. Overrun is "decided after crowded": of a new
+-- account this shows for amounts outside the range alone, which no call has.
 unfoldable pub crowded-before-overrun : Case
 unfolding computing
 crowded-before-overrun =
     driverCase (
     O 1 2 0 ⟶ ok ∷ I 0 5 (pos 9_223_372_036_854_775_807) ⟶ ok ∷ S 0 13 ⟶ answered Added 13 ∷ I 0 6 (pos 60) ⟶ ok
-    ∷ S 0 13 ⟶ answered Added 13 ∷ P 0 5 (pos 1) ⟶ ok ∷ S 0 13 ⟶ answered Crowded 13 ∷ [])
+    ∷ S 0 13 ⟶ answered Added 13 ∷ P 0 5 (pos 1) ⟶ ok ∷ S 0 13 ⟶ answered Overrun 13
+    ∷ P 0 7 (pos 9_223_372_036_854_775_808) ⟶ ok ∷ S 0 13 ⟶ answered Crowded 13 ∷ [])
     refl
 
 -- Three workers post to one account at once, and one carries out all three: none is lost, and each is told the total of its own moment.

@@ -3,13 +3,12 @@
 use Prim.Native.Nat.{ℕ, zero, suc}
 use mathlib.Core.Bool.{Bool, true, false, not, xor}
 use mathlib.Core.Option.{Option, none, some}
-use lib.Dec.{leb, ltb, eqb}
+use lib.Dec.{leb, ltb}
 use lib.ListN.{length}
 use Rattle.interface.specs.declared.Settings.{Settings}
 use Rattle.interface.specs.declared.Answer.{Answer}
-use Rattle.interface.specs.declared.Answer.the-variants.{Crowded}
 use Rattle.machine.specs.Choice.{if_then_else_, _and_, assign}
-use Rattle.machine.specs.Sequential.{Table, Update, result, changed}
+use Rattle.machine.specs.Sequential.{Update, tried}
 use Rattle.machine.specs.Records.{Settled, Body, State, Slot, empty, announced}
 
 -- ---- a bucket's body
@@ -18,28 +17,26 @@ use Rattle.machine.specs.Records.{Settled, Body, State, Slot, empty, ann
 unfoldable pub full : Settings → Body → Bool
 full s x = leb (s .capacity) (length (x .items))
 
--- "A full bucket takes no update, deletes included." The number is the bucket's depth.
-unfoldable pub holdsBack : Settings → ℕ → Body → Bool
-holdsBack s d x = full s x
-
--- full below depth M: to be split
+-- full below depth M: to be split. The number is the bucket's depth.
 unfoldable pub splittable : Settings → ℕ → Body → Bool
 splittable s d x = full s x and ltb d (s .depth)
 
--- full at depth M: an update that is not settled there is crowded (overflow at the greatest depth)
-unfoldable pub crowded : Settings → ℕ → Body → Bool
-crowded s d x = full s x and eqb d (s .depth)
+-- "only a bucket that is full below depth M holds an update back" (02, No. 2)
+unfoldable pub holdsBack : Settings → ℕ → Body → Bool
+holdsBack s d x = splittable s d x
 
 -- "A ticket is settled in a bucket when that number is not below it."
 unfoldable pub settledAt : Body → ℕ → ℕ → Bool
 settledAt x j t = leb t (x .settled j .ticket)
 
--- worker j's update with ticket t carried out: its ticket is settled with its answer
-unfoldable pub carryOut : ℕ → Update → ℕ → Body → Body
-carryOut j u t x =
+-- Worker j's update with ticket t carried out: its ticket is settled with its answer. "At depth M a full bucket now
+-- takes deletes, replacements and posts to accounts it holds"; for a new account crowded "is settled with its ticket
+-- like any other answer".
+unfoldable pub carryOut : Settings → ℕ → Update → ℕ → Body → Body
+carryOut s j u t x =
     record {
-      items = changed u (x .items);
-      settled = assign (x .settled) j (record { ticket = t; answer = result u (x .items) });
+      items = tried (full s x) u (x .items) .1;
+      settled = assign (x .settled) j (record { ticket = t; answer = tried (full s x) u (x .items) .0 });
     }
 
 -- ---- a round
@@ -48,11 +45,11 @@ carryOut j u t x =
 unfoldable pub pending : State → (ℕ → Bool) → ℕ → ℕ → Bool
 pending x toggle j t = xor (toggle j) (x .applied j) and not (settledAt (x .body) j t)
 
--- "the update is carried out on a private copy, unless the copy is full": in a bucket of depth d
+-- "the update is carried out on a private copy", unless the copy, of a bucket of depth d, holds it back
 unfoldable pub help : Settings → ℕ → State → (ℕ → Bool) → ℕ → Slot → Body → Body
 help s d x toggle j empty copy = copy
 help s d x toggle j (announced u t) copy =
-    if pending x toggle j t and not (holdsBack s d copy) then carryOut j u t copy else copy
+    if pending x toggle j t and not (holdsBack s d copy) then carryOut s j u t copy else copy
 
 -- the private copy once the workers below n have been helped, in worker order
 unfoldable pub helped : Settings → ℕ → State → (ℕ → Bool) → (ℕ → Slot) → ℕ → Body
@@ -65,8 +62,6 @@ nextState s d x toggle slots = record { body = helped s d x toggle slots (s .wor
 
 -- ---- a check
 
--- "If the own ticket is settled there, its answer is given. If not, and the bucket is full at depth M, the answer is
--- crowded." Worker j, its ticket t, a bucket of depth d.
-unfoldable pub checked : Settings → ℕ → ℕ → ℕ → Body → Option Answer
-checked s j t d x =
-    if settledAt x j t then some (x .settled j .answer) else if crowded s d x then some Crowded else none
+-- "The checks then answer only from settled tickets": worker j, its ticket t.
+unfoldable pub checked : ℕ → ℕ → Body → Option Answer
+checked j t x = if settledAt x j t then some (x .settled j .answer) else none

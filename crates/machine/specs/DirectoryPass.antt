@@ -67,10 +67,10 @@ splitWhile s (suc f) a c = splitWhile s f a (splitLeaf s c (leafOf c a))
 
 -- ---- the updates that are taken
 
--- "the update is carried out if the bucket is then not full"
+-- the update is carried out in the bucket that it belongs to then, unless this holds it back
 unfoldable pub carryLeaf : Settings → ℕ → Update → ℕ → Copy → Leaf → Copy
 carryLeaf s j u t c (kept x) = c
-carryLeaf s j u t c (made x b) = if holdsBack s (x .depth) b then c else replaceLeaf x (made x (carryOut j u t b)) c
+carryLeaf s j u t c (made x b) = if holdsBack s (x .depth) b then c else replaceLeaf x (made x (carryOut s j u t b)) c
 
 unfoldable pub takeUpdate : Settings → ℕ → Update → ℕ → Copy → Copy
 takeUpdate s j u t c =

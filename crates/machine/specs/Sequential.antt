@@ -1,7 +1,7 @@
--- The sequential specification: document 01's plain table, with document 02's posts. Rests on the enum of answers
--- alone.
+-- The sequential specification: document 01's plain table, with document 02's posts and its rule of crowding. Rests on
+-- the enum of answers alone.
 use Prim.Native.Nat.{ℕ, _-_, _/_, _%_, _^_, _<_}
-use mathlib.Core.Bool.{Bool, _&&_}
+use mathlib.Core.Bool.{Bool, true, false, _&&_}
 use mathlib.Core.List.{List, [], _∷_}
 use mathlib.Core.Option.{Option, none, some}
 use lib.Dec.{ltb, leb, eqb}
@@ -10,7 +10,7 @@ use lib.IntN.{ℤ, pos, negsuc, _+ℤ_}
 use lib.Signed.{leZ}
 use Rattle.interface.specs.declared.Answer.{Answer}
 use Rattle.interface.specs.declared.Answer.the-variants.{Added, Replaced, Removed, Absent, Found, None, Posted, Crowded, Overrun}
-use Rattle.machine.specs.Choice.{if_then_else_}
+use Rattle.machine.specs.Choice.{if_then_else_, _and_}
 
 -- ---- operations
 
@@ -69,6 +69,7 @@ having d q (e ∷ t) = if eqb (firstBits d (e .0)) q then e ∷ having d q t els
 
 -- ---- what an update does where there is room for it
 
+-- one answer where the account is there, the other where it is missing
 unfoldable pub present : Option ℤ → Answer → Answer → Answer
 present (some v) there missing = there
 present none there missing = missing
@@ -113,14 +114,30 @@ unfoldable pub looked : Option ℤ → Answer
 looked (some v) = Found v
 looked none = None
 
--- "the table holds b accounts that agree with its account in the first M bits"
+abbrev pub isNone : Option ℤ → Bool
+isNone (some v) = false
+isNone none = true
+
+-- "a new account" (02, No. 2): an insert or a post whose account is not there
+unfoldable pub creates : Update → Table → Bool
+creates (insert a v) t = isNone (find t a)
+creates (delete a) t = false
+creates (post a v) t = isNone (find t a)
+
+-- The answer, and the table afterwards; the test says that there is no room for a new account. Crowded is the field's
+-- overflow at the greatest depth. "Crowded is left for a new account": "closing or correcting an account must work
+-- however many neighbours it has".
+unfoldable pub tried : Bool → Update → Table → Answer × Table
+tried noRoom u t = if noRoom and creates u t then (Crowded, t) else (result u t, changed u t)
+
+-- "where b others agree with it in the first M bits"
 unfoldable pub crowds : ℕ → ℕ → ℕ → Table → Bool
 crowds b M a t = leb b (length (having M (firstBits M a) t))
 
 -- the answer, and the table afterwards
 unfoldable pub serve : ℕ → ℕ → Operation → Table → Answer × Table
 serve b M (lookup a) t = (looked (find t a), t)
-serve b M (update u) t = if crowds b M (account u) t then (Crowded, t) else (result u t, changed u t)
+serve b M (update u) t = tried (crowds b M (account u) t) u t
 
 -- ---- ascending tables
 

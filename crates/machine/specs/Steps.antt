@@ -104,10 +104,9 @@ swapped s d r x =
 unfoldable pub stateSwapping : Settings → Reads → ℕ → Access
 stateSwapping s r a = stateCell (ownName r a) (λ x. leaving (swapped s (ownName r a .depth) r x) r)
 
-unfoldable pub stateChecking : Settings → ℕ → Reads → ℕ → ℕ → Access
-stateChecking s j r a t =
-    stateCell (ownName r a)
-    (λ x. record { contents = x; reads = r; answer = checked s j t (ownName r a .depth) (x .value .body) })
+unfoldable pub stateChecking : ℕ → Reads → ℕ → ℕ → Access
+stateChecking j r a t =
+    stateCell (ownName r a) (λ x. record { contents = x; reads = r; answer = checked j t (x .value .body) })
 
 -- a round of the directory pass begins: the directory that is read is the working copy
 unfoldable pub directoryCopying : Reads → Access
@@ -145,7 +144,7 @@ updateAccess s j r u t readState = stateReading r (account u)
 updateAccess s j r u t readToggle = toggleReading r (account u)
 updateAccess s j r u t (readSlot i) = slotReading r i
 updateAccess s j r u t swapState = stateSwapping s r (account u)
-updateAccess s j r u t checkState = stateChecking s j r (account u) t
+updateAccess s j r u t checkState = stateChecking j r (account u) t
 updateAccess s j r u t copyDirectory = directoryCopying r
 updateAccess s j r u t (resizeFor i) = resizing s r i (r .slots i)
 updateAccess s j r u t swapDirectory = directorySwapping r

@@ -5,18 +5,16 @@ use native.Mathlib.Omega.{arith}
 use mathlib.Core.Path.{_≡_, refl, ap, sym, _∙_, subst}
 use mathlib.Core.Logic.{_⊎_, inl, inr, ⊎-elim}
 use mathlib.Core.Bool.{true}
-use lib.Dec.{ltb}
 use Rattle.interface.specs.declared.Settings.{Settings}
 use Rattle.machine.specs.Sequential.{account}
 use Rattle.machine.specs.Records.{Name, Body, Bucket, Slot, empty, announced, Cells}
-use Rattle.machine.specs.BucketPass.{full, splittable}
+use Rattle.machine.specs.BucketPass.{splittable, holdsBack}
 use Rattle.machine.specs.DirectoryPass.{leafOf}
-use Rattle.machine.proofs.laws.Base.{and-parts}
 use Rattle.machine.specs.Counter.{Two, one, two, BStep, readS, readT, swap, slotB, DStep, copyD, swapD, slotD, state, PC, idle, announce, look₁, look₂, over, readD, flip, checkD, checkS, inB, inD}
 use Rattle.machine.proofs.invariant.CounterFacts.{IsTwo, Rounds, HasSlotD, UpdateSeen, BucketSplit, Second, LastRound, update-seen-two, second-rounds}
 use Rattle.machine.specs.Passed.{PastState, HoldsBucket}
 use Rattle.machine.specs.Tasks.{Task, target, leaf, held, DirectoryFresh, IsMade, own}
-use Rattle.machine.proofs.invariant.Inv.{body, leafBody, SettledOrFull, FreshOrClosed, HeldOrSuperseded, HeldOrClosed, FullOrClosed, SeesFlip, OldSlot, Fresh, Applied, Pending, ticketOf, Closed, ClosedSlot, OwnClosed, Superseded, Hold, SeenState, SeenAt, ResolvedTo, KeptOrResolved, SeenDirectory, ReadAt, RoundAt, Announced, Looking, SlotFacts, ReadFacts, Own, Pair}
+use Rattle.machine.proofs.invariant.Inv.{body, leafBody, SettledOrBlocked, FreshOrSettled, HeldOrSuperseded, HeldOrSettled, BlockedOrSettled, SeesFlip, OldSlot, Fresh, Applied, Pending, ticketOf, SettledIn, SettledSlot, OwnSettled, Superseded, Hold, SeenState, SeenAt, ResolvedTo, KeptOrResolved, SeenDirectory, ReadAt, RoundAt, Announced, Looking, SlotFacts, ReadFacts, Own, Pair}
 use Rattle.machine.proofs.laws.Resolve.{SettledChange, settled-same, settled-new, settled-change-le, settled-change-keep}
 
 -- ---- a change
@@ -27,21 +25,22 @@ pub data DirectoryEvolves (c c′ : Cells) : Type 0 where
   later-directory : c .directory .stamp < c′ .directory .stamp → DirectoryEvolves c c′
 
 module _ (s : Settings) where
-  -- An account's bucket, x with body b, becomes x′ with body b′: it is the same bucket, or a deeper one made of it, which was full.
+  -- An account's bucket, x with body b, becomes x′ with body b′: it is the same bucket, or a deeper one made of it, which held back.
   pub data Evolves (slots : ℕ → Slot) (x : Name) (b : Body) (x′ : Name) (b′ : Body) : Type 0 where
-    same-bucket : x′ ≡ x → ((i : ℕ) → SettledChange b b′ (slots i) (Unit {0}) i) → (full s b ≡ true → b′ ≡ b) → Evolves slots x b x′ b′
+    same-bucket : x′ ≡ x → ((i : ℕ) → SettledChange b b′ (slots i) (Unit {0}) i) → (holdsBack s (x .depth) b ≡ true → b′ ≡ b)
+        → Evolves slots x b x′ b′
     deeper-bucket :
-        x .depth < x′ .depth → full s b ≡ true → x .depth < s .depth → ((i : ℕ) → SettledChange b b′ (slots i) (Unit {0}) i)
+        x .depth < x′ .depth → holdsBack s (x .depth) b ≡ true → ((i : ℕ) → SettledChange b b′ (slots i) (Unit {0}) i)
         → Evolves slots x b x′ b′
 
-  -- What becomes of the bucket that worker j holds at counter pc, with ticket t and the stamp i of the state it has read.
-  pub record KeptBucket (j t : ℕ) (pc : PC) (i : ℕ) (x x′ : Bucket) : Type 0 where
-    pub unchanged : full s (x .state .value .body) ≡ true → x′ .state .value .body ≡ x .state .value .body
+  -- What becomes of the bucket, of depth d, that worker j holds at counter pc, with ticket t and the stamp i of the state it has read.
+  pub record KeptBucket (j t d : ℕ) (pc : PC) (i : ℕ) (x x′ : Bucket) : Type 0 where
+    pub unchanged : holdsBack s d (x .state .value .body) ≡ true → x′ .state .value .body ≡ x .state .value .body
     pub later : x .state .stamp ≤ x′ .state .stamp
     pub same : x′ .state .stamp ≡ x .state .stamp → x′ .state .value ≡ x .state .value
     pub applied :
-        Rounds pc → (Applied x j → SettledOrFull s j t (x .state .value .body)) → Applied x′ j
-        → SettledOrFull s j t (x′ .state .value .body)
+        Rounds pc → (Applied x j → SettledOrBlocked s j t d (x .state .value .body)) → Applied x′ j
+        → SettledOrBlocked s j t d (x′ .state .value .body)
     pub second : Second pc → (Pending x j → i ≡ x .state .stamp) → Pending x′ j → i ≡ x′ .state .stamp
     pub settled : x .state .value .body .settled j .ticket ≤ x′ .state .value .body .settled j .ticket
 
@@ -64,28 +63,28 @@ module _ (s : Settings) where
 
   module _ (c c′ : Cells) (j : ℕ) (k : Task) (pc : PC) where
     abbrev pub OwnKept : Type 0
-    OwnKept = KeptBucket j (k .ticket) pc (k .reads .state .stamp) (own c k) (own c′ k)
+    OwnKept = KeptBucket j (k .ticket) (held k .depth) pc (k .reads .state .stamp) (own c k) (own c′ k)
 
     -- that its bucket is kept
     abbrev pub HeldKept : Type 0
     HeldKept = HoldsBucket pc → OwnKept
 
-    -- that its update is closed if its account's bucket was split
-    abbrev pub SplitCloses : Type 0
-    SplitCloses =
+    -- that its update is settled if its account's bucket was split
+    abbrev pub SplitSettles : Type 0
+    SplitSettles =
         UpdateSeen (k .reads .directory .stamp) (c .directory .stamp) pc → leaf c (target k) .depth < leaf c′ (target k) .depth
-        → OwnClosed s c′ j k
+        → OwnSettled c′ j k
 
-    -- that its update is closed if it is past the last directory read and the directory was swapped
-    abbrev pub SwapCloses : Type 0
-    SwapCloses = LastRound pc → FreshOrClosed s c j k → FreshOrClosed s c′ j k
+    -- that its update is settled if it is past the last directory read and the directory was swapped
+    abbrev pub SwapSettles : Type 0
+    SwapSettles = LastRound pc → FreshOrSettled c j k → FreshOrSettled c′ j k
 
   -- ---- one bucket
 
   -- a bucket whose state is as it was is kept, if in its rounds the worker's bit is too
   pub kept-same :
-      {j t : ℕ} {pc : PC} {i : ℕ} {x x′ : Bucket} → x′ .state ≡ x .state → (Rounds pc → x′ .toggle j ≡ x .toggle j)
-      → KeptBucket j t pc i x x′
+      {j t d : ℕ} {pc : PC} {i : ℕ} {x x′ : Bucket} → x′ .state ≡ x .state → (Rounds pc → x′ .toggle j ≡ x .toggle j)
+      → KeptBucket j t d pc i x x′
   kept-same {pc = pc} e f = record {
     unchanged = λ h. rw e;
     later = rw e (omega arith);
@@ -95,33 +94,23 @@ module _ (s : Settings) where
     settled = rw e (omega arith);
   }
 
-  closed-on :
-      {slots : ℕ → Slot} {x x′ : Name} {b b′ : Body} (j t : ℕ) → Evolves slots x b x′ b′ → Closed s j t (x .depth) b
-      → Closed s j t (x′ .depth) b′
-  closed-on j t (same-bucket e f g) (inl h) = inl (omega (arith, settled-change-le (f j)))
-  closed-on j t (same-bucket e f g) (inr h) = inr (rw (g (h .0)) (h .0), ap (λ z. z .depth) e ∙ h .1)
-  closed-on j t (deeper-bucket l m d f) (inl h) = inl (omega (arith, settled-change-le (f j)))
-  closed-on j t (deeper-bucket l m d f) (inr h) = absurd (omega arith)
-
-  -- a closed update stays closed at a bucket that is kept
-  closed-kept :
-      {j t d : ℕ} {b b′ : Body} → (full s b ≡ true → b′ ≡ b) → b .settled j .ticket ≤ b′ .settled j .ticket → Closed s j t d b
-      → Closed s j t d b′
-  closed-kept f l (inl h) = inl (omega arith)
-  closed-kept f l (inr h) = inr (rw (f (h .0)) (h .0), h .1)
+  settled-on :
+      {slots : ℕ → Slot} {x x′ : Name} {b b′ : Body} (j t : ℕ) → Evolves slots x b x′ b′ → SettledIn j t b → SettledIn j t b′
+  settled-on j t (same-bucket e f g) h = omega (arith, settled-change-le (f j))
+  settled-on j t (deeper-bucket l m f) h = omega (arith, settled-change-le (f j))
 
   -- h is the body of the superseded bucket, b that of the one that superseded it
   superseded-on :
-      {j t : ℕ} {x : Slot} {T : Type 0} {h h′ b b′ : Body} → ticketOf x ≤ t → SettledChange b b′ x T j → h′ ≡ h → Superseded s j t h b
-      → Superseded s j t h′ b′
+      {j t d : ℕ} {x : Slot} {T : Type 0} {h h′ b b′ : Body} → ticketOf x ≤ t → SettledChange b b′ x T j → h′ ≡ h
+      → Superseded s j t d h b → Superseded s j t d h′ b′
   superseded-on l f e g = rw e (record {
-    full = g .full;
+    blocked = g .blocked;
     settled = λ le. let q = g .settled le in settled-change-keep f (rw q (omega arith)) ∙ q;
   })
 
-  splits-full : (d : ℕ) (b : Body) → splittable s d b ≡ true → full s b ≡ true
-  unfolding splittable
-  splits-full d b h = and-parts (full s b) (ltb d (s .depth)) h .0
+  pub splittable-blocks : (d : ℕ) (b : Body) → splittable s d b ≡ true → holdsBack s d b ≡ true
+  unfolding holdsBack
+  splittable-blocks d b h = h
 
   -- ---- what a worker has read in the directory pass is no later than the directory
 
@@ -141,13 +130,13 @@ module _ (s : Settings) where
   -- ---- all cells
 
   module _ (c c′ : Cells) (mv : CellsChanged c c′) where
-    -- a closed update stays closed
-    pub closed-moved : (j : ℕ) (x : Slot) → ClosedSlot s c j x → ClosedSlot s c′ j x
-    closed-moved j empty h = tt
-    closed-moved j (announced u t) h = closed-on j t (mv .evolves (account u)) h
+    -- a settled update stays settled
+    pub settled-moved : (j : ℕ) (x : Slot) → SettledSlot c j x → SettledSlot c′ j x
+    settled-moved j empty h = tt
+    settled-moved j (announced u t) h = settled-on j t (mv .evolves (account u)) h
 
-    own-closed-moved : (j : ℕ) (k : Task) → OwnClosed s c j k → OwnClosed s c′ j k
-    own-closed-moved j k h = closed-on j (k .ticket) (mv .evolves (target k)) h
+    own-settled-moved : (j : ℕ) (k : Task) → OwnSettled c j k → OwnSettled c′ j k
+    own-settled-moved j k h = settled-on j (k .ticket) (mv .evolves (target k)) h
 
     -- ---- the directory
 
@@ -174,30 +163,30 @@ module _ (s : Settings) where
         go : LeafEvolves c c′ a → KeptOrResolved s c k a → KeptOrResolved s c′ k a
         go v (inl z) = inl (rw q z)
         go (same-bucket e f g) (inr z) =
-            let b : leafBody c′ a ≡ leafBody c a = g (splits-full (leaf c a .depth) (leafBody c a) (z .splits)) in
+            let b : leafBody c′ a ≡ leafBody c a = g (splittable-blocks (leaf c a .depth) (leafBody c a) (z .splits)) in
             inr (subst (λ x. ResolvedTo s (k .reads .slots) x (leafBody c′ a) a (leafOf (k .reads .copy) a)) (sym e) (rw b z))
-        go (deeper-bucket l m d f) (inr z) = absurd (omega (arith, ap (λ x. x .depth) leaf-same))
+        go (deeper-bucket l m f) (inr z) = absurd (omega (arith, ap (λ x. x .depth) leaf-same))
 
     depth-up : (a : ℕ) → leaf c a .depth ≤ leaf c′ a .depth
-    depth-up a = elim (mv .evolves a) [ same-bucket e f g ↦ rw e (omega arith) | deeper-bucket l m d f ↦ omega arith ]
+    depth-up a = elim (mv .evolves a) [ same-bucket e f g ↦ rw e (omega arith) | deeper-bucket l m f ↦ omega arith ]
 
     -- ---- worker j with task k
 
     module _ (j : ℕ) (k : Task) where
       module _ (slot : c′ .slots j ≡ c .slots j) where
-        closed-slot-move : ClosedSlot s c j (c .slots j) → ClosedSlot s c′ j (c′ .slots j)
-        closed-slot-move h = rw slot (closed-moved j (c .slots j) h)
+        settled-slot-move : SettledSlot c j (c .slots j) → SettledSlot c′ j (c′ .slots j)
+        settled-slot-move h = rw slot (settled-moved j (c .slots j) h)
 
         announced-move : Announced s c j k → Announced s c′ j k
         announced-move h = record { wanted = h .wanted; asks = h .asks; slot = rw slot (h .slot) }
 
         looking-move : Looking s c j k → Looking s c′ j k
-        looking-move h = record { wanted = h .wanted; asks = h .asks; closed = closed-slot-move (h .closed) }
+        looking-move h = record { wanted = h .wanted; asks = h .asks; settled = settled-slot-move (h .settled) }
 
         slot-facts-move : (pc : PC) → SlotFacts s pc c j k → SlotFacts s pc c′ j k
-        slot-facts-move idle h = (h .0, closed-slot-move (h .1))
+        slot-facts-move idle h = (h .0, settled-slot-move (h .1))
         slot-facts-move announce h =
-            record { wanted = h .wanted; asks = h .asks; closed = closed-slot-move (h .closed); newer = rw slot (h .newer) }
+            record { wanted = h .wanted; asks = h .asks; settled = settled-slot-move (h .settled); newer = rw slot (h .newer) }
         slot-facts-move look₁ h = looking-move h
         slot-facts-move look₂ h = looking-move h
         slot-facts-move over h = absurd h
@@ -211,7 +200,7 @@ module _ (s : Settings) where
       -- ---- its bucket
 
       abbrev SupersededIn : Cells → Type 0
-      SupersededIn d = Superseded s j (k .ticket) (body d (held k)) (leafBody d (target k))
+      SupersededIn d = Superseded s j (k .ticket) (held k .depth) (body d (held k)) (leafBody d (target k))
 
       hold-move : {pc : PC} → ticketOf (c .slots j) ≤ k .ticket → OwnKept c c′ j k pc → Hold s c j k → Hold s c′ j k
       hold-move l b h = record { named = h .named; depth = omega (arith, depth-up (target k)); is = go (mv .evolves (target k)) (h .is) }
@@ -219,32 +208,33 @@ module _ (s : Settings) where
           superseded :
               {T : Type 0} → SettledChange (leafBody c (target k)) (leafBody c′ (target k)) (c .slots j) T j → SupersededIn c
               → SupersededIn c′
-          superseded f g = superseded-on l f (b .unchanged (g .full)) g
+          superseded f g = superseded-on l f (b .unchanged (g .blocked)) g
 
           go : LeafEvolves c c′ (target k) → HeldOrSuperseded s c j k → HeldOrSuperseded s c′ j k
           go (same-bucket e f g) (inl z) = inl (z ∙ sym e)
           go (same-bucket e f g) (inr z) = inr (superseded (f j) z)
-          go (deeper-bucket e m d f) (inl z) = inr (superseded (f j) (rw z (record { full = m; settled = λ l. refl })))
-          go (deeper-bucket e m d f) (inr z) = inr (superseded (f j) z)
+          go (deeper-bucket e m f) (inl z) = inr (superseded (f j) (rw z (record { blocked = m; settled = λ l. refl })))
+          go (deeper-bucket e m f) (inr z) = inr (superseded (f j) z)
 
-      -- if its account's bucket was split, its update is closed
-      module _ (own-closed : leaf c (target k) .depth < leaf c′ (target k) .depth → OwnClosed s c′ j k) where
-        -- it is closed, or what holds of a bucket that stays holds
+      -- if its account's bucket was split, its update is settled
+      module _ (own-settled : leaf c (target k) .depth < leaf c′ (target k) .depth → OwnSettled c′ j k) where
+        -- it is settled, or what holds of a bucket that stays holds
         unless-split :
             {A A′ : Type 0}
             → (leaf c′ (target k) ≡ leaf c (target k)
-            → (full s (leafBody c (target k)) ≡ true → leafBody c′ (target k) ≡ leafBody c (target k))
+            → (holdsBack s (leaf c (target k) .depth) (leafBody c (target k)) ≡ true → leafBody c′ (target k) ≡ leafBody c (target k))
             → A → A′)
-            → A ⊎ OwnClosed s c j k → A′ ⊎ OwnClosed s c′ j k
-        unless-split {A} {A′} h (inr z) = inr (own-closed-moved j k z)
+            → A ⊎ OwnSettled c j k → A′ ⊎ OwnSettled c′ j k
+        unless-split {A} {A′} h (inr z) = inr (own-settled-moved j k z)
         unless-split {A} {A′} h (inl z) =
-            elim (mv .evolves (target k)) [ same-bucket e f g ↦ inl (h e g z) | deeper-bucket l m d f ↦ inr (own-closed l) ]
+            elim (mv .evolves (target k)) [ same-bucket e f g ↦ inl (h e g z) | deeper-bucket l m f ↦ inr (own-settled l) ]
 
-        leaf-move : HeldOrClosed s c j k → HeldOrClosed s c′ j k
+        leaf-move : HeldOrSettled c j k → HeldOrSettled c′ j k
         leaf-move = unless-split (λ e g z. z ∙ sym e)
 
-        full-move : FullOrClosed s c j k → FullOrClosed s c′ j k
-        full-move = unless-split (λ e g z. ap (full s) (g z) ∙ z)
+        blocked-move : BlockedOrSettled s c j k → BlockedOrSettled s c′ j k
+        blocked-move = unless-split (λ e g z.
+            ap (λ (x : Name). holdsBack s (x .depth) (leafBody c′ (target k))) e ∙ ap (holdsBack s (leaf c (target k) .depth)) (g z) ∙ z)
 
       -- ---- its rounds
 
@@ -273,7 +263,7 @@ module _ (s : Settings) where
       read-at-move (slotD i) h = (seen-directory-move k (h .0), h .1)
       read-at-move (state i) h = all-kept-or-resolved-move h
 
-      round-at-move : (p r : Two) (x : DStep) → SwapCloses c c′ j k (inD p r x) → RoundAt s p r x c j k → RoundAt s p r x c′ j k
+      round-at-move : (p r : Two) (x : DStep) → SwapSettles c c′ j k (inD p r x) → RoundAt s p r x c j k → RoundAt s p r x c′ j k
       round-at-move p r copyD last h = tt
       round-at-move p r swapD last h = λ b. last (b, tt) (h b)
       round-at-move p r (slotD i) last h = λ b. last (b, tt) (h b)
@@ -282,31 +272,31 @@ module _ (s : Settings) where
       -- ---- what it has read
 
       read-facts-move :
-          (pc : PC) → ticketOf (c .slots j) ≤ k .ticket → HeldKept c c′ j k pc → SplitCloses c c′ j k pc → SwapCloses c c′ j k pc
+          (pc : PC) → ticketOf (c .slots j) ≤ k .ticket → HeldKept c c′ j k pc → SplitSettles c c′ j k pc → SwapSettles c c′ j k pc
           → ReadFacts s pc c j k
           → ReadFacts s pc c′ j k
-      read-facts-move idle l kept own-closed last h = tt
-      read-facts-move announce l kept own-closed last h = tt
-      read-facts-move look₁ l kept own-closed last h = tt
-      read-facts-move look₂ l kept own-closed last h = hold-move l (kept tt) h
-      read-facts-move over l kept own-closed last h = absurd h
-      read-facts-move (readD p) l kept own-closed last h = tt
-      read-facts-move (flip p) l kept own-closed last h = (hold-move l (kept tt) (h .0), λ t. leaf-move (own-closed t) (h .1 t))
-      read-facts-move (checkD one x) l kept own-closed last h = tt
-      read-facts-move (checkD two one) l kept own-closed last h = full-move (own-closed tt) h
-      read-facts-move (checkD two two) l kept own-closed last h = own-closed-moved j k h
-      read-facts-move (checkS one x) l kept own-closed last h = (hold-move l (kept tt) (h .0), tt)
-      read-facts-move (checkS two one) l kept own-closed last h = (hold-move l (kept tt) (h .0), full-move (own-closed tt) (h .1))
-      read-facts-move (checkS two two) l kept own-closed last h =
-          (hold-move l (kept tt) (h .0), closed-kept (kept tt .unchanged) (kept tt .settled) (h .1))
-      read-facts-move (inB p r x) l kept own-closed last h = record {
+      read-facts-move idle l kept own-settled last h = tt
+      read-facts-move announce l kept own-settled last h = tt
+      read-facts-move look₁ l kept own-settled last h = tt
+      read-facts-move look₂ l kept own-settled last h = hold-move l (kept tt) h
+      read-facts-move over l kept own-settled last h = absurd h
+      read-facts-move (readD p) l kept own-settled last h = tt
+      read-facts-move (flip p) l kept own-settled last h = (hold-move l (kept tt) (h .0), λ t. leaf-move (own-settled t) (h .1 t))
+      read-facts-move (checkD one x) l kept own-settled last h = tt
+      read-facts-move (checkD two one) l kept own-settled last h = blocked-move (own-settled tt) h
+      read-facts-move (checkD two two) l kept own-settled last h = own-settled-moved j k h
+      read-facts-move (checkS one x) l kept own-settled last h = (hold-move l (kept tt) (h .0), tt)
+      read-facts-move (checkS two one) l kept own-settled last h = (hold-move l (kept tt) (h .0), blocked-move (own-settled tt) (h .1))
+      read-facts-move (checkS two two) l kept own-settled last h =
+          (hold-move l (kept tt) (h .0), omega (arith, h .1, kept tt .settled))
+      read-facts-move (inB p r x) l kept own-settled last h = record {
         hold = hold-move l (kept tt) (h .hold);
-        pass = λ t. leaf-move (own-closed t) (h .pass t);
+        pass = λ t. leaf-move (own-settled t) (h .pass t);
         applied = kept tt .applied tt (h .applied);
         seen = seen-at-move p r x (kept tt) (h .seen);
       }
-      read-facts-move (inD p r x) l kept own-closed last h = record {
-        full = λ t. full-move (own-closed (update-seen-two p r _ _ x t)) (h .full t);
+      read-facts-move (inD p r x) l kept own-settled last h = record {
+        blocked = λ t. blocked-move (own-settled (update-seen-two p r _ _ x t)) (h .blocked t);
         read = read-at-move x (h .read);
         round = round-at-move p r x last (h .round);
       }
@@ -314,11 +304,11 @@ module _ (s : Settings) where
     -- what worker j knows it still knows, if its slot is as it was
     pub own-moved :
         (j : ℕ) (k : Task) → c′ .slots j ≡ c .slots j → Own s c j k
-        → HeldKept c c′ j k (k .pc) → SplitCloses c c′ j k (k .pc) → SwapCloses c c′ j k (k .pc) → Own s c′ j k
-    own-moved j k slot o kept own-closed last = record {
+        → HeldKept c c′ j k (k .pc) → SplitSettles c c′ j k (k .pc) → SwapSettles c c′ j k (k .pc) → Own s c′ j k
+    own-moved j k slot o kept own-settled last = record {
       ticket = rw slot (o .ticket);
       slot = slot-facts-move j k slot (k .pc) (o .slot);
-      read = read-facts-move j k (k .pc) (o .ticket) kept own-closed last (o .read);
+      read = read-facts-move j k (k .pc) (o .ticket) kept own-settled last (o .read);
     }
 
   -- ---- the slots left
@@ -327,33 +317,33 @@ module _ (s : Settings) where
     cells-changed : CellsChanged c c′
     cells-changed = record { directory-evolves = ch .directory-evolves; evolves = ch .evolves }
 
-    -- a closed update stays closed
-    pub closed-move : (j : ℕ) (x : Slot) → ClosedSlot s c j x → ClosedSlot s c′ j x
-    closed-move = closed-moved c c′ cells-changed
+    -- a settled update stays settled
+    pub settled-move : (j : ℕ) (x : Slot) → SettledSlot c j x → SettledSlot c′ j x
+    settled-move = settled-moved c c′ cells-changed
 
-    pub own-closed-move : (j : ℕ) (k : Task) → OwnClosed s c j k → OwnClosed s c′ j k
-    own-closed-move = own-closed-moved c c′ cells-changed
+    pub own-settled-move : (j : ℕ) (k : Task) → OwnSettled c j k → OwnSettled c′ j k
+    own-settled-move = own-settled-moved c c′ cells-changed
 
     -- what worker j knows it still knows
     pub own-move :
-        (j : ℕ) (k : Task) → Own s c j k → HeldKept c c′ j k (k .pc) → SplitCloses c c′ j k (k .pc) → SwapCloses c c′ j k (k .pc)
+        (j : ℕ) (k : Task) → Own s c j k → HeldKept c c′ j k (k .pc) → SplitSettles c c′ j k (k .pc) → SwapSettles c c′ j k (k .pc)
         → Own s c′ j k
     own-move j k = own-moved c c′ cells-changed j k (ap (λ f. f j) (ch .slots))
 
-    pub old-move : (j : ℕ) (x : Slot) → OldSlot s c j x → OldSlot s c′ j x
+    pub old-move : (j : ℕ) (x : Slot) → OldSlot c j x → OldSlot c′ j x
     old-move j x (inl e) = inl (rw (ch .slots) e)
-    old-move j x (inr h) = inr (closed-move j x h)
+    old-move j x (inr h) = inr (settled-move j x h)
 
     -- the directory left
-    pub same-swap-closes : c′ .directory ≡ c .directory → (j : ℕ) (k : Task) (pc : PC) → SwapCloses c c′ j k pc
-    same-swap-closes e j k pc l (inl h) = inl (rw e h)
-    same-swap-closes e j k pc l (inr h) = inr (own-closed-move j k h)
+    pub same-swap-settles : c′ .directory ≡ c .directory → (j : ℕ) (k : Task) (pc : PC) → SwapSettles c c′ j k pc
+    same-swap-settles e j k pc l (inl h) = inl (rw e h)
+    same-swap-settles e j k pc l (inr h) = inr (own-settled-move j k h)
 
     -- no ticket is settled before it is announced
     pub tickets-move :
         ((a j : ℕ) → leafBody c a .settled j .ticket ≤ ticketOf (c .slots j)) → (a j : ℕ)
         → leafBody c′ a .settled j .ticket ≤ ticketOf (c′ .slots j)
-    tickets-move h a j = rw (ch .slots) (elim (ch .evolves a) [ same-bucket e f g ↦ bound (f j) | deeper-bucket l m d f ↦ bound (f j) ])
+    tickets-move h a j = rw (ch .slots) (elim (ch .evolves a) [ same-bucket e f g ↦ bound (f j) | deeper-bucket l m f ↦ bound (f j) ])
       where
         bound :
             SettledChange (leafBody c a) (leafBody c′ a) (c .slots j) (Unit {0}) j
@@ -374,10 +364,10 @@ module _ (s : Settings) where
     splits-bucket-move :
         (j p : ℕ) (k q : Task) → Own s c p q → Pair s j c k q
         → BucketSplit (k .reads .directory .stamp) (c′ .directory .stamp) (k .pc) → PastState (s .workers) j (q .pc) → DirectoryFresh c′ q
-        → IsMade (leafOf (q .reads .copy) (target k)) ⊎ OwnClosed s c′ j k
+        → IsMade (leafOf (q .reads .copy) (target k)) ⊎ OwnSettled c′ j k
     splits-bucket-move j p k q o h l x e =
         let z = fresh-same c c′ cells-changed q (past-state-bounded (s .workers) j p q c (q .pc) x (o .read)) e in
-        ⊎-elim inl (λ y. inr (own-closed-move j k y)) (h .splits-bucket (rw z at l) x (rw z at e))
+        ⊎-elim inl (λ y. inr (own-settled-move j k y)) (h .splits-bucket (rw z at l) x (rw z at e))
 
     -- and what is still to be guaranteed at one bucket
     pub pair-move : (j p : ℕ) (k q : Task) → Own s c p q → Pair s j c k q → SeesFlip c′ j k q → Pair s j c′ k q

@@ -79,12 +79,12 @@ UpdateSeenD p r i now = sinceCopy (EitherTwo p r) (AnnouncedBefore p r i now)
 abbrev pub UpdateSeen : ℕ → ℕ → PC → Type 0
 UpdateSeen i now = inPass ⊥ IsTwo EitherTwo (λ p r x. IsTwo p) (λ p r. UpdateSeenD p r i now)
 
-abbrev pub FullBefore : Two → Two → ℕ → ℕ → Type 0
-FullBefore one r i now = ⊥
-FullBefore two r i now = Outdated r i now
+abbrev pub BlockedBefore : Two → Two → ℕ → ℕ → Type 0
+BlockedBefore one r i now = ⊥
+BlockedBefore two r i now = Outdated r i now
 
 abbrev pub BucketSplitD : Two → Two → ℕ → ℕ → DStep → Type 0
-BucketSplitD p r i now = sinceCopy (BothTwo p r) (FullBefore p r i now)
+BucketSplitD p r i now = sinceCopy (BothTwo p r) (BlockedBefore p r i now)
 
 -- in pass two's directory pass, so far that whoever can still swap the directory splits its bucket
 abbrev pub BucketSplit : ℕ → ℕ → PC → Type 0
@@ -169,9 +169,9 @@ announced-now one one i h = h refl
 announced-now one two i h = tt
 announced-now two r i h = tt
 
-pub full-now : (p r : Two) (i : ℕ) → FullBefore p r i i → BothTwo p r
-full-now two one i h = h refl
-full-now two two i h = tt
+pub blocked-now : (p r : Two) (i : ℕ) → BlockedBefore p r i i → BothTwo p r
+blocked-now two one i h = h refl
+blocked-now two two i h = tt
 
 -- one that was read has been swapped since
 pub announced-since : (p r : Two) {i now : ℕ} → i ≢ now → AnnouncedBefore p r i now
@@ -179,8 +179,8 @@ announced-since one one h = h
 announced-since one two h = tt
 announced-since two r h = tt
 
-pub full-since : (p : Two) {i now : ℕ} → i ≢ now → BothTwo p two → FullBefore p one i now
-full-since two h l = h
+pub blocked-since : (p : Two) {i now : ℕ} → i ≢ now → BothTwo p two → BlockedBefore p one i now
+blocked-since two h l = h
 
 -- past the last directory read, everybody has read its update and splits its bucket
 pub last-bucket-split : (m now : ℕ) (pc : PC) → LastRound pc → BucketSplit m now pc × UpdateSeen m now pc

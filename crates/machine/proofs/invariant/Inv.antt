@@ -8,7 +8,7 @@ use mathlib.Core.Option.{none, some}
 use Rattle.interface.specs.declared.Settings.{Settings}
 use Rattle.machine.specs.Sequential.{Update, account, update, lookup}
 use Rattle.machine.specs.Records.{Name, Body, Bucket, Leaf, kept, made, Copy, Slot, empty, announced, Cells}
-use Rattle.machine.specs.BucketPass.{full, splittable}
+use Rattle.machine.specs.BucketPass.{splittable, holdsBack}
 use Rattle.machine.specs.DirectoryPass.{copyOf, leafOf, nameOf, replaceLeaf, takeSlots}
 use Rattle.machine.proofs.laws.Copies.{nameAt, Coherent}
 use Rattle.machine.specs.Counter.{Two, one, two, BStep, DStep, copyD, swapD, slotD, state, PC, idle, announce, look₁, look₂, over, readD, flip, checkD, checkS, inB, inD}
@@ -56,37 +56,50 @@ SeesFlip c j k q =
     FlipSeen (k .reads .state .stamp) (own c k .state .stamp) (k .pc) → Pending (own c k) j
     → held q ≡ held k → HasToggle (q .pc) → Fresh c q → q .reads .toggle j ≡ own c k .toggle j
 
+-- worker j's ticket t is settled in the body b
+abbrev pub SettledIn : ℕ → ℕ → Body → Type 0
+SettledIn j t b = t ≤ b .settled j .ticket
+
+-- and in the bucket of account a
+abbrev pub SettledFor : Cells → ℕ → ℕ → ℕ → Type 0
+SettledFor c j t a = SettledIn j t (leafBody c a)
+
+abbrev pub SettledSlot : Cells → ℕ → Slot → Type 0
+SettledSlot c j empty = Unit {0}
+SettledSlot c j (announced u t) = SettledFor c j t (account u)
+
+-- the task's own update is settled
+abbrev pub OwnSettled : Cells → ℕ → Task → Type 0
+OwnSettled c j k = SettledFor c j (k .ticket) (target k)
+
+-- worker j's slot, once read as x, is still that, or its update is settled
+abbrev pub OldSlot : Cells → ℕ → Slot → Type 0
+OldSlot c j x = (x ≡ c .slots j) ⊎ SettledSlot c j x
+
+-- The update is settled, or the account's bucket is held; or the directory that was read is current.
+abbrev pub HeldOrSettled : Cells → ℕ → Task → Type 0
+HeldOrSettled c j k = (held k ≡ leaf c (target k)) ⊎ OwnSettled c j k
+
+abbrev pub FreshOrSettled : Cells → ℕ → Task → Type 0
+FreshOrSettled c j k = DirectoryFresh c k ⊎ OwnSettled c j k
+
+-- in pass two
+abbrev pub HoldsLeaf : Two → Cells → ℕ → Task → Type 0
+HoldsLeaf p c j k = IsTwo p → HeldOrSettled c j k
+
 module _ (s : Settings) where
-  -- Worker j's update with ticket t, whose bucket has depth d and body b: settled there, or crowded for good.
-  abbrev pub Closed : ℕ → ℕ → ℕ → Body → Type 0
-  Closed j t d b = (t ≤ b .settled j .ticket) ⊎ ((full s b ≡ true) × (d ≡ s .depth))
+  -- worker j's ticket t is settled in the body b, or the bucket, of depth d, holds it back
+  abbrev pub SettledOrBlocked : ℕ → ℕ → ℕ → Body → Type 0
+  SettledOrBlocked j t d b = SettledIn j t b ⊎ (holdsBack s d b ≡ true)
 
-  abbrev pub ClosedIn : Cells → ℕ → ℕ → ℕ → Type 0
-  ClosedIn c j t a = Closed j t (leaf c a .depth) (leafBody c a)
-
-  abbrev pub ClosedSlot : Cells → ℕ → Slot → Type 0
-  ClosedSlot c j empty = Unit {0}
-  ClosedSlot c j (announced u t) = ClosedIn c j t (account u)
-
-  -- the task's own update is closed
-  abbrev pub OwnClosed : Cells → ℕ → Task → Type 0
-  OwnClosed c j k = ClosedIn c j (k .ticket) (target k)
-
-  -- worker j's slot, once read as x, is still that, or its update is closed
-  abbrev pub OldSlot : Cells → ℕ → Slot → Type 0
-  OldSlot c j x = (x ≡ c .slots j) ⊎ ClosedSlot c j x
-
-  -- worker j's ticket t is settled in the body b, or the bucket is full
-  abbrev pub SettledOrFull : ℕ → ℕ → Body → Type 0
-  SettledOrFull j t b = (t ≤ b .settled j .ticket) ⊎ (full s b ≡ true)
-
-  -- A bucket of body b has been superseded by one of body b′.
-  pub record Superseded (j t : ℕ) (b b′ : Body) : Type 0 where
-    pub full : full s b ≡ true
-    pub settled : t ≤ b .settled j .ticket → b′ .settled j ≡ b .settled j
+  -- A bucket of depth d and body b has been superseded by one of body b′.
+  pub record Superseded (j t d : ℕ) (b b′ : Body) : Type 0 where
+    pub blocked : holdsBack s d b ≡ true
+    pub settled : SettledIn j t b → b′ .settled j ≡ b .settled j
 
   abbrev pub HeldOrSuperseded : Cells → ℕ → Task → Type 0
-  HeldOrSuperseded c j k = (held k ≡ leaf c (target k)) ⊎ Superseded j (k .ticket) (body c (held k)) (leafBody c (target k))
+  HeldOrSuperseded c j k =
+      (held k ≡ leaf c (target k)) ⊎ Superseded j (k .ticket) (held k .depth) (body c (held k)) (leafBody c (target k))
 
   -- The bucket held is the account's, or a superseded one.
   pub record Hold (c : Cells) (j : ℕ) (k : Task) : Type 0 where
@@ -94,23 +107,13 @@ module _ (s : Settings) where
     pub depth : held k .depth ≤ leaf c (target k) .depth
     pub is : HeldOrSuperseded c j k
 
-  -- The update is closed, or the account's bucket is held; or it is full; or the directory that was read is current.
-  abbrev pub HeldOrClosed : Cells → ℕ → Task → Type 0
-  HeldOrClosed c j k = (held k ≡ leaf c (target k)) ⊎ OwnClosed c j k
-
-  abbrev pub FullOrClosed : Cells → ℕ → Task → Type 0
-  FullOrClosed c j k = (full s (leafBody c (target k)) ≡ true) ⊎ OwnClosed c j k
-
-  abbrev pub FreshOrClosed : Cells → ℕ → Task → Type 0
-  FreshOrClosed c j k = DirectoryFresh c k ⊎ OwnClosed c j k
-
-  -- in pass two
-  abbrev pub HoldsLeaf : Two → Cells → ℕ → Task → Type 0
-  HoldsLeaf p c j k = IsTwo p → HeldOrClosed c j k
+  -- the account's bucket holds updates back, or the update is settled
+  abbrev pub BlockedOrSettled : Cells → ℕ → Task → Type 0
+  BlockedOrSettled c j k = (holdsBack s (leaf c (target k) .depth) (leafBody c (target k)) ≡ true) ⊎ OwnSettled c j k
 
   -- past pass two's bucket pass
-  abbrev pub FullLeaf : Two → Cells → ℕ → Task → Type 0
-  FullLeaf p c j k = IsTwo p → FullOrClosed c j k
+  abbrev pub BlockedLeaf : Two → Cells → ℕ → Task → Type 0
+  BlockedLeaf p c j k = IsTwo p → BlockedOrSettled c j k
 
   -- ---- the bucket pass
 
@@ -126,12 +129,12 @@ module _ (s : Settings) where
   pub record InRound (p r : Two) (x : BStep) (c : Cells) (j : ℕ) (k : Task) : Type 0 where
     pub hold : Hold c j k
     pub pass : HoldsLeaf p c j k
-    pub applied : Applied (own c k) j → SettledOrFull j (k .ticket) (body c (held k))
+    pub applied : Applied (own c k) j → SettledOrBlocked j (k .ticket) (held k .depth) (body c (held k))
     pub seen : SeenAt r x c j k
 
   -- ---- the directory pass
 
-  -- Bucket x, whose body is b, was found full below M, and resolved into leaf l of account a.
+  -- Bucket x, whose body is b, was found full below depth M, and resolved into leaf l of account a.
   pub record ResolvedTo (slots : ℕ → Slot) (x : Name) (b : Body) (a : ℕ) (l : Leaf) : Type 0 where
     pub splits : splittable s (x .depth) b ≡ true
     pub is : l ≡ leafOf (resolved s x b slots (s .workers)) a
@@ -155,10 +158,10 @@ module _ (s : Settings) where
   ReadAt swapD c k = SeenDirectory c k × (DirectoryFresh c k → (a : ℕ) → KeptOrResolved c k a)
 
   abbrev pub RoundAt : Two → Two → DStep → Cells → ℕ → Task → Type 0
-  RoundAt p r x c j k = sinceCopy (Unit {0}) (BothTwo p r → FreshOrClosed c j k) x
+  RoundAt p r x c j k = sinceCopy (Unit {0}) (BothTwo p r → FreshOrSettled c j k) x
 
   pub record InDirectory (p r : Two) (x : DStep) (c : Cells) (j : ℕ) (k : Task) : Type 0 where
-    pub full : FullLeaf p c j k
+    pub blocked : BlockedLeaf p c j k
     pub read : ReadAt x c k
     pub round : RoundAt p r x c j k
 
@@ -167,14 +170,14 @@ module _ (s : Settings) where
   -- before the check of pass p's bucket pass (one) or directory pass (two)
   abbrev pub CheckFacts : Two → Two → Cells → ℕ → Task → Type 0
   CheckFacts one x c j k = Unit {0}
-  CheckFacts two one c j k = FullOrClosed c j k
-  CheckFacts two two c j k = OwnClosed c j k
+  CheckFacts two one c j k = BlockedOrSettled c j k
+  CheckFacts two two c j k = OwnSettled c j k
 
   -- in it, the bucket held
   abbrev pub CheckFactsHere : Two → Two → Cells → ℕ → Task → Type 0
   CheckFactsHere one x c j k = Unit {0}
-  CheckFactsHere two one c j k = FullOrClosed c j k
-  CheckFactsHere two two c j k = Closed j (k .ticket) (held k .depth) (body c (held k))
+  CheckFactsHere two one c j k = BlockedOrSettled c j k
+  CheckFactsHere two two c j k = SettledIn j (k .ticket) (body c (held k))
 
   -- ---- what worker j knows
 
@@ -184,23 +187,23 @@ module _ (s : Settings) where
     pub asks : k .operation ≡ some (update wanted)
     pub slot : c .slots j ≡ announced wanted (k .ticket)
 
-  -- it is called for an update, and its slot has an older one, which is closed
+  -- it is called for an update, and its slot has an older one, which is settled
   pub record Calling (c : Cells) (j : ℕ) (k : Task) : Type 0 where
     pub wanted : Update
     pub asks : k .operation ≡ some (update wanted)
-    pub closed : ClosedSlot c j (c .slots j)
+    pub settled : SettledSlot c j (c .slots j)
     pub newer : ticketOf (c .slots j) < k .ticket
 
   -- it looks up an account
   pub record Looking (c : Cells) (j : ℕ) (k : Task) : Type 0 where
     pub wanted : ℕ
     pub asks : k .operation ≡ some (lookup wanted)
-    pub closed : ClosedSlot c j (c .slots j)
+    pub settled : SettledSlot c j (c .slots j)
 
   -- of its slot
   abbrev pub SlotFacts : PC → Cells → ℕ → Task → Type 0
   SlotFacts pc c j k = by-counter (λ x. Type 0)
-      ((k .operation ≡ none) × ClosedSlot c j (c .slots j)) (Calling c j k) (Looking c j k) (Looking c j k) ⊥ (λ x u. Announced c j k) pc
+      ((k .operation ≡ none) × SettledSlot c j (c .slots j)) (Calling c j k) (Looking c j k) (Looking c j k) ⊥ (λ x u. Announced c j k) pc
 
   -- of the bucket or the directory that it has read
   abbrev pub ReadFacts : PC → Cells → ℕ → Task → Type 0
@@ -230,7 +233,7 @@ module _ (s : Settings) where
     pub slot :
         HasSlotB (s .workers) j (k .pc) → Fresh c k → Pending (own c k) j → k .reads .toggle j ≡ own c k .toggle j
         → k .reads .slots j ≡ c .slots j
-    -- a slot that was read is the slot, or its update is closed
+    -- a slot that was read is the slot, or its update is settled
     pub old : OldSlot c j (k .reads .slots j)
 
   -- ---- what worker j with task k can rely on of a worker with task q
@@ -241,10 +244,10 @@ module _ (s : Settings) where
     pub seen :
         UpdateSeen (k .reads .directory .stamp) (c .directory .stamp) (k .pc)
         → HasSlotD (s .workers) j (q .pc) → DirectoryFresh c q → q .reads .slots j ≡ c .slots j
-    -- and splits its bucket, or the update is closed
+    -- and splits its bucket, or the update is settled
     pub splits-bucket :
         BucketSplit (k .reads .directory .stamp) (c .directory .stamp) (k .pc)
-        → PastState (s .workers) j (q .pc) → DirectoryFresh c q → IsMade (leafOf (q .reads .copy) (target k)) ⊎ OwnClosed c j k
+        → PastState (s .workers) j (q .pc) → DirectoryFresh c q → IsMade (leafOf (q .reads .copy) (target k)) ⊎ OwnSettled c j k
 
   -- ---- the invariant
 

@@ -33,8 +33,8 @@ announced-on a = record { wanted = a .wanted; asks = a .asks; slot = a .slot }
 
 -- a slot that is read now is as it is
 pub old-read :
-    (s : Settings) (c : Cells) (j : ℕ) (slots : ℕ → Slot) (i : ℕ) → OldSlot s c j (slots j) → OldSlot s c j (assign slots i (c .slots i) j)
-old-read s c j slots i h = assign-elim (OldSlot s c j) slots i (c .slots i) j (λ e. inl (ap (c .slots) (sym e))) (λ e. h)
+    (c : Cells) (j : ℕ) (slots : ℕ → Slot) (i : ℕ) → OldSlot c j (slots j) → OldSlot c j (assign slots i (c .slots i) j)
+old-read c j slots i h = assign-elim (OldSlot c j) slots i (c .slots i) j (λ e. inl (ap (c .slots) (sym e))) (λ e. h)
 
 -- whoever holds a bucket knows it
 pub holds-hold : (s : Settings) (c : Cells) (j : ℕ) (k : Task) (pc : PC) → HoldsBucket pc → ReadFacts s pc c j k → Hold s c j k

@@ -91,7 +91,7 @@ module _ (s : Settings) (j : ℕ) (c : Cells) where
     step-moves e f x = rw (e, f) x
 
     check-transition :
-        (p x : Two) → CounterAt (checkS p x) → (a : Option Answer) → checked s j t (held task .depth) (body c (held task)) ≡ a
+        (p x : Two) → CounterAt (checkS p x) → (a : Option Answer) → checked j t (body c (held task)) ≡ a
         → IsTransition me (record { contents = c; reads = r; answer = a })
     unfolding counted
     check-transition p x h none e = step-moves refl (h .next) (passes p x (h .at) e)

@@ -80,9 +80,9 @@ pub data Transition (s : Settings) (w : ℕ) (c : Cells) (k : Task) : Cells → 
   swaps : (p r : Two) → k .pc ≡ inB p r swap → Fresh c k → Transition s w c k (swappedCells s c k) (goes k (afterB p r) (k .reads)) none
   misses : (p r : Two) → k .pc ≡ inB p r swap → (Fresh c k → ⊥) → Transition s w c k c (goes k (afterB p r) (k .reads)) none
   checksD : (p x : Two) → k .pc ≡ checkD p x → Transition s w c k c (goes k (checkS p x) (withDirectory (k .reads) (c .directory))) none
-  answers : (p x : Two) (a : Answer) → k .pc ≡ checkS p x → checked s w (k .ticket) (held k .depth) (body c (held k)) ≡ some a
+  answers : (p x : Two) (a : Answer) → k .pc ≡ checkS p x → checked w (k .ticket) (body c (held k)) ≡ some a
       → Transition s w c k c (endedTask k (k .reads)) (some a)
-  passes : (p x : Two) → k .pc ≡ checkS p x → checked s w (k .ticket) (held k .depth) (body c (held k)) ≡ none
+  passes : (p x : Two) → k .pc ≡ checkS p x → checked w (k .ticket) (body c (held k)) ≡ none
       → Transition s w c k c (goes k (afterC p x) (k .reads)) none
   copies : (p r : Two) → k .pc ≡ inD p r copyD → Transition s w c k c (goes k (inD p r (slotD 0)) (copiedDirectory c (k .reads))) none
   slotsD : (p r : Two) (i : ℕ) → k .pc ≡ inD p r (slotD i) → suc i < s .workers

@@ -317,7 +317,7 @@ pub record Preserved (s : Settings) (U : ℕ → Update → ℕ → Type 0) (P :
       → splittable s (y .depth) b ≡ true → P c → P (split y b c)
   pub carries :
       (j : ℕ) (u : Update) (t : ℕ) → U j u t → (c : Copy) (y : Name) (b : Body) → leafOf c (account u) ≡ made y b
-      → holdsBack s (y .depth) b ≡ false → P c → P (replaceLeaf y (made y (carryOut j u t b)) c)
+      → holdsBack s (y .depth) b ≡ false → P c → P (replaceLeaf y (made y (carryOut s j u t b)) c)
 
 -- worker j, below n, has announced update u with ticket t, which is of bucket x and not settled in its body b
 pub record Due (x : Name) (b : Body) (slots : ℕ → Slot) (n : ℕ) (j : ℕ) (u : Update) (t : ℕ) : Type 0 where
@@ -362,7 +362,7 @@ module _ {s : Settings} {U : ℕ → Update → ℕ → Type 0} {P : Copy → Ty
     unfolding carryLeaf
     preserved-carryLeaf c (kept y) at p = p
     preserved-carryLeaf c (made y b) at p =
-        if-elim P (holdsBack s (y .depth) b) c (replaceLeaf y (made y (carryOut j u t b)) c) (λ e. p)
+        if-elim P (holdsBack s (y .depth) b) c (replaceLeaf y (made y (carryOut s j u t b)) c) (λ e. p)
         (λ e. z .carries j u t taken c y b at e p)
 
     pub preserved-takeUpdate : (c : Copy) → P c → P (takeUpdate s j u t c)
@@ -394,7 +394,7 @@ module _ {k : ℕ} (small : k ≤ 32) (s : Settings) (limit : s .depth ≤ k) wh
     splits = λ j u t i c′ y b at e p. refined-within small p (account u) i b at
         (refined-split (p .coherent) (account u) y (ap nameOf at) small b (omega (arith, splittable-below s (y .depth) b e)));
     carries = λ j u t i c′ y b at e p. refined-within small p (account u) i b at
-        (refined-replaced (p .coherent) (account u) y (ap nameOf at) small (carryOut j u t b));
+        (refined-replaced (p .coherent) (account u) y (ap nameOf at) small (carryOut s j u t b));
   }
 
   -- the bucket x with body b that account a is in, resized

@@ -11,10 +11,10 @@ use Rattle.interface.specs.declared.Settings.{Settings}
 use Rattle.machine.specs.Choice.{_and_}
 use Rattle.machine.specs.Sequential.{Update, account}
 use Rattle.machine.specs.Records.{Name, Settled, Body, State, Leaf, kept, made, Copy, Slot, empty, announced}
-use Rattle.machine.specs.BucketPass.{full, holdsBack, splittable, carryOut, pending, help, helped}
+use Rattle.machine.specs.BucketPass.{holdsBack, splittable, carryOut, pending, help, helped}
 use Rattle.machine.specs.DirectoryPass.{leafOf, nameOf, replaceLeaf, takeSlots}
 use Rattle.machine.proofs.laws.Base.{no-both, if-elim, and-parts, and-right, is-false, below-suc}
-use Rattle.machine.proofs.laws.Copies.{nameAt, Coherent, MadeIn, Refined, name-at, refined-takeSlots, splittable-below}
+use Rattle.machine.proofs.laws.Copies.{nameAt, Coherent, MadeIn, Refined, name-at, refined-takeSlots}
 use Rattle.machine.proofs.invariant.Inv.{ticketOf, uniform, resolved}
 use Rattle.machine.proofs.laws.Splitting.{unsettled, due-unsettled, carry-own, carry-other, DueChange, LeafChanged, SlotsTaken, resolvedIn, start-leaf, taken, served, inside-same}
 pub use Rattle.machine.proofs.laws.Copies.{InBucket, depthAt, due}
@@ -51,18 +51,18 @@ abbrev pub calls : State → (ℕ → Bool) → ℕ → Slot → Bool
 calls x toggle i empty = false
 calls x toggle i (announced u t) = pending x toggle i t
 
--- the copy b once the workers below j have been helped
-pub record Helped (s : Settings) (x : State) (toggle : ℕ → Bool) (slots : ℕ → Slot) (j : ℕ) (b : Body) : Type 0 where
+-- the copy b of a bucket of depth d once the workers below j have been helped
+pub record Helped (s : Settings) (d : ℕ) (x : State) (toggle : ℕ → Bool) (slots : ℕ → Slot) (j : ℕ) (b : Body) : Type 0 where
   pub settled-change : (i : ℕ) → SettledChange (x .body) b (slots i) ((i < j) × (calls x toggle i (slots i) ≡ true)) i
-  pub served : (i : ℕ) → i < j → calls x toggle i (slots i) ≡ true → (b .settled i .ticket ≡ ticketOf (slots i)) ⊎ (full s b ≡ true)
-  pub unchanged : full s (x .body) ≡ true → b ≡ x .body
+  pub served : (i : ℕ) → i < j → calls x toggle i (slots i) ≡ true → (b .settled i .ticket ≡ ticketOf (slots i)) ⊎ (holdsBack s d b ≡ true)
+  pub unchanged : holdsBack s d (x .body) ≡ true → b ≡ x .body
 
 module _ (s : Settings) (d : ℕ) (x : State) (toggle : ℕ → Bool) (slots : ℕ → Slot) where
-  module _ (j : ℕ) (b : Body) (h : Helped s x toggle slots j b) where
+  module _ (j : ℕ) (b : Body) (h : Helped s d x toggle slots j b) where
     later : (i : ℕ) → (i < j) × (calls x toggle i (slots i) ≡ true) → (i < suc j) × (calls x toggle i (slots i) ≡ true)
     later i t = (omega (arith, t .0), t .1)
 
-    helped-leave : (calls x toggle j (slots j) ≡ true → full s b ≡ true) → Helped s x toggle slots (suc j) b
+    helped-leave : (calls x toggle j (slots j) ≡ true → holdsBack s d b ≡ true) → Helped s d x toggle slots (suc j) b
     helped-leave w = record {
       settled-change = λ i. settled-change-on (later i) refl (h .settled-change i);
       served = below-suc _ j (h .served) (λ g. inr (w g));
@@ -70,37 +70,37 @@ module _ (s : Settings) (d : ℕ) (x : State) (toggle : ℕ → Bool) (slots : �
     }
 
     helped-carry :
-        (u : Update) (t : ℕ) → slots j ≡ announced u t → pending x toggle j t ≡ true → full s b ≡ false
-        → Helped s x toggle slots (suc j) (carryOut j u t b)
+        (u : Update) (t : ℕ) → slots j ≡ announced u t → pending x toggle j t ≡ true → holdsBack s d b ≡ false
+        → Helped s d x toggle slots (suc j) (carryOut s j u t b)
     unfolding pending
     helped-carry u t at e f = record {
       settled-change = λ i. settled-change i (ℕ-discrete i j);
-      served = below-suc _ j (λ i l g. before i l (h .served i l g)) (λ g. inl (carry-own j u t b ∙ ap ticketOf (sym at)));
+      served = below-suc _ j (λ i l g. before i l (h .served i l g)) (λ g. inl (carry-own s j u t b ∙ ap ticketOf (sym at)));
       unchanged = λ g. absurd (no-both (rw (h .unchanged g) g) f);
     }
       where
         settled-change :
-            (i : ℕ) → Dec (i ≡ j) → SettledChange (x .body) (carryOut j u t b) (slots i) ((i < suc j) × (calls x toggle i (slots i) ≡ true))
-            i
+            (i : ℕ) → Dec (i ≡ j)
+            → SettledChange (x .body) (carryOut s j u t b) (slots i) ((i < suc j) × (calls x toggle i (slots i) ≡ true)) i
         settled-change i (yes z) =
-            rw (z, at) (settled-new (omega arith, e) (unsettled (x .body) j t (not-true _ (and-parts _ _ e .1))) (carry-own j u t b))
-        settled-change i (no z) = settled-change-on (later i) (carry-other j u t b i z) (h .settled-change i)
+            rw (z, at) (settled-new (omega arith, e) (unsettled (x .body) j t (not-true _ (and-parts _ _ e .1))) (carry-own s j u t b))
+        settled-change i (no z) = settled-change-on (later i) (carry-other s j u t b i z) (h .settled-change i)
 
         before :
-            (i : ℕ) → i < j → (b .settled i .ticket ≡ ticketOf (slots i)) ⊎ (full s b ≡ true)
-            → (carryOut j u t b .settled i .ticket ≡ ticketOf (slots i)) ⊎ (full s (carryOut j u t b) ≡ true)
-        before i l (inl z) = inl (ap (λ (y : Settled). y .ticket) (carry-other j u t b i (λ y. omega arith)) ∙ z)
+            (i : ℕ) → i < j → (b .settled i .ticket ≡ ticketOf (slots i)) ⊎ (holdsBack s d b ≡ true)
+            → (carryOut s j u t b .settled i .ticket ≡ ticketOf (slots i)) ⊎ (holdsBack s d (carryOut s j u t b) ≡ true)
+        before i l (inl z) = inl (ap (λ (y : Settled). y .ticket) (carry-other s j u t b i (λ y. omega arith)) ∙ z)
         before i l (inr z) = absurd (no-both z f)
 
-    helped-suc : (o : Slot) → slots j ≡ o → Helped s x toggle slots (suc j) (help s d x toggle j o b)
-    unfolding help holdsBack
+    helped-suc : (o : Slot) → slots j ≡ o → Helped s d x toggle slots (suc j) (help s d x toggle j o b)
+    unfolding help
     helped-suc empty at = helped-leave (λ g. absurd (no-both g (rw at refl)))
     helped-suc (announced u t) at =
-        if-elim (Helped s x toggle slots (suc j)) (pending x toggle j t and not (full s b)) (carryOut j u t b) b
+        if-elim (Helped s d x toggle slots (suc j)) (pending x toggle j t and not (holdsBack s d b)) (carryOut s j u t b) b
         (λ e. helped-carry u t at (and-parts _ _ e .0) (not-true _ (and-parts _ _ e .1)))
         (λ e. helped-leave (λ g. not-false _ (and-right _ _ e (rw at at g))))
 
-  pub helped-ok : (j : ℕ) → Helped s x toggle slots j (helped s d x toggle slots j)
+  pub helped-ok : (j : ℕ) → Helped s d x toggle slots j (helped s d x toggle slots j)
   unfolding helped
   helped-ok zero = record { settled-change = λ i. settled-same refl; served = λ i l. absurd (omega arith); unchanged = λ g. refl }
   helped-ok (suc j) = helped-suc j (helped s d x toggle slots j) (helped-ok j) (slots j) refl
@@ -113,7 +113,7 @@ pub record Made (s : Settings) (x : Name) (b : Body) (slots : ℕ → Slot) (j :
   pub stands : (a : ℕ) → InBucket x a → leafOf c a ≡ made (nameAt (depthAt c a) a) (bodyAt c a)
   pub low : (a : ℕ) → InBucket x a → x .depth ≤ depthAt c a
   pub settled-change : (a i : ℕ) → InBucket x a → SettledChange b (bodyAt c a) (slots i) ((i < j) × (due x b i (slots i) ≡ true)) i
-  pub served : (i t : ℕ) (u : Update) → i < j → slots i ≡ announced u t → due x b i (slots i) ≡ true → Served s i t (leafOf c (account u))
+  pub served : (i t : ℕ) (u : Update) → i < j → slots i ≡ announced u t → due x b i (slots i) ≡ true → Served i t (leafOf c (account u))
   pub deep :
       splittable s (x .depth) b ≡ true
       → (((i : ℕ) → i < j → due x b i (slots i) ≡ false) × ((a : ℕ) → InBucket x a → leafOf c a ≡ made x b))
@@ -133,7 +133,7 @@ module _ (s : Settings) (room : s .depth ≤ 32) (x : Name) (b : Body) (slots : 
     low = λ a i. made-parts x (leafOf c a) (r .inside a i) .1;
     settled-change = λ a i z. settled-change i (moved a z .entry i);
     served = λ i t u l at d. served s x b slots room o h a₀ there j i l t u at d;
-    deep = λ f. elim (m .whole-or-split f) [ inl k ↦ inl (λ i l. idle f k i l (slots i) refl, k) | inr k ↦ inr k ];
+    deep = λ f. elim (m .whole-or-split f) [ inl k ↦ inl (λ i l. idle k i l (slots i) refl, k) | inr k ↦ inr k ];
   }
     where
       c : Copy
@@ -156,15 +156,12 @@ module _ (s : Settings) (room : s .depth ≤ 32) (x : Name) (b : Body) (slots : 
 
       -- an update that is due would have been served, and x is as it was
       idle :
-          splittable s (x .depth) b ≡ true → ((a : ℕ) → InBucket x a → leafOf c a ≡ made x b)
-          → (i : ℕ) → i < j → (w : Slot) → slots i ≡ w → due x b i w ≡ false
-      idle f k i l empty at = refl
-      idle f k i l (announced u t) at = is-false _ (λ d.
+          ((a : ℕ) → InBucket x a → leafOf c a ≡ made x b) → (i : ℕ) → i < j → (w : Slot) → slots i ≡ w → due x b i w ≡ false
+      idle k i l empty at = refl
+      idle k i l (announced u t) at = is-false _ (λ d.
           let z : leafOf c (account u) ≡ made x b = k (account u) (eqb-true _ _ (and-parts _ _ d .0)) in
-          elim (subst (Served s i t) z (served s x b slots room o h a₀ there j i l t u at (rw at d))) [
-            | inl e ↦ omega (arith, due-unsettled x b i (announced u t) d)
-            | inr e ↦ omega (arith, e .1, splittable-below s (x .depth) b f)
-          ])
+          let e : Served i t (made x b) = subst (Served i t) z (served s x b slots room o h a₀ there j i l t u at (rw at d)) in
+          omega (arith, due-unsettled x b i (announced u t) d))
 
 uniform-coherent : (k d : ℕ) → d ≤ k → Coherent k (uniform d)
 unfolding leafOf

@@ -3,22 +3,21 @@
 use Prim.Native.Nat.{ℕ, _≤_, _<_}
 use native.Mathlib.Omega.{arith}
 use native.Mathlib.Decide.{ℕ-discrete}
-use mathlib.Core.Path.{_≡_, refl, ap, sym, _∙_}
+use mathlib.Core.Path.{_≡_, refl, ap, sym, _∙_, subst}
 use mathlib.Core.Logic.{_⊎_, inl, inr, ⊎-elim}
-use mathlib.Core.Bool.{true, false}
+use mathlib.Core.Bool.{Bool, true, false}
 use mathlib.Core.List.{List, [], _∷_, _++_}
 use mathlib.Core.Option.{some}
 use lib.ListN.{length}
-use borrow.Author.Tests.{leb-false, lt-leb}
+use borrow.Author.Tests.{leb-false, lt-leb, ltb-false}
 use Rattle.interface.specs.declared.Settings.{Settings}
 use Rattle.interface.specs.declared.Answer.{Answer}
-use Rattle.interface.specs.declared.Answer.the-variants.{Crowded}
-use Rattle.machine.specs.Sequential.{Table, Update, update, lookup, account, firstBits, find, having, looked, result, changed, crowds, serve, Ascending}
+use Rattle.machine.specs.Sequential.{Table, Update, update, lookup, account, firstBits, find, having, looked, tried, crowds, serve, Ascending}
 use Rattle.machine.specs.Records.{Body}
-use Rattle.machine.specs.BucketPass.{full, carryOut}
+use Rattle.machine.specs.BucketPass.{full, splittable, holdsBack, carryOut}
 use Rattle.machine.specs.History.{Member, Distinct, serveIf}
-use Rattle.machine.proofs.laws.Base.{assign-at}
-use Rattle.machine.proofs.laws.Tables.{length-having-le, having-changed, result-having, serve-crowded, serve-update}
+use Rattle.machine.proofs.laws.Base.{assign-at, and-right}
+use Rattle.machine.proofs.laws.Tables.{length-having-le, crowds-full, tried-having}
 use Rattle.machine.specs.Tasks.{Task}
 use Rattle.machine.proofs.moments.Explain.{serveAll, answersOf}
 
@@ -94,34 +93,43 @@ module _ (s : Settings) where
   unfolding serveIf serve
   serveIf-lookup a t = refl
 
-  pub serveIf-update : (u : Update) (t : Table) → crowds (s .capacity) (s .depth) (account u) t ≡ false
-      → serveIf s (some (update u)) t ≡ (result u t, changed u t)
-  unfolding serveIf
-  serveIf-update u t e = serve-update (s .capacity) (s .depth) u t e
-
-  pub serveIf-crowded :
-      (u : Update) (t : Table) → crowds (s .capacity) (s .depth) (account u) t ≡ true → serveIf s (some (update u)) t ≡ (Crowded, t)
-  unfolding serveIf
-  serveIf-crowded u t e = serve-crowded (s .capacity) (s .depth) u t e
+  pub serveIf-update :
+      (u : Update) (t : Table) → serveIf s (some (update u)) t ≡ tried (crowds (s .capacity) (s .depth) (account u) t) u t
+  unfolding serveIf serve
+  serveIf-update u t = refl
 
 -- ---- an update at its bucket: body b holds the part of table t that agrees with the update's account in the first d bits
 
 module _ (u : Update) (t : Table) (d : ℕ) (b : Body) (part : b .items ≡ having d (firstBits d (account u)) t) where
-  -- where the bucket has room, the table has
-  pub room-for : (s : Settings) → s .depth ≤ 32 → d ≤ s .depth → full s b ≡ false → crowds (s .capacity) (s .depth) (account u) t ≡ false
-  unfolding full crowds
-  room-for s m l e =
-      let room : length (having d (firstBits d (account u)) t) < s .capacity = rw part at (leb-false (s .capacity) (length (b .items)) e) in
-      lt-leb (s .capacity) (length (having (s .depth) (firstBits (s .depth) (account u)) t))
-      (omega (arith, length-having-le d (s .depth) (account u) t l m))
+  -- a bucket that does not hold the update back is full exactly if its neighbours in the table crowd the update
+  pub room-for :
+      (s : Settings) → s .depth ≤ 32 → d ≤ s .depth → holdsBack s d b ≡ false → crowds (s .capacity) (s .depth) (account u) t ≡ full s b
+  unfolding holdsBack splittable full crowds
+  room-for s m l e = go (full s b) refl
+    where
+      go : (v : Bool) → full s b ≡ v → crowds (s .capacity) (s .depth) (account u) t ≡ v
+      go true h =
+          let z : d ≡ s .depth = omega (arith, ltb-false d (s .depth) (and-right _ _ e h)) in
+          crowds-full s (account u) t b (subst (λ (f : ℕ). b .items ≡ having f (firstBits f (account u)) t) z part) ∙ h
+      go false h =
+          let room : length (having d (firstBits d (account u)) t) < s .capacity =
+          rw part at (leb-false (s .capacity) (length (b .items)) h) in
+          lt-leb (s .capacity) (length (having (s .depth) (firstBits (s .depth) (account u)) t))
+          (omega (arith, length-having-le d (s .depth) (account u) t l m))
 
   -- the bucket's part and the answer there are the table's
-  pub carried-part : (j tk : ℕ) → Ascending t → carryOut j u tk b .items ≡ having d (firstBits d (account u)) (changed u t)
+  pub carried-part :
+      (s : Settings) (j tk : ℕ) → Ascending t
+      → carryOut s j u tk b .items ≡ having d (firstBits d (account u)) (tried (full s b) u t .1)
   unfolding carryOut
-  carried-part j tk h = ap (changed u) part ∙ sym (having-changed d u t h)
+  carried-part s j tk h =
+      ap (λ (l : Table). tried (full s b) u l .1) part ∙ ap (λ (x : Answer × Table). x .1) (tried-having d (full s b) u t h)
 
-  pub carried-answer : (j tk : ℕ) → carryOut j u tk b .settled j ≡ record { ticket = tk; answer = result u t }
+  pub carried-answer :
+      (s : Settings) (j tk : ℕ) → Ascending t
+      → carryOut s j u tk b .settled j ≡ record { ticket = tk; answer = tried (full s b) u t .0 }
   unfolding carryOut
-  carried-answer j tk =
+  carried-answer s j tk h =
       assign-at (b .settled) j _ j refl
-      ∙ ap (λ r. record { ticket = tk; answer = r }) (ap (result u) part ∙ result-having d u t)
+      ∙ ap (λ r. record { ticket = tk; answer = r })
+      (ap (λ (l : Table). tried (full s b) u l .0) part ∙ ap (λ (x : Answer × Table). x .0) (tried-having d (full s b) u t h))

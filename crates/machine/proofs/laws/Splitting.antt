@@ -5,17 +5,17 @@ use native.Mathlib.Omega.{arith}
 use native.Mathlib.Decide.{ℕ-discrete}
 use mathlib.Core.Path.{_≡_, refl, ap, sym, _∙_, subst}
 use mathlib.Core.Logic.{_≢_, _⊎_, inl, inr}
-use mathlib.Core.Bool.{true, false, not}
+use mathlib.Core.Bool.{Bool, true, false, not}
 use lib.Dec.{eqb}
-use borrow.Author.Tests.{eqb-true, eq-eqb, leb-false, ltb-false, not-true}
+use borrow.Author.Tests.{eqb-true, eq-eqb, leb-false, not-true}
 use Rattle.interface.specs.declared.Settings.{Settings}
 use Rattle.machine.specs.Choice.{if_then_else_}
 use Rattle.machine.specs.Sequential.{Update, account, firstBits}
 use Rattle.machine.specs.Records.{Name, Settled, Body, Leaf, kept, made, Copy, Slot, empty, announced, emptyBody}
-use Rattle.machine.specs.BucketPass.{full, holdsBack, splittable, settledAt, carryOut}
+use Rattle.machine.specs.BucketPass.{holdsBack, splittable, settledAt, carryOut}
 use Rattle.machine.specs.DirectoryPass.{leafOf, nameOf, replaceLeaf, half, split, splitLeaf, splitWhile, carryLeaf, takeUpdate, takeSlot, takeSlots}
-use Rattle.machine.proofs.laws.Base.{no-both, if-elim, if-true, if-eq, eq-elim, and-true, and-parts, and-right, assign-at, assign-other, if-elim₂, below-suc}
-use Rattle.machine.proofs.laws.Copies.{InBucket, depthAt, halfLeaf, leaf-replaced, leaf-split, Coherent, depthAt-le, same-leaf, own-leaf, due, slot-elim, depth-x, MadeIn, Refined, refined-replaced, refined-preserved, splittable-below, Preserved, Due, preserved-takeUpdate, preserved-takeSlots}
+use Rattle.machine.proofs.laws.Base.{no-both, if-elim, if-true, if-eq, eq-elim, and-true, and-parts, assign-at, assign-other, if-elim₂, below-suc}
+use Rattle.machine.proofs.laws.Copies.{InBucket, depthAt, halfLeaf, leaf-replaced, leaf-split, Coherent, same-leaf, own-leaf, due, slot-elim, depth-x, MadeIn, Refined, refined-replaced, refined-preserved, splittable-below, Preserved, Due, preserved-takeUpdate, preserved-takeSlots}
 use Rattle.machine.proofs.invariant.Inv.{ticketOf}
 
 -- ---- one leaf
@@ -27,9 +27,13 @@ madeBody (made x b) = b
 abbrev pub bodyAt : Copy → ℕ → Body
 bodyAt c a = madeBody (leafOf c a)
 
--- worker i's ticket t is settled in the leaf, or the leaf is full at depth M
-abbrev pub Served : Settings → ℕ → ℕ → Leaf → Type 0
-Served s i t l = (madeBody l .settled i .ticket ≡ t) ⊎ ((full s (madeBody l) ≡ true) × (nameOf l .depth ≡ s .depth))
+-- worker i's ticket t is the one settled in the leaf
+abbrev pub Served : ℕ → ℕ → Leaf → Type 0
+Served i t l = madeBody l .settled i .ticket ≡ t
+
+-- the leaf holds updates back
+abbrev blocked : Settings → Leaf → Bool
+blocked s l = holdsBack s (nameOf l .depth) (madeBody l)
 
 pub unsettled : (b : Body) (i t : ℕ) → settledAt b i t ≡ false → b .settled i .ticket < t
 unfolding settledAt
@@ -39,13 +43,14 @@ pub due-unsettled : (x : Name) (b : Body) (i : ℕ) (o : Slot) → due x b i o �
 due-unsettled x b i empty e = absurd (no-both e refl)
 due-unsettled x b i (announced u t) e = unsettled b i t (not-true _ (and-parts _ _ e .1))
 
-pub carry-own : (j : ℕ) (u : Update) (t : ℕ) (b : Body) → carryOut j u t b .settled j .ticket ≡ t
+pub carry-own : (s : Settings) (j : ℕ) (u : Update) (t : ℕ) (b : Body) → carryOut s j u t b .settled j .ticket ≡ t
 unfolding carryOut
-carry-own j u t b = ap (λ (y : Settled). y .ticket) (assign-at (b .settled) j _ j refl)
+carry-own s j u t b = ap (λ (y : Settled). y .ticket) (assign-at (b .settled) j _ j refl)
 
-pub carry-other : (j : ℕ) (u : Update) (t : ℕ) (b : Body) (i : ℕ) → i ≢ j → carryOut j u t b .settled i ≡ b .settled i
+pub carry-other :
+    (s : Settings) (j : ℕ) (u : Update) (t : ℕ) (b : Body) (i : ℕ) → i ≢ j → carryOut s j u t b .settled i ≡ b .settled i
 unfolding carryOut
-carry-other j u t b i n = assign-other (b .settled) j _ i n
+carry-other s j u t b i n = assign-other (b .settled) j _ i n
 
 -- ---- one change of a copy
 
@@ -82,16 +87,14 @@ module _ (s : Settings) (x : Name) (b : Body) (slots : ℕ → Slot) where
   -- what taking updates that are due, of workers below n, may make of a leaf
   pub record LeafChanged (n : ℕ) (l l′ : Leaf) : Type 0 where
     pub deeper : nameOf l .depth ≤ nameOf l′ .depth
-    pub top : full s (madeBody l) ≡ true → nameOf l .depth ≡ s .depth → l′ ≡ l
     pub entry : (i : ℕ) → DueChange n i (madeBody l) (madeBody l′)
 
   leaf-changed-refl : (n : ℕ) (l : Leaf) → LeafChanged n l l
-  leaf-changed-refl n l = record { deeper = omega arith; top = λ f d. refl; entry = λ i. inl refl }
+  leaf-changed-refl n l = record { deeper = omega arith; entry = λ i. inl refl }
 
   leaf-changed-trans : {n : ℕ} {l l′ l″ : Leaf} → LeafChanged n l l′ → LeafChanged n l′ l″ → LeafChanged n l l″
   leaf-changed-trans {n} {l} {l′} {l″} p q = record {
     deeper = omega (arith, p .deeper, q .deeper);
-    top = λ f d. let e : l′ ≡ l = p .top f d in q .top (rw e f) (rw e d) ∙ e;
     entry = λ i. entry i (p .entry i) (q .entry i);
   }
     where
@@ -105,33 +108,22 @@ module _ (s : Settings) (x : Name) (b : Body) (slots : ℕ → Slot) where
 
   -- once served, always served
   leaf-changed-served :
-      {n j t : ℕ} {u : Update} {l l′ : Leaf} → slots j ≡ announced u t → LeafChanged n l l′ → Served s j t l → Served s j t l′
-  leaf-changed-served at p (inr e) = inr (rw (p .top (e .0) (e .1)) e)
-  leaf-changed-served {j = j} at p (inl e) =
-      elim (p .entry j) [ inl z ↦ inl (ap (λ (y : Settled). y .ticket) z ∙ e) | inr z ↦ inl (z .2 ∙ ap ticketOf at) ]
+      {n j t : ℕ} {u : Update} {l l′ : Leaf} → slots j ≡ announced u t → LeafChanged n l l′ → Served j t l → Served j t l′
+  leaf-changed-served {j = j} at p e =
+      elim (p .entry j) [ inl z ↦ ap (λ (y : Settled). y .ticket) z ∙ e | inr z ↦ z .2 ∙ ap ticketOf at ]
 
-  leaf-changed-split :
-      (n : ℕ) (y : Name) (v : Body) → splittable s (y .depth) v ≡ true → (a : ℕ) → LeafChanged n (made y v) (halfLeaf y v a)
+  leaf-changed-split : (n : ℕ) (y : Name) (v : Body) (a : ℕ) → LeafChanged n (made y v) (halfLeaf y v a)
   unfolding half
-  leaf-changed-split n y v g a = record {
-    deeper = omega arith;
-    top = λ f d. absurd (omega (arith, splittable-below s (y .depth) v g));
-    entry = λ i. inl refl;
-  }
+  leaf-changed-split n y v a = record { deeper = omega arith; entry = λ i. inl refl }
 
   leaf-changed-carry :
-      {n j : ℕ} {u : Update} {t : ℕ} → Due x b slots n j u t → (y : Name) (v : Body) → holdsBack s (y .depth) v ≡ false
-      → LeafChanged n (made y v) (made y (carryOut j u t v))
-  unfolding holdsBack
-  leaf-changed-carry {n} {j} {u} {t} d y v r = record {
-    deeper = omega arith;
-    top = λ f e. absurd (no-both f r);
-    entry = λ i. entry i (ℕ-discrete i j);
-  }
+      {n j : ℕ} {u : Update} {t : ℕ} → Due x b slots n j u t → (y : Name) (v : Body)
+      → LeafChanged n (made y v) (made y (carryOut s j u t v))
+  leaf-changed-carry {n} {j} {u} {t} d y v = record { deeper = omega arith; entry = λ i. entry i (ℕ-discrete i j) }
     where
-      entry : (i : ℕ) → Dec (i ≡ j) → DueChange n i v (carryOut j u t v)
-      entry i (no z) = inl (carry-other j u t v i z)
-      entry i (yes z) = rw (z, d .slot) (inr (d .below, and-true (eq-eqb _ _ (d .inside)) (ap not (d .unsettled)), carry-own j u t v))
+      entry : (i : ℕ) → Dec (i ≡ j) → DueChange n i v (carryOut s j u t v)
+      entry i (no z) = inl (carry-other s j u t v i z)
+      entry i (yes z) = rw (z, d .slot) (inr (d .below, and-true (eq-eqb _ _ (d .inside)) (ap not (d .unsettled)), carry-own s j u t v))
 
   -- a change of the made bucket y of account e moves every leaf as it moves y's
   replaced-changed :
@@ -151,10 +143,10 @@ module _ (s : Settings) (x : Name) (b : Body) (slots : ℕ → Slot) where
     pub leaves : (a : ℕ) → LeafChanged n (leafOf c a) (leafOf c′ a)
     pub whole-or-split : splittable s (x .depth) b ≡ true → WholeOrSplit c′
 
-  -- if account a's bucket is full, f more splits bring it to depth M
+  -- if account a's bucket holds updates back, f more splits bring it to depth M
   record SplitsLeft (o : Copy) (f a : ℕ) (c : Copy) : Type 0 where
     shape : Refined (s .depth) x o c
-    splits-left : full s (bodyAt c a) ≡ true → s .depth ≤ f + depthAt c a
+    splits-left : blocked s (leafOf c a) ≡ true → s .depth ≤ f + depthAt c a
 
   -- the two have the same leaves inside x
   record SameInside (o o′ c c′ : Copy) : Type 0 where
@@ -179,7 +171,7 @@ module _ (s : Settings) (x : Name) (b : Body) (slots : ℕ → Slot) where
             let h : Coherent (s .depth) c′ = p .shape .coherent in
             let w : y .depth < s .depth = splittable-below s (y .depth) v g in
             let m : (a : ℕ) → LeafChanged n (leafOf c′ a) (leafOf (split y v c′) a)
-            = λ a. rw (split-in room h (account u) (ap nameOf at) v w a) (replaced-changed h (account u) at (leaf-changed-split n y v g) a)
+            = λ a. rw (split-in room h (account u) (ap nameOf at) v w a) (replaced-changed h (account u) at (leaf-changed-split n y v) a)
             in
             record {
               shape = refined .splits j u t (d .inside) c′ y v at g (p .shape);
@@ -193,16 +185,16 @@ module _ (s : Settings) (x : Name) (b : Body) (slots : ℕ → Slot) where
             };
         carries = λ j u t d c′ y v at g p.
             let h : Coherent (s .depth) c′ = p .shape .coherent in
-            let m : (a : ℕ) → LeafChanged n (leafOf c′ a) (leafOf (replaceLeaf y (made y (carryOut j u t v)) c′) a)
+            let m : (a : ℕ) → LeafChanged n (leafOf c′ a) (leafOf (replaceLeaf y (made y (carryOut s j u t v)) c′) a)
             = λ a. rw (replaced-in room h (account u) (ap nameOf at) _ a)
-            (replaced-changed h (account u) at (λ e. leaf-changed-carry d y v g) a) in
+            (replaced-changed h (account u) at (λ e. leaf-changed-carry d y v) a) in
             record {
               shape = refined .carries j u t (d .inside) c′ y v at g (p .shape);
               leaves = λ a. leaf-changed-trans (p .leaves a) (m a);
               whole-or-split = λ f. inr (λ a i. elim (p .whole-or-split f) [
                 | inl k ↦
-                    let z : v ≡ b = let q : made y v ≡ made x b = sym at ∙ k (account u) (d .inside) in cc in
-                    absurd (no-both (and-parts _ _ f .0) (rw z at g))
+                    let z : made y v ≡ made x b = sym at ∙ k (account u) (d .inside) in
+                    absurd (no-both f (ap (blocked s) (sym z) ∙ g))
                 | inr k ↦ omega (arith, k a i, m a .deeper)
               ]);
             };
@@ -215,19 +207,16 @@ module _ (s : Settings) (x : Name) (b : Body) (slots : ℕ → Slot) where
         splits-left-splitLeaf :
             (f : ℕ) (c : Copy) (l : Leaf) → leafOf c (account u) ≡ l → SplitsLeft o (suc f) (account u) c
             → SplitsLeft o f (account u) (splitLeaf s c l)
-        unfolding splitLeaf splittable
+        unfolding splitLeaf holdsBack
         splits-left-splitLeaf f c (kept y) at p = absurd (subst (MadeIn x) at (p .shape .inside (account u) i))
         splits-left-splitLeaf f c (made y v) at p =
             if-elim (SplitsLeft o f (account u)) (splittable s (y .depth) v) (split y v c) c
             (λ g. record {
               shape = refined .splits j u t i c y v at g (p .shape);
               splits-left = λ q. omega
-                  (arith, further (splittable-below s (y .depth) v g), here, p .splits-left (rw at (and-parts _ _ g .0)));
+                  (arith, further (splittable-below s (y .depth) v g), here, p .splits-left (ap (blocked s) at ∙ g));
             })
-            (λ g. record {
-              shape = p .shape;
-              splits-left = λ q. omega (arith, here, ltb-false (y .depth) (s .depth) (and-right _ _ g (rw at at q)));
-            })
+            (λ g. record { shape = p .shape; splits-left = λ q. absurd (no-both (ap (blocked s) (sym at) ∙ q) g) })
           where
             h : Coherent (s .depth) c
             h = p .shape .coherent
@@ -247,21 +236,21 @@ module _ (s : Settings) (x : Name) (b : Body) (slots : ℕ → Slot) where
 
         served-carryLeaf :
             (c : Copy) (l : Leaf) → leafOf c (account u) ≡ l → SplitsLeft o 0 (account u) c
-            → Served s j t (leafOf (carryLeaf s j u t c l) (account u))
+            → Served j t (leafOf (carryLeaf s j u t c l) (account u))
         unfolding carryLeaf holdsBack
         served-carryLeaf c (kept y) at p = absurd (subst (MadeIn x) at (p .shape .inside (account u) i))
         served-carryLeaf c (made y v) at p =
             let h : Coherent (s .depth) c = p .shape .coherent in
-            let l : Leaf = made y (carryOut j u t v) in
+            let l : Leaf = made y (carryOut s j u t v) in
             let q : nameOf (leafOf c (account u)) ≡ y = ap nameOf at in
             let w : leafOf (replaceLeaf y l c) (account u) ≡ l = replaced-leaf room h (account u) q l (account u)
             (own-in room h (account u) q) in
-            if-elim (λ (c′ : Copy). Served s j t (leafOf c′ (account u))) (full s v) c (replaceLeaf y l c)
-            (λ g. let f : full s (bodyAt c (account u)) ≡ true = rw at g in
-            inr (f, omega (arith, p .splits-left f, depthAt-le h (account u), h .bound)))
-            (λ g. inl (rw w (carry-own j u t v)))
+            if-elim (λ (c′ : Copy). Served j t (leafOf c′ (account u))) (holdsBack s (y .depth) v) c (replaceLeaf y l c)
+            (λ g. absurd (omega
+            (arith, p .splits-left (ap (blocked s) at ∙ g), ap (λ (n : Name). n .depth) q, splittable-below s (y .depth) v g)))
+            (λ g. rw w (carry-own s j u t v))
 
-        served-takeUpdate : (c : Copy) → Refined (s .depth) x o c → Served s j t (leafOf (takeUpdate s j u t c) (account u))
+        served-takeUpdate : (c : Copy) → Refined (s .depth) x o c → Served j t (leafOf (takeUpdate s j u t c) (account u))
         unfolding takeUpdate
         served-takeUpdate c r =
             let c′ : Copy = splitWhile s (s .depth) (account u) c in
@@ -299,7 +288,7 @@ module _ (s : Settings) (x : Name) (b : Body) (slots : ℕ → Slot) where
 
       served-next :
           (j t : ℕ) (u : Update) → slots j ≡ announced u t → due x b j (slots j) ≡ true
-          → Served s j t (leafOf (resolvedIn (suc j) o) (account u))
+          → Served j t (leafOf (resolvedIn (suc j) o) (account u))
       unfolding takeSlots takeSlot
       served-next j t u at d =
           let e : due x b j (announced u t) ≡ true = rw at at d in
@@ -309,7 +298,7 @@ module _ (s : Settings) (x : Name) (b : Body) (slots : ℕ → Slot) where
 
       pub served :
           (n i : ℕ) → i < n → (t : ℕ) (u : Update) → slots i ≡ announced u t → due x b i (slots i) ≡ true
-          → Served s i t (leafOf (resolvedIn n o) (account u))
+          → Served i t (leafOf (resolvedIn n o) (account u))
       served zero = λ i l t u at d. absurd (omega arith)
       served (suc j) =
           below-suc _ j (λ i l t u at d. leaf-changed-served at (taken-next j .leaves (account u)) (served j i l t u at d)) (served-next j)
@@ -354,7 +343,7 @@ module _ (s : Settings) (x : Name) (b : Body) (slots : ℕ → Slot) where
         same-inside-carryLeaf c c′ (kept y) at p = p
         same-inside-carryLeaf c c′ (made y v) at p =
             let at′ : leafOf c′ (account u) ≡ made y v = sym (p .same (account u) i) ∙ at in
-            let l : Leaf = made y (carryOut j u t v) in
+            let l : Leaf = made y (carryOut s j u t v) in
             if-elim₂ (SameInside o o′) (holdsBack s (y .depth) v) _ _ _ _
             (λ g. p)
             (λ g. record {

@@ -13,12 +13,13 @@ use lib.ListN.{length}
 use lib.IntN.{ℤ, _+ℤ_}
 use borrow.Author.Tests.{ltb-true, ltb-false}
 use Rattle.interface.specs.declared.Settings.{Settings}
+use Rattle.interface.specs.declared.Answer.{Answer}
 use Rattle.interface.specs.declared.Answer.the-variants.{Added, Replaced, Removed, Absent, Posted, Crowded, Overrun}
-use Rattle.machine.specs.Choice.{if_then_else_}
-use Rattle.machine.specs.Sequential.{Update, insert, delete, post, update, account, firstBits, Table, find, put, remove, having, present, totalOr0, isTotal, sum, result, changed, crowds, serve, AccountsAbove, Ascending}
+use Rattle.machine.specs.Choice.{if_then_else_, _and_}
+use Rattle.machine.specs.Sequential.{Update, insert, delete, post, account, firstBits, Table, find, put, remove, having, present, totalOr0, isTotal, sum, result, changed, isNone, creates, tried, crowds, AccountsAbove, Ascending}
 use Rattle.machine.specs.Records.{Body}
 use Rattle.machine.specs.BucketPass.{full}
-use Rattle.machine.proofs.laws.Base.{if-elim, if-true, if-false, eq-elim, if-eq, if-ne, none-some}
+use Rattle.machine.proofs.laws.Base.{if-elim, eq-elim, if-eq, if-ne, none-some}
 use Rattle.machine.proofs.laws.Bits.{bits-mono}
 
 -- ---- tables by their first entry
@@ -282,11 +283,46 @@ pub crowds-full : (s : Settings) (a : ℕ) (t : Table) (x : Body) → x .items �
 unfolding crowds full
 crowds-full s a t x h = ap (λ (l : Table). leb (s .capacity) (length l)) (sym h)
 
-pub serve-crowded : (b M : ℕ) (u : Update) (t : Table) → crowds b M (account u) t ≡ true → serve b M (update u) t ≡ (Crowded, t)
-unfolding serve
-serve-crowded b M u t h = if-true (Crowded, t) (result u t, changed u t) h
+pub full-same : (s : Settings) (x y : Body) → x .items ≡ y .items → full s x ≡ full s y
+unfolding full
+full-same s x y h = ap (λ (l : Table). leb (s .capacity) (length l)) h
 
-pub serve-update :
-    (b M : ℕ) (u : Update) (t : Table) → crowds b M (account u) t ≡ false → serve b M (update u) t ≡ (result u t, changed u t)
-unfolding serve
-serve-update b M u t h = if-false (Crowded, t) (result u t, changed u t) h
+creates-having : (d : ℕ) (u : Update) (t : Table) → creates u (having d (firstBits d (account u)) t) ≡ creates u t
+unfolding creates
+creates-having d (insert a v) t = ap isNone (find-having-in d (firstBits d a) t a refl)
+creates-having d (delete a) t = refl
+creates-having d (post a v) t = ap isNone (find-having-in d (firstBits d a) t a refl)
+
+-- crowded with nothing changed, or what the update does
+pub tried-elim :
+    (P : Answer × Table → Type 0) (c : Bool) (u : Update) (t : Table) → P (Crowded, t) → P (result u t, changed u t) → P (tried c u t)
+unfolding tried
+tried-elim P c u t f g = if-elim P (c and creates u t) (Crowded, t) (result u t, changed u t) (λ e. f) (λ e. g)
+
+pub ascending-tried : (c : Bool) (u : Update) (t : Table) → Ascending t → Ascending (tried c u t .1)
+ascending-tried c u t h = tried-elim (λ x. Ascending (x .1)) c u t h (ascending-changed u t h)
+
+pub tried-other :
+    (d q : ℕ) (c : Bool) (u : Update) (t : Table) → Ascending t → q ≢ firstBits d (account u) → having d q (tried c u t .1) ≡ having d q t
+tried-other d q c u t s n = tried-elim (λ x. having d q (x .1) ≡ having d q t) c u t refl (having-changed-other d q u t s n)
+
+-- an update tried on its part of the table is tried on the table
+pub tried-having : (d : ℕ) (c : Bool) (u : Update) (t : Table) → Ascending t
+    → _≡_ {A = Answer × Table} (tried c u (having d (firstBits d (account u)) t))
+    (tried c u t .0, having d (firstBits d (account u)) (tried c u t .1))
+unfolding tried if_then_else_
+tried-having d c u t s =
+    ap (λ (b : Bool). if c and b then (Crowded, part) else (result u part, changed u part)) (creates-having d u t)
+    ∙ go (c and creates u t)
+  where
+    part : Table
+    part = having d (firstBits d (account u)) t
+
+    whole : Answer × Table → Answer × Table
+    whole x = (x .0, having d (firstBits d (account u)) (x .1))
+
+    go :
+        (b : Bool)
+        → if b then (Crowded, part) else (result u part, changed u part) ≡ whole (if b then (Crowded, t) else (result u t, changed u t))
+    go true = refl
+    go false = λ i. (result-having d u t i, sym (having-changed d u t s) i)

@@ -1,5 +1,6 @@
 -- One working copy for each current bucket: an update taken in its bucket's copy, and what it means to the plain table. Splits change no
--- account's part of the table, and the update is carried out where there is room. Rests on working copies and on buckets by account.
+-- account's part of the table, and the update is carried out unless its bucket holds it back. Rests on working copies and on buckets by
+-- account.
 use Prim.Native.Nat.{ℕ, suc, _≤_, _<_}
 use native.Mathlib.Omega.{arith}
 use mathlib.Core.Path.{_≡_, refl, ap, sym, _∙_, subst}
@@ -10,7 +11,7 @@ use Rattle.interface.specs.declared.Settings.{Settings}
 use Rattle.machine.specs.Choice.{if_then_else_}
 use Rattle.machine.specs.Sequential.{Table, account, firstBits, having}
 use Rattle.machine.specs.Records.{Name, same, Body, Leaf, kept, made, Copy, Cells}
-use Rattle.machine.specs.BucketPass.{full, holdsBack, carryOut}
+use Rattle.machine.specs.BucketPass.{holdsBack, carryOut}
 use Rattle.machine.specs.DirectoryPass.{leafOf, nameOf, replaceLeaf, half, splitWhile, carryLeaf, takeUpdate}
 use Rattle.machine.proofs.laws.Base.{if-elim, if-true, if-eq, if-ne, eq-elim}
 use Rattle.machine.proofs.laws.Cells.{eq-same, same-false, same-elim}
@@ -118,15 +119,16 @@ module _ (s : Settings) (small : s .depth ≤ 32) (c : Cells) (tasks : ℕ → T
   With C = ownLeaf (replaceCopy c mine C H)
 
   abbrev carriedOut : Body → Body
-  carriedOut = carryOut j (w .wanted) (tasks j .ticket)
+  carriedOut = carryOut s j (w .wanted) (tasks j .ticket)
 
   carried :
-      (C : Copy) → SplitFrom s (H mine) C → (y : Name) (v : Body) → leafOf C mine ≡ made y v → full s v ≡ false
+      (C : Copy) → SplitFrom s (H mine) C → (y : Name) (v : Body) → leafOf C mine ≡ made y v → holdsBack s (y .depth) v ≡ false
       → Linearized s c tasks t (With C) j
       → Linearized s c tasks t (With (replaceLeaf y (made y (carriedOut v)) C)) (suc j)
   unfolding if_then_else_
   carried C z y v at room =
-      linearized-carry s c tasks small (copies-partition s small c g K copies-ok) w (rw here room) names inside outside
+      linearized-carry s c tasks small (copies-partition s small c g K copies-ok) w
+      (ap (λ (l : Leaf). holdsBack s (nameOf l .depth) (madeBody l)) here ∙ room) names inside outside
     where
       D : Copy
       D = replaceLeaf y (made y (carriedOut v)) C
@@ -169,7 +171,7 @@ module _ (s : Settings) (small : s .depth ≤ 32) (c : Cells) (tasks : ℕ → T
   pub taking :
       Linearized s c tasks t (ownLeaf H) j
       → Linearized s c tasks t (ownLeaf (replaceCopy c mine (takeUpdate s j (w .wanted) (tasks j .ticket) (H mine)) H)) (suc j)
-  unfolding takeUpdate carryLeaf holdsBack
+  unfolding takeUpdate carryLeaf
   taking q = go (leafOf C mine) refl
     where
       C : Copy
@@ -191,5 +193,5 @@ module _ (s : Settings) (small : s .depth ≤ 32) (c : Cells) (tasks : ℕ → T
       go : (l : Leaf) → leafOf C mine ≡ l → Linearized s c tasks t (With (carryLeaf s j (w .wanted) (tasks j .ticket) C l)) (suc j)
       go (kept y) at = linearized-later s c tasks mid
       go (made y v) at =
-          if-elim (λ (D : Copy). Linearized s c tasks t (With D) (suc j)) (full s v) C (replaceLeaf y (made y (carriedOut v)) C)
-          (λ f. linearized-later s c tasks mid) (λ f. carried C z y v at f mid)
+          if-elim (λ (D : Copy). Linearized s c tasks t (With D) (suc j)) (holdsBack s (y .depth) v) C
+          (replaceLeaf y (made y (carriedOut v)) C) (λ f. linearized-later s c tasks mid) (λ f. carried C z y v at f mid)

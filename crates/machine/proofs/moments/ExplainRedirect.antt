@@ -15,12 +15,12 @@ use Rattle.machine.specs.DirectoryPass.{leafOf, nameOf, takeUpdate, take
 use Rattle.machine.specs.History.{Member}
 use Rattle.machine.proofs.laws.Base.{no-both, if-elim, if-true, if-false, if-same, if-eq, and-true, and-parts}
 use Rattle.machine.proofs.laws.Cells.{same-elim}
-use Rattle.machine.proofs.laws.Copies.{InBucket, leaf-replaced, Coherent, splittable-below, Partition, partition-of, partition-name}
+use Rattle.machine.proofs.laws.Copies.{InBucket, leaf-replaced, Coherent, Partition, partition-of, partition-name}
 use Rattle.machine.specs.Counter.{Two, one, PC, look₂, swapD, inD}
 use Rattle.machine.proofs.invariant.Counter.{afterD, UnderWay, by-counter}
 use Rattle.machine.proofs.invariant.CounterFacts.{under-afterD}
 use Rattle.machine.specs.Tasks.{Task, target, leaf, DirectoryFresh, own}
-use Rattle.machine.proofs.invariant.Inv.{uniform, resolved, body, leafBody, ClosedSlot, Hold, ResolvedTo, KeptOrResolved, Announced, Looking, SlotFacts, ReadFacts, Inv}
+use Rattle.machine.proofs.invariant.Inv.{uniform, resolved, body, leafBody, SettledSlot, Hold, ResolvedTo, KeptOrResolved, Announced, Looking, SlotFacts, ReadFacts, Inv}
 use Rattle.machine.proofs.invariant.Preservation.{goes, under-announced}
 use Rattle.machine.proofs.laws.Resolve.{Made, resolved-ok, due, madeBody}
 use Rattle.machine.proofs.invariant.Change.{LeafEvolves}
@@ -144,23 +144,17 @@ module _
       is-due : due (leaf c (account u)) (leafBody c (account u)) j (announced u tk) ≡ true
       is-due = rw at at (and-parts _ _ x .1)
 
-      low : leaf c (account u) .depth < s .depth
-      low = elim (works (account u)) [
-        | inl z ↦ absurd (no-both (and-parts _ _ x .0) (ap isMade z))
-        | inr z ↦ splittable-below s (leaf c (account u) .depth) (leafBody c (account u)) (z .splits)
-      ]
-
       slot-current : c .slots j ≡ announced u tk
-      slot-current = sym (taken-real s small w wn c tasks i p r here fresh (account u) j low jn (and-parts _ _ x .1)) ∙ at
+      slot-current = sym (taken-real s small w wn c tasks i p r here fresh (account u) j jn (and-parts _ _ x .1)) ∙ at
 
-      unclosed : ClosedSlot s c j (c .slots j) → ⊥
-      unclosed h =
-          due-open s small w wn c tasks i p r here fresh (account u) j low (announced u tk) is-due (subst (ClosedSlot s c j) slot-current h)
+      not-settled : SettledSlot c j (c .slots j) → ⊥
+      not-settled h =
+          due-open s small w wn c tasks i p r here fresh (account u) j (announced u tk) is-due (subst (SettledSlot c j) slot-current h)
 
       under : UnderWay (tasks j .pc)
       under = by-counter (λ (pc : PC). SlotFacts s pc c j (tasks j) → UnderWay pc)
-          (λ f. unclosed (f .1)) (λ f. unclosed (f .closed)) (λ f. unclosed (f .closed)) (λ f. unclosed (f .closed)) (λ f. f) (λ pc h f. h)
-          (tasks j .pc) (i .own j jn .slot)
+          (λ f. not-settled (f .1)) (λ f. not-settled (f .settled)) (λ f. not-settled (f .settled)) (λ f. not-settled (f .settled)) (λ f. f)
+          (λ pc h f. h) (tasks j .pc) (i .own j jn .slot)
 
       ann : Announced s c j (tasks j)
       ann = under-announced s c j (tasks j) (tasks j .pc) under (i .own j jn .slot)

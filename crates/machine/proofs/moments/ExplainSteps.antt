@@ -12,24 +12,23 @@ use borrow.Author.Tests.{le-leb, lt-leb}
 use Rattle.interface.specs.declared.Settings.{Settings}
 use Rattle.interface.specs.declared.Answer.{Answer}
 use Rattle.machine.specs.Choice.{if_then_else_, assign}
-use Rattle.machine.specs.Sequential.{Table, Update, Operation, update, lookup, firstBits, find, having, looked, crowds}
+use Rattle.machine.specs.Sequential.{Table, Update, Operation, update, lookup, firstBits, find, having, looked}
 use Rattle.machine.specs.Records.{Name, same, Settled, bucketOf, announced, Cells, Reads}
 use Rattle.machine.specs.BucketPass.{checked}
 use Rattle.machine.specs.Steps.{withDirectory, assignSlot, assignBucket, assignToggle}
 use Rattle.machine.specs.History.{Member, serveIf}
 use Rattle.machine.proofs.laws.Base.{if-true, if-false, if-eq, if-ne, assign-at, assign-other}
 use Rattle.machine.proofs.laws.Cells.{same-true, eq-same, bucket-elim}
-use Rattle.machine.proofs.laws.Copies.{nameAt, partition-name, partition-of}
-use Rattle.machine.proofs.laws.Tables.{find-having-in, crowds-full}
+use Rattle.machine.proofs.laws.Tables.{find-having-in}
 use Rattle.machine.specs.Counter.{Two, one, two, readS, PC, announce, look₁, look₂, readD, flip, checkS, inB}
 use Rattle.machine.proofs.invariant.Counter.{afterC, UnderWay, by-counter}
 use Rattle.machine.specs.Tasks.{Task, about, target, leaf, held}
-use Rattle.machine.proofs.invariant.Inv.{body, leafBody, Hold, Announced, Own, Pair, Inv, HeldOrSuperseded}
+use Rattle.machine.proofs.invariant.Inv.{body, leafBody, SettledIn, Own, Pair, Inv, HeldOrSuperseded}
 use Rattle.machine.proofs.invariant.Preservation.{goes}
 use Rattle.machine.proofs.invariant.Transitions.{endedTask, flippedCells}
-use Rattle.machine.proofs.steps.BucketSteps.{CheckAnswer, settledAnswer, crowdedAnswer, check-settled, unanswered-ok}
+use Rattle.machine.proofs.steps.BucketSteps.{check-settled, unanswered-ok}
 use Rattle.machine.proofs.moments.Explain.{Parts, statusAt, status, outcome, serveAll, answersOf, replyTo, ExplainedStep}
-use Rattle.machine.proofs.laws.Serving.{serveIf-lookup, serveIf-crowded}
+use Rattle.machine.proofs.laws.Serving.{serveIf-lookup}
 use Rattle.machine.proofs.moments.Statuses.{entryStatus, status-entry}
 
 -- ---- the status of an operation
@@ -150,7 +149,7 @@ module _ (s : Settings) (w : ℕ) (wn : w < s .workers) (c : Cells) (tasks : ℕ
 
   -- a check without an answer; the last one always has one
   pub explained-pass :
-      (p x : Two) → tasks w .pc ≡ checkS p x → checked s w (tasks w .ticket) (held (tasks w) .depth) (body c (held (tasks w))) ≡ none
+      (p x : Two) → tasks w .pc ≡ checkS p x → checked w (tasks w .ticket) (body c (held (tasks w))) ≡ none
       → To c (goes (tasks w) (afterC p x) (tasks w .reads)) none
   explained-pass p x at e =
       let pair = subst (λ k. Pair s w c k k) (task-at at) (i .pair w w wn wn) in
@@ -232,40 +231,22 @@ module _ (s : Settings) (w : ℕ) (wn : w < s .workers) (c : Cells) (tasks : ℕ
           (serveIf-lookup s wanted t ∙ ap (λ v. (looked v, t)) (sym (found (same-true _ _ e))))
       go false e = no-effect-step c (same-buckets-refl c) _ _ (sym (status-at at ∙ if-false none _ e))
 
-  -- What is settled at the bucket held is settled at the account's: the update has had this answer. A crowded one takes effect now.
+  -- What is settled at the bucket held is settled at the account's: the update has had this answer.
   pub explained-answer :
       (p x : Two) (r : Answer) → tasks w .pc ≡ checkS p x
-      → checked s w (tasks w .ticket) (held (tasks w) .depth) (body c (held (tasks w))) ≡ some r
+      → checked w (tasks w .ticket) (body c (held (tasks w))) ≡ some r
       → To c (endedTask (tasks w) (tasks w .reads)) (some r)
-  explained-answer p x r at e = go (check-settled s w (k .ticket) (held k .depth) (body c (held k)) r e)
+  explained-answer p x r at e =
+      let v = check-settled w (k .ticket) (body c (held k)) r e in
+      no-effect-step c (same-buckets-refl c) _ (some r)
+      (sym (entry-at at tt ∙ ap (entryStatus (k .ticket)) (entry (own-at at .read .0 .is) (v .0)) ∙ entry-settled _ _ (v .0)
+      ∙ ap some (sym (v .1))))
     where
       k : Task
       k = goes (tasks w) (checkS p x) (tasks w .reads)
 
-      a : ℕ
-      a = target k
-
-      hold : Hold s c w k
-      hold = own-at at .read .0
-
-      call : Announced s c w k
-      call = own-at at .slot
-
       entry :
-          HeldOrSuperseded s c w k → k .ticket ≤ body c (held k) .settled w .ticket → leafBody c a .settled w ≡ body c (held k) .settled w
+          HeldOrSuperseded s c w k → SettledIn w (k .ticket) (body c (held k))
+          → leafBody c (target k) .settled w ≡ body c (held k) .settled w
       entry (inl n) l = ap (λ y. body c y .settled w) (sym n)
       entry (inr g) l = g .settled l
-
-      go : CheckAnswer s w (k .ticket) (held k .depth) (body c (held k)) r → To c (endedTask k (k .reads)) (some r)
-      go (settledAnswer l f) =
-          no-effect-step c (same-buckets-refl c) _ (some r)
-          (sym (entry-at at tt ∙ ap (entryStatus (k .ticket)) (entry (hold .is) l) ∙ entry-settled _ _ l ∙ ap some (sym f)))
-      go (crowdedAnswer l f d g) =
-          let deep : leaf c a .depth ≡ s .depth = omega (arith, hold .depth, partition-of _ (i .directory) .bound a) in
-          let here : held k ≡ leaf c a = hold .named ∙ ap (λ z. nameAt z a) (d ∙ sym deep)
-          ∙ sym (partition-name (partition-of _ (i .directory)) a) in
-          let part : body c (held k) .items ≡ having (s .depth) (firstBits (s .depth) a) t = rw (here, ← deep) (parts .part a) in
-          let full : crowds (s .capacity) (s .depth) a t ≡ true = crowds-full s a t (body c (held k)) part ∙ f in
-          served-step _ r (update (call .wanted)) (call .asks)
-          (entry-at at tt ∙ entry-unsettled _ _ (subst (λ y. body c y .settled w .ticket < k .ticket) here l))
-          (serveIf-crowded s (call .wanted) t (rw (call .asks) at full) ∙ ap (λ r. (r, t)) (sym g))

@@ -11,7 +11,7 @@ use Rattle.interface.specs.declared.Settings.{Settings}
 use Rattle.machine.specs.Choice.{if_then_else_}
 use Rattle.machine.specs.Sequential.{Table, Update, account, update, find, looked}
 use Rattle.machine.specs.Records.{Name, same, Body, State, Slot, empty, announced, Cells, made}
-use Rattle.machine.specs.BucketPass.{full, holdsBack, carryOut, pending, help, helped}
+use Rattle.machine.specs.BucketPass.{holdsBack, carryOut, pending, help, helped}
 use Rattle.machine.specs.Steps.{assignBucket, assignState}
 use Rattle.machine.proofs.laws.Base.{no-both, if-elim, if-true, and-parts}
 use Rattle.machine.proofs.laws.Cells.{eq-same, same-elim}
@@ -66,7 +66,7 @@ module _ (s : Settings) (small : s .depth ≤ 32) (w : ℕ) (wn : w < s .workers
   partition : Partition (s .depth) (leaf c)
   partition = partition-of _ (i .directory)
 
-  -- worker j's update is pending, and the copy has room for it
+  -- worker j's update is pending, and the copy does not hold it back
   module _ (j : ℕ) (jn : j < s .workers) (u : Update) (tk : ℕ) (e : k .reads .slots j ≡ announced u tk)
       (h : pending was (k .reads .toggle) j tk ≡ true) (room : holdsBack s (x .depth) (copy j) ≡ false) where
     seen-pending : ReadPending c k j
@@ -87,16 +87,16 @@ module _ (s : Settings) (small : s .depth ≤ 32) (w : ℕ) (wn : w < s .workers
     asks : tasks j .operation ≡ some (update u)
     asks = let z : ann .wanted ≡ u = cc slot in ann .asks ∙ ap (λ v. some (update v)) z
 
-    -- with room, its bucket is its account's
+    -- where nothing is held back, its bucket is its account's
     own-bucket : leaf c (account u) ≡ x
-    unfolding holdsBack
     own-bucket = go (holds-hold s c j (tasks j) (tasks j .pc) (rounds-holds (tasks j .pc) (stands .0)) (i .own j jn .read) .is)
       where
         go : HeldOrSuperseded s c j (tasks j) → leaf c (account u) ≡ x
         go (inl y) = ap (λ o. leaf c (about o)) (sym asks) ∙ sym y ∙ stands .1
         go (inr y) =
-            let f : full s (was .body) ≡ true = rw (stands .1) at (y .full) in
-            absurd (no-both (ap (full s) (helped-ok s (x .depth) was (k .reads .toggle) (k .reads .slots) j .unchanged f) ∙ f) room)
+            let f : holdsBack s (x .depth) (was .body) ≡ true = rw (stands .1) at (y .blocked) in
+            absurd (no-both
+            (ap (holdsBack s (x .depth)) (helped-ok s (x .depth) was (k .reads .toggle) (k .reads .slots) j .unchanged f) ∙ f) room)
 
     update-unsettled : UnsettledUpdate s c tasks j
     unfolding pending
@@ -108,20 +108,22 @@ module _ (s : Settings) (small : s .depth ≤ 32) (w : ℕ) (wn : w < s .workers
       unsettled = rw (own-bucket, ← ticket) (not-true _ (and-parts _ _ h .1));
     }
 
-    carried : At (copy j) j → At (carryOut j u tk (copy j)) (suc j)
-    unfolding holdsBack update-unsettled
+    carried : At (copy j) j → At (carryOut s j u tk (copy j)) (suc j)
+    unfolding update-unsettled
     carried =
-        linearized-carry s c tasks small partition update-unsettled (rw (with-in c x (copy j) (account u) own-bucket) room) (λ a. refl)
-        (λ a y. let z : leaf c a ≡ x = y ∙ own-bucket in rw (with-in c x (carryOut j u tk (copy j)) a z, with-in c x (copy j) a z, ticket))
+        linearized-carry s c tasks small partition update-unsettled
+        (rw (with-in c x (copy j) (account u) own-bucket, own-bucket) room) (λ a. refl)
+        (λ a y. let z : leaf c a ≡ x = y ∙ own-bucket in
+        rw (with-in c x (carryOut s j u tk (copy j)) a z, with-in c x (copy j) a z, ticket))
         (λ a n. let z : leaf c a ≢ x = λ y. n (y ∙ sym own-bucket) in
-        rw (with-out c x (carryOut j u tk (copy j)) a z, with-out c x (copy j) a z))
+        rw (with-out c x (carryOut s j u tk (copy j)) a z, with-out c x (copy j) a z))
 
   worker-step :
       (j : ℕ) → j < s .workers → (y : Slot) → k .reads .slots j ≡ y → At (copy j) j
       → At (help s (x .depth) was (k .reads .toggle) j y (copy j)) (suc j)
   unfolding help
   worker-step j jn empty e g = linearized-later s c tasks g
-  worker-step j jn (announced u tk) e g = if-elim (λ v. At v (suc j)) _ (carryOut j u tk (copy j)) (copy j)
+  worker-step j jn (announced u tk) e g = if-elim (λ v. At v (suc j)) _ (carryOut s j u tk (copy j)) (copy j)
       (λ h. let q = and-parts _ _ h in carried j jn u tk e (q .0) (not-true _ (q .1)) g)
       (λ h. linearized-later s c tasks g)
 
@@ -144,7 +146,7 @@ module _ (s : Settings) (small : s .depth ≤ 32) (w : ℕ) (wn : w < s .workers
   holds a = swapped-elim s c k (λ b. b .state .value .body ≡ bodyWith c x (roundBody s k) a) (leaf c a)
       (λ e. sym (with-in c x (roundBody s k) a e)) (λ e. sym (with-out c x (roundBody s k) a e))
 
-  -- a lookup that holds its account's bucket still does, and another bucket that is held is full
+  -- a lookup that holds its account's bucket still does, and another bucket that is held holds back
   lookup-kept : (j : ℕ) → j < s .workers → Hold s c j (tasks j) → lookupStatus c′ (tasks j) ≡ lookupStatus c (tasks j)
   unfolding assignState assignBucket
   lookup-kept j jn h = go (h .is)
@@ -153,7 +155,7 @@ module _ (s : Settings) (small : s .depth ≤ 32) (w : ℕ) (wn : w < s .workers
       go (inl e) = let z = eq-same (held (tasks j)) (leaf c (target (tasks j))) e in if-true none _ z ∙ sym (if-true none _ z)
       go (inr g) =
           ap (λ b. if same (held (tasks j)) (leaf c (target (tasks j))) then none else some (looked (find (b .items) (target (tasks j)))))
-          (kept-bucket s w wn c tasks i p r here fresh j jn .unchanged (g .full))
+          (kept-bucket s w wn c tasks i p r here fresh j jn .unchanged (g .blocked))
 
   pub explained-swap : ExplainedStep s w c tasks t (swappedCells s c (tasks w)) (goes (tasks w) (afterB p r) (tasks w .reads)) none
   unfolding assignState assignBucket

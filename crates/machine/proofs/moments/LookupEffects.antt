@@ -36,7 +36,7 @@ looked-up s c c′ t parts j k v e h = go (same (held k) (leaf c a)) refl (same 
 
     back : held k ≡ leaf c′ a → LeafEvolves s c c′ a → held k ≡ leaf c a
     back q (same-bucket x f g) = q ∙ x
-    back q (deeper-bucket l m d f) = absurd (omega (arith, h .depth, ap (λ x. x .depth) q))
+    back q (deeper-bucket l m f) = absurd (omega (arith, h .depth, ap (λ x. x .depth) q))
 
     go : (x : Bool) → same (held k) (leaf c a) ≡ x → (y : Bool) → same (held k) (leaf c′ a) ≡ y
         → (lookupStatus c′ k ≡ lookupStatus c k) ⊎ ((lookupStatus c k ≡ none) × (lookupStatus c′ k ≡ some (looked (find t a))))

@@ -4,7 +4,7 @@ use Prim.Native.Nat.{ℕ, _≤_, _<_, suc}
 use native.Mathlib.Omega.{arith}
 use mathlib.Core.Path.{_≡_, refl, ap, sym, _∙_, subst, fun-ext}
 use mathlib.Core.Logic.{_≢_, _⊎_, inl, inr, ⊎-elim}
-use mathlib.Core.Bool.{false}
+use mathlib.Core.Bool.{Bool, false}
 use mathlib.Core.List.{List, [], _∷_, _++_}
 use mathlib.Core.Option.{Option, none, some}
 use lib.Dec.{eqb, leb}
@@ -12,15 +12,15 @@ use borrow.Author.Tests.{le-leb}
 use Rattle.interface.specs.declared.Settings.{Settings}
 use Rattle.interface.specs.declared.Answer.{Answer}
 use Rattle.machine.specs.Choice.{if_then_else_, assign}
-use Rattle.machine.specs.Sequential.{Table, Update, account, update, firstBits, having, result, changed, Ascending}
+use Rattle.machine.specs.Sequential.{Table, Update, account, update, firstBits, having, tried, Ascending}
 use Rattle.machine.specs.Records.{Name, Settled, Cells, Reads, Leaf, made}
-use Rattle.machine.specs.BucketPass.{full, settledAt, carryOut}
+use Rattle.machine.specs.BucketPass.{full, holdsBack, settledAt, carryOut}
 use Rattle.machine.specs.DirectoryPass.{nameOf}
 use Rattle.machine.specs.History.{Member, Distinct, serveIf}
 use Rattle.machine.proofs.laws.Base.{if-true, if-false, if-same, assign-elim}
 use Rattle.machine.proofs.laws.Cells.{same-elim}
 use Rattle.machine.proofs.laws.Copies.{InBucket, Partition}
-use Rattle.machine.proofs.laws.Tables.{ascending-changed, having-changed-other}
+use Rattle.machine.proofs.laws.Tables.{full-same, ascending-tried, tried-other}
 use Rattle.machine.specs.Counter.{PC, readD, flip, checkD, checkS, inB, inD}
 use Rattle.machine.proofs.invariant.Counter.{UnderWay}
 use Rattle.machine.specs.Tasks.{Task, target, leaf}
@@ -145,12 +145,13 @@ module _ (s : Settings) (c : Cells) (tasks : ℕ → Task) where
   pub linearized-later : {t : Table} {F : ℕ → Leaf} {j : ℕ} → Linearized t F j → Linearized t F (suc j)
   linearized-later = linearized-split (omega arith) (λ a v h. h) (λ a. refl)
 
-  -- worker j's update is carried out too, in its account's bucket, which has room
+  -- worker j's update is carried out too, in its account's bucket, which does not hold it back
   pub linearized-carry :
       {t : Table} {F G : ℕ → Leaf} {j : ℕ} → s .depth ≤ 32 → Partition (s .depth) (λ a. nameOf (F a)) → (h : UnsettledUpdate j)
-      → full s (madeBody (F (account (h .wanted)))) ≡ false → ((a : ℕ) → nameOf (G a) ≡ nameOf (F a))
+      → holdsBack s (nameOf (F (account (h .wanted))) .depth) (madeBody (F (account (h .wanted)))) ≡ false
+      → ((a : ℕ) → nameOf (G a) ≡ nameOf (F a))
       → ((a : ℕ) → nameOf (F a) ≡ nameOf (F (account (h .wanted))) → madeBody (G a)
-      ≡ carryOut j (h .wanted) (tasks j .ticket) (madeBody (F a)))
+      ≡ carryOut s j (h .wanted) (tasks j .ticket) (madeBody (F a)))
       → ((a : ℕ) → nameOf (F a) ≢ nameOf (F (account (h .wanted))) → madeBody (G a) ≡ madeBody (F a))
       → Linearized t F j → Linearized t G (suc j)
   linearized-carry {t} {F} {G} {j} small g h room same inside outside d = record {
@@ -158,7 +159,7 @@ module _ (s : Settings) (c : Cells) (tasks : ℕ → Task) where
     below = λ i m. ⊎-elim (λ x. omega (arith, d .below i x)) (λ e. omega arith) (member-snoc i j js m);
     distinct = distinct-snoc js j (d .distinct) new;
     unsettled = λ i m. ⊎-elim (d .unsettled i) (λ e. rw e h) (member-snoc i j js m);
-    ascending = rw after (ascending-changed u now (d .ascending));
+    ascending = rw after (ascending-tried noRoom u now (d .ascending));
     part = λ a. rw (after, same a) (by-name (names a) (names (account u)) (part-in a) (part-out a));
     gained = λ i r m. answered i r (answers-snoc s tasks t js j i r m);
     others = λ i a n. keeps i a (λ e. n (rw e (member-last j js))) ∙ d .others i a (λ m. n (member-left i j js m));
@@ -179,30 +180,37 @@ module _ (s : Settings) (c : Cells) (tasks : ℕ → Task) where
       now : Table
       now = serveAll s tasks t js
 
-      served : serveIf s (tasks j .operation) now ≡ (result u now, changed u now)
-      served = rw (h .asks) (serveIf-update s u now
+      noRoom : Bool
+      noRoom = full s (madeBody (F (account u)))
+
+      served : serveIf s (tasks j .operation) now ≡ tried noRoom u now
+      served = rw (h .asks) (serveIf-update s u now ∙ ap (λ (b : Bool). tried b u now)
           (room-for u now (names (account u) .depth) (madeBody (F (account u))) (d .part (account u)) s small (g .bound (account u)) room))
 
-      after : serveAll s tasks t (js ++ j ∷ []) ≡ changed u now
+      after : serveAll s tasks t (js ++ j ∷ []) ≡ tried noRoom u now .1
       after = serveAll-snoc s tasks t js j ∙ ap (λ z. z .1) served
 
       Part : ℕ → Type 0
-      Part a = madeBody (G a) .items ≡ having (names a .depth) (firstBits (names a .depth) a) (changed u now)
+      Part a = madeBody (G a) .items ≡ having (names a .depth) (firstBits (names a .depth) a) (tried noRoom u now .1)
 
       part-in : (a : ℕ) → names a ≡ names (account u) → Part a
       part-in a e =
           let q : firstBits (names a .depth) a ≡ firstBits (names a .depth) (account u) =
           g .named a ∙ sym (subst (λ x. InBucket x (account u)) (sym e) (g .named (account u))) in
-          rw (inside a e, q) (carried-part u now (names a .depth) (madeBody (F a)) (rw q at (d .part a)) j (tasks j .ticket) (d .ascending))
+          let p : madeBody (F a) .items ≡ having (names a .depth) (firstBits (names a .depth) (account u)) now = rw q at (d .part a) in
+          let y : full s (madeBody (F a)) ≡ noRoom = full-same s (madeBody (F a)) (madeBody (F (account u)))
+          (p ∙ ap (λ (x : Name). having (x .depth) (firstBits (x .depth) (account u)) now) e ∙ sym (d .part (account u))) in
+          rw (inside a e, q) (carried-part u now (names a .depth) (madeBody (F a)) p s j (tasks j .ticket) (d .ascending)
+          ∙ ap (λ (b : Bool). having (names a .depth) (firstBits (names a .depth) (account u)) (tried b u now .1)) y)
 
       part-out : (a : ℕ) → names a ≢ names (account u) → Part a
       part-out a n =
-          rw (outside a n) (d .part a ∙ sym (having-changed-other (names a .depth) (firstBits (names a .depth) a) u now (d .ascending)
+          rw (outside a n) (d .part a ∙ sym (tried-other (names a .depth) (firstBits (names a .depth) a) noRoom u now (d .ascending)
           (λ q. n (sym (g .shared a (account u) (sym q ∙ g .named a))))))
 
       keeps : (i a : ℕ) → i ≢ j → madeBody (G a) .settled i ≡ madeBody (F a) .settled i
       keeps i a n = by-name (names a) (names (account u))
-          (λ e. ap (λ b. b .settled i) (inside a e) ∙ carry-other j u (tasks j .ticket) (madeBody (F a)) i n)
+          (λ e. ap (λ b. b .settled i) (inside a e) ∙ carry-other s j u (tasks j .ticket) (madeBody (F a)) i n)
           (λ e. ap (λ b. b .settled i) (outside a e))
 
       answered :
@@ -211,7 +219,8 @@ module _ (s : Settings) (c : Cells) (tasks : ℕ → Task) where
       answered i r (inl m) = keeps i (target (tasks i)) (λ e. new (rw e at (answers-member s tasks t js i r m))) ∙ d .gained i r m
       answered i r (inr e) = rw (e .0, e .1, served, h .asks)
           (ap (λ b. b .settled j) (inside (account u) refl)
-          ∙ carried-answer u now (names (account u) .depth) (madeBody (F (account u))) (d .part (account u)) j (tasks j .ticket))
+          ∙ carried-answer u now (names (account u) .depth) (madeBody (F (account u))) (d .part (account u)) s j (tasks j .ticket)
+          (d .ascending))
 
   -- ---- cells that have come to hold these buckets
 

@@ -2,27 +2,26 @@
 -- pass, a bucket swap that fails, and the checks. Rests on the first way to keep the invariant and on the transitions.
 use Prim.Native.Nat.{ℕ, suc, _≤_, _<_}
 use native.Mathlib.Omega.{arith}
-use mathlib.Core.Path.{_≡_, refl, ap, sym, subst, _∙_}
+use mathlib.Core.Path.{_≡_, refl, ap, sym, subst}
 use mathlib.Core.Logic.{inl, inr, ⊎-elim}
-use mathlib.Core.Bool.{Bool, true}
+use mathlib.Core.Bool.{Bool}
 use mathlib.Core.Option.{Option, none, some}
-use borrow.Author.Tests.{leb-true, leb-false, eqb-true, eq-eqb}
+use borrow.Author.Tests.{leb-true, leb-false}
 use Rattle.interface.specs.declared.Settings.{Settings}
 use Rattle.interface.specs.declared.Answer.{Answer}
-use Rattle.interface.specs.declared.Answer.the-variants.{Crowded}
 use Rattle.machine.specs.Choice.{assign}
 use Rattle.machine.specs.Sequential.{Update, update, lookup}
 use Rattle.machine.specs.Records.{Name, Body, State, Stamped, Slot, Cells}
-use Rattle.machine.specs.BucketPass.{full, crowded, settledAt, checked}
+use Rattle.machine.specs.BucketPass.{settledAt, checked}
 use Rattle.machine.specs.DirectoryPass.{copyOf}
 use Rattle.machine.specs.Steps.{withDirectory, withState, withToggle, withSlot}
-use Rattle.machine.proofs.laws.Base.{no-both, if-elim, and-true, and-parts, assign-elim, by-bit, none-some}
-use Rattle.machine.proofs.laws.Copies.{nameAt, Coherent, partition-name, partition-of}
+use Rattle.machine.proofs.laws.Base.{if-elim, assign-elim, by-bit, none-some}
+use Rattle.machine.proofs.laws.Copies.{Coherent, partition-name, partition-of}
 use Rattle.machine.specs.Counter.{Two, one, two, BStep, readS, readT, swap, slotB, PC, idle, announce, look₁, look₂, readD, flip, checkD, checkS, inB}
 use Rattle.machine.proofs.invariant.Counter.{afterB, afterC}
 use Rattle.machine.proofs.invariant.CounterFacts.{IsTwo, Rounds, HasToggle, SlotReadB, HasSlotD, FlipSeenB, UpdateSeen, BucketSplit, slot-toggle, past-slot, outdated-now, flip-seen-rounds, toggle-rounds, update-seen-before}
-use Rattle.machine.specs.Tasks.{Task, target, leaf, held, own}
-use Rattle.machine.proofs.invariant.Inv.{HeldOrClosed, SettledOrFull, FullOrClosed, HeldOrSuperseded, body, Fresh, Applied, SeesFlip, ticketOf, Closed, ClosedSlot, OwnClosed, Hold, SeenState, SeenAt, InRound, CheckFacts, CheckFactsHere, Announced, Own, View, Pair, AppliedOrRounds}
+use Rattle.machine.specs.Tasks.{Task, target, held, own}
+use Rattle.machine.proofs.invariant.Inv.{HeldOrSettled, SettledOrBlocked, BlockedOrSettled, HeldOrSuperseded, body, Fresh, Applied, SeesFlip, ticketOf, SettledIn, SettledSlot, OwnSettled, Hold, SeenState, SeenAt, InRound, CheckFacts, CheckFactsHere, Announced, Own, View, Pair, AppliedOrRounds}
 use Rattle.machine.proofs.invariant.Preservation.{goes, Reading, announced-on, old-read}
 use Rattle.machine.proofs.invariant.Transitions.{endedTask}
 
@@ -37,40 +36,24 @@ withRead k pc x toggle slots =
 pub own-held : (c : Cells) (k q : Task) → held q ≡ held k → own c q ≡ own c k
 own-held c k q e = ap (c .buckets) e
 
--- ---- what a check says of worker j's ticket t, of a bucket of depth d with body b
+-- ---- what a check says of worker j's ticket t, of a bucket with body b
 
-module _ (s : Settings) (j t d : ℕ) (b : Body) where
-  -- the answer is the settled ticket's, or crowded
-  pub data CheckAnswer (r : Answer) : Type 0 where
-    settledAnswer : t ≤ b .settled j .ticket → r ≡ b .settled j .answer → CheckAnswer r
-    crowdedAnswer : b .settled j .ticket < t → full s b ≡ true → d ≡ s .depth → r ≡ Crowded → CheckAnswer r
+module _ (j t : ℕ) (b : Body) where
+  -- by cases: settled, or no answer yet
+  check-elim :
+      (P : Option Answer → Type 0) → (SettledIn j t b → P (some (b .settled j .answer))) → (b .settled j .ticket < t → P none)
+      → P (checked j t b)
+  unfolding checked settledAt
+  check-elim P x y = if-elim P (settledAt b j t) _ _ (λ e. x (leb-true t _ e)) (λ e. y (leb-false t _ e))
 
-  -- by cases: settled, crowded, or no answer yet
-  pub check-elim :
-      (P : Option Answer → Type 0) → (t ≤ b .settled j .ticket → P (some (b .settled j .answer)))
-      → (b .settled j .ticket < t → full s b ≡ true → d ≡ s .depth → P (some Crowded))
-      → (b .settled j .ticket < t → (full s b ≡ true → d ≡ s .depth → ⊥) → P none) → P (checked s j t d b)
-  unfolding checked settledAt crowded
-  check-elim P x y z = if-elim P (settledAt b j t) _ _ (λ e. x (leb-true t _ e)) (λ e. if-elim P (crowded s d b) _ _
-      (λ f. let h = and-parts (full s b) _ f in y (leb-false t _ e) (h .0) (eqb-true d (s .depth) (h .1)))
-      (λ f. z (leb-false t _ e) (λ g h. no-both (and-true g (eq-eqb d (s .depth) h)) f)))
+  -- an answer is the settled ticket's
+  pub check-settled : (r : Answer) → checked j t b ≡ some r → SettledIn j t b × (r ≡ b .settled j .answer)
+  check-settled r =
+      check-elim (λ o. o ≡ some r → SettledIn j t b × (r ≡ b .settled j .answer)) (λ l h. (l, cc)) (λ l h. absurd (none-some refl h))
 
-  pub check-settled : (r : Answer) → checked s j t d b ≡ some r → CheckAnswer r
-  check-settled r = check-elim (λ o. o ≡ some r → CheckAnswer r)
-      (λ l h. settledAnswer l (cc)) (λ l f e h. crowdedAnswer l f e (cc)) (λ l f h. absurd (none-some refl h))
-
-  check-answer-closed : {r : Answer} → CheckAnswer r → Closed s j t d b
-  check-answer-closed (settledAnswer l e) = inl l
-  check-answer-closed (crowdedAnswer l f e h) = inr (f, e)
-
-  -- what is closed is answered
-  check-none : checked s j t d b ≡ none → Closed s j t d b → ⊥
-  check-none =
-      check-elim (λ o. o ≡ none → Closed s j t d b → ⊥) (λ l h x. none-some h refl) (λ l f e h x. none-some h refl) (λ l f h. unsettled l f)
-    where
-      unsettled : b .settled j .ticket < t → (full s b ≡ true → d ≡ s .depth → ⊥) → Closed s j t d b → ⊥
-      unsettled l f (inl x) = omega arith
-      unsettled l f (inr x) = f (x .0) (x .1)
+  -- what is settled is answered
+  check-none : checked j t b ≡ none → SettledIn j t b → ⊥
+  check-none = check-elim (λ o. o ≡ none → SettledIn j t b → ⊥) (λ l h x. none-some h refl) (λ l h x. omega arith)
 
 module _ (s : Settings) (w : ℕ) (c : Cells) where
   -- ---- facts that a step carries on
@@ -146,11 +129,12 @@ module _ (s : Settings) (w : ℕ) (c : Cells) where
 
   -- ---- past a swap
 
-  -- after the second round of pass two: the bucket held is the account's, and has settled the update or is full
-  full-or-closed : (k : Task) → HeldOrClosed s c w k → SettledOrFull s w (k .ticket) (body c (held k)) → FullOrClosed s c w k
-  full-or-closed k (inr h) x = inr h
-  full-or-closed k (inl e) (inl x) = inr (inl (rw e at x))
-  full-or-closed k (inl e) (inr x) = inl (rw e at x)
+  -- after the second round of pass two: the bucket held is the account's, and has settled the update or holds it back
+  blocked-or-settled :
+      (k : Task) → HeldOrSettled c w k → SettledOrBlocked s w (k .ticket) (held k .depth) (body c (held k)) → BlockedOrSettled s c w k
+  blocked-or-settled k (inr h) x = inr h
+  blocked-or-settled k (inl e) (inl x) = inr (rw e at x)
+  blocked-or-settled k (inl e) (inr x) = inl (rw e at x)
 
   -- Past any swap of round one, or one of round two that has taken the worker's bit up.
   pub past-swap :
@@ -159,7 +143,7 @@ module _ (s : Settings) (w : ℕ) (c : Cells) where
       → Own s c w (goes k (afterB p r) (k .reads))
   past-swap k p one a o l f = record { ticket = l; slot = announced-on a; read = round-on o tt }
   past-swap k one two a o l f = record { ticket = l; slot = announced-on a; read = tt }
-  past-swap k two two a o l f = record { ticket = l; slot = announced-on a; read = full-or-closed k (o .pass tt) (o .applied (f tt)) }
+  past-swap k two two a o l f = record { ticket = l; slot = announced-on a; read = blocked-or-settled k (o .pass tt) (o .applied (f tt)) }
 
   pub bits-applied-past-swap :
       (k : Task) (p r : Two) (x : Name) → (IsTwo r → Applied (own c k) w) → AppliedOrRounds s w c k x
@@ -177,7 +161,7 @@ module _ (s : Settings) (w : ℕ) (c : Cells) where
         (record { pc = announce; operation = some (update u); ticket = suc (k .ticket); reads = k .reads })
     called-update u = outside-rounds _ _ (refl, λ j x. x, λ x. x, λ x. x) (λ x. x) (λ x. x) (λ o. record {
       ticket = omega (arith, o .ticket);
-      slot = record { wanted = u; asks = refl; closed = o .slot .1; newer = omega (arith, o .ticket) };
+      slot = record { wanted = u; asks = refl; settled = o .slot .1; newer = omega (arith, o .ticket) };
       read = tt;
     })
 
@@ -185,11 +169,11 @@ module _ (s : Settings) (w : ℕ) (c : Cells) where
         (a : ℕ) → Reading s w c (goes k idle (k .reads))
         (record { pc = look₁; operation = some (lookup a); ticket = k .ticket; reads = k .reads })
     called-lookup a = outside-rounds _ _ (refl, λ j x. x, λ x. x, λ x. x) (λ x. x) (λ x. x)
-        (λ o. record { ticket = o .ticket; slot = record { wanted = a; asks = refl; closed = o .slot .1 }; read = tt })
+        (λ o. record { ticket = o .ticket; slot = record { wanted = a; asks = refl; settled = o .slot .1 }; read = tt })
 
     pub look₂-ok : Reading s w c (goes k look₂ (k .reads)) (endedTask k (k .reads))
     look₂-ok = outside-rounds _ _ (refl, λ j x. x, λ x. x, λ x. x) (λ x. x) (λ x. x)
-        (λ o. record { ticket = o .ticket; slot = (refl, o .slot .closed); read = tt })
+        (λ o. record { ticket = o .ticket; slot = (refl, o .slot .settled); read = tt })
 
     -- ---- a round of the bucket pass
 
@@ -220,7 +204,7 @@ module _ (s : Settings) (w : ℕ) (c : Cells) where
       bit = λ y. v .bit tt;
       slot = λ y f d e. assign-elim (λ z. z ≡ c .slots j) (k .reads .slots) i (c .slots i) j
           (λ g. ap (c .slots) (sym g)) (λ g. v .slot (omega (arith, saw y)) f d e);
-      old = old-read s c j (k .reads .slots) i (v .old);
+      old = old-read c j (k .reads .slots) i (v .old);
     }
 
     pub slotB-more :
@@ -252,16 +236,24 @@ module _ (s : Settings) (w : ℕ) (c : Cells) where
     -- ---- a check without answer
 
     pub unanswered-ok :
-        (p x : Two) → checked s w (k .ticket) (held k .depth) (body c (held k)) ≡ none
+        (p x : Two) → checked w (k .ticket) (body c (held k)) ≡ none
         → Reading s w c (goes k (checkS p x) (k .reads)) (goes k (afterC p x) (k .reads))
     unanswered-ok one one e = outside-rounds _ _ (refl, λ j y. y, λ y. y, λ y. y) (λ y. y) (λ y. y)
-        (λ o. record { ticket = o .ticket; slot = announced-on (o .slot); read = record { full = λ y. absurd y; read = tt; round = tt } })
+        (λ o. record {
+          ticket = o .ticket;
+          slot = announced-on (o .slot);
+          read = record { blocked = λ y. absurd y; read = tt; round = tt };
+        })
     unanswered-ok two one e = outside-rounds _ _ (refl, λ j y. y, λ y. y, λ y. y) (λ y. y) (λ y. y)
-        (λ o. record { ticket = o .ticket; slot = announced-on (o .slot); read = record { full = λ y. o .read .1; read = tt; round = tt } })
+        (λ o. record {
+          ticket = o .ticket;
+          slot = announced-on (o .slot);
+          read = record { blocked = λ y. o .read .1; read = tt; round = tt };
+        })
     unanswered-ok one two e = outside-rounds _ _ (refl, λ j y. y, λ y. y, λ y. y) (λ y. y) (λ y. y)
         (λ o. record { ticket = o .ticket; slot = announced-on (o .slot); read = tt })
     unanswered-ok two two e = outside-rounds _ _ (refl, λ j y. y, λ y. y, λ y. absurd y) (λ y. y) (λ y. y)
-        (λ o. absurd (check-none s w (k .ticket) (held k .depth) (body c (held k)) e (o .read .1)))
+        (λ o. absurd (check-none w (k .ticket) (body c (held k)) e (o .read .1)))
 
     -- ---- the directory's reads, and a check with an answer
 
@@ -273,8 +265,8 @@ module _ (s : Settings) (w : ℕ) (c : Cells) where
     check-facts-here two one d = d
     check-facts-here two two d = d
 
-    closed-slot : (pc : PC) → Announced s c w (goes k pc (k .reads)) → OwnClosed s c w k → ClosedSlot s c w (c .slots w)
-    closed-slot pc a h = rw (a .slot) (rw (a .asks) at h)
+    settled-slot : (pc : PC) → Announced s c w (goes k pc (k .reads)) → OwnSettled c w k → SettledSlot c w (c .slots w)
+    settled-slot pc a h = rw (a .slot) (rw (a .asks) at h)
 
     module _ (current : Coherent (s .depth) (copyOf (c .directory .value))) where
       hold-now : (pc : PC) → Hold s c w (goes k pc (withDirectory (k .reads) (c .directory)))
@@ -285,7 +277,7 @@ module _ (s : Settings) (w : ℕ) (c : Cells) where
       unfolding withDirectory
       look₁-ok = outside-rounds _ _ (refl, λ j x. x, λ x. x, λ x. x) (λ x. x) (λ x. x) (λ o. record {
         ticket = o .ticket;
-        slot = record { wanted = o .slot .wanted; asks = o .slot .asks; closed = o .slot .closed };
+        slot = record { wanted = o .slot .wanted; asks = o .slot .asks; settled = o .slot .settled };
         read = hold-now look₂;
       })
 
@@ -304,28 +296,22 @@ module _ (s : Settings) (w : ℕ) (c : Cells) where
             read = (hold-now (checkS p x), check-facts-here p x (o .read));
           })
 
-      -- what is closed at the bucket held is closed at the account's
-      closed-here :
-          (pc : PC) → Hold s c w (goes k pc (k .reads)) → Closed s w (k .ticket) (held k .depth) (body c (held k)) → OwnClosed s c w k
-      closed-here pc o = go (o .is)
+      -- what is settled at the bucket held is settled at the account's
+      settled-here : (pc : PC) → Hold s c w (goes k pc (k .reads)) → SettledIn w (k .ticket) (body c (held k)) → OwnSettled c w k
+      settled-here pc o = go (o .is)
         where
-          go : HeldOrSuperseded s c w k → Closed s w (k .ticket) (held k .depth) (body c (held k)) → OwnClosed s c w k
+          go : HeldOrSuperseded s c w k → SettledIn w (k .ticket) (body c (held k)) → OwnSettled c w k
           go (inl e) x = rw e at x
-          go (inr g) (inl x) = inl (rw (g .settled x) x)
-          go (inr g) (inr x) =
-              let d : held k .depth ≡ leaf c (target k) .depth = omega (arith, partition-of _ current .bound (target k)) in
-              let e : held k ≡ leaf c (target k) = o .named ∙ ap (λ z. nameAt z (target k)) d
-              ∙ sym (partition-name (partition-of _ current) (target k)) in
-              inr (rw e at x)
+          go (inr g) x = rw (g .settled x) x
 
-      -- an answer closes the update
-      pub check-closed :
+      -- an update that is answered is settled
+      pub check-settles :
           (p x : Two) → Own s c w (goes k (checkS p x) (k .reads))
-          → (r : Answer) → checked s w (k .ticket) (held k .depth) (body c (held k)) ≡ some r → OwnClosed s c w k
-      check-closed p x o r e = closed-here (checkS p x) (o .read .0) (check-answer-closed s w _ _ _ (check-settled s w _ _ _ r e))
+          → (r : Answer) → checked w (k .ticket) (body c (held k)) ≡ some r → OwnSettled c w k
+      check-settles p x o r e = settled-here (checkS p x) (o .read .0) (check-settled w _ _ r e .0)
 
       pub answered-ok :
-          (p x : Two) (r : Answer) → checked s w (k .ticket) (held k .depth) (body c (held k)) ≡ some r
+          (p x : Two) (r : Answer) → checked w (k .ticket) (body c (held k)) ≡ some r
           → Reading s w c (goes k (checkS p x) (k .reads)) (endedTask k (k .reads))
       answered-ok p x r e = outside-rounds _ _ (refl, λ j y. y, λ y. y, λ y. absurd y) (λ y. y) (λ y. y)
-          (λ o. record { ticket = o .ticket; slot = (refl, closed-slot (checkS p x) (o .slot) (check-closed p x o r e)); read = tt })
+          (λ o. record { ticket = o .ticket; slot = (refl, settled-slot (checkS p x) (o .slot) (check-settles p x o r e)); read = tt })

@@ -5,13 +5,12 @@ use native.Mathlib.Omega.{arith}
 use native.Mathlib.Decide.{ℕ-discrete}
 use mathlib.Core.Path.{_≡_, refl, ap, sym, _∙_, subst}
 use mathlib.Core.Logic.{_⊎_, inl, inr, ⊎-elim, by-cases}
-use mathlib.Core.Bool.{Bool, true, false}
-use lib.Dec.{ltb}
-use borrow.Author.Tests.{eq-eqb, ltb-false, leb-true, not-false}
+use mathlib.Core.Bool.{true, false}
+use borrow.Author.Tests.{eq-eqb, leb-true, not-false}
 use Rattle.interface.specs.declared.Settings.{Settings}
 use Rattle.machine.specs.Sequential.{Update, account, firstBits}
 use Rattle.machine.specs.Records.{Name, Body, Leaf, kept, made, Copy, Slot, empty, announced, Cells, Reads}
-use Rattle.machine.specs.BucketPass.{full, splittable, settledAt}
+use Rattle.machine.specs.BucketPass.{holdsBack, settledAt}
 use Rattle.machine.specs.DirectoryPass.{copyOf, leafOf, nameOf, replaceLeaf, takeSlots, resize}
 use Rattle.machine.specs.Steps.{withDirectory, withSlot, withCopy}
 use Rattle.machine.proofs.laws.Base.{no-both, if-elim, and-true, and-parts, and-right, assign-elim}
@@ -19,25 +18,20 @@ use Rattle.machine.proofs.laws.Cells.{name-path}
 use Rattle.machine.proofs.laws.Copies.{nameAt, InBucket, Coherent, depthAt-le, resizeTest, leafOf-copyOf, Partition, partition-name, partition-of}
 use Rattle.machine.specs.Counter.{Two, one, two, DStep, copyD, swapD, slotD, state, PC, checkD, inD}
 use Rattle.machine.proofs.invariant.Counter.{afterD}
-use Rattle.machine.proofs.invariant.CounterFacts.{BothTwo, SlotReadD, UpdateSeenD, UpdateSeen, BucketSplitD, BucketSplit, announced-now, full-now, announced-since, full-since}
+use Rattle.machine.proofs.invariant.CounterFacts.{BothTwo, SlotReadD, UpdateSeenD, UpdateSeen, BucketSplitD, BucketSplit, announced-now, blocked-now, announced-since, blocked-since}
 use Rattle.machine.specs.Passed.{StateReadD}
 use Rattle.machine.specs.Tasks.{Task, target, leaf, DirectoryFresh, IsMade}
-use Rattle.machine.proofs.invariant.Inv.{FullOrClosed, FreshOrClosed, OldSlot, body, leafBody, Closed, ClosedIn, OwnClosed, ResolvedTo, KeptOrResolved, SeenDirectory, ReadAt, RoundAt, InDirectory, CheckFacts, Announced, SlotFacts, ReadFacts, Own, Pair}
+use Rattle.machine.proofs.invariant.Inv.{BlockedOrSettled, FreshOrSettled, OldSlot, body, leafBody, SettledIn, SettledFor, OwnSettled, ResolvedTo, KeptOrResolved, SeenDirectory, ReadAt, RoundAt, InDirectory, CheckFacts, Announced, SlotFacts, ReadFacts, Own, Pair}
 use Rattle.machine.proofs.invariant.Preservation.{goes, Reading, announced-on, old-read}
 use Rattle.machine.proofs.laws.Resolve.{resolved-ok, taken-inside, taken-outside, taken-coherent, due}
 use Rattle.machine.proofs.invariant.Transitions.{copiedDirectory, copyLeaf, copySlot, resizedFor}
 use Rattle.machine.proofs.steps.BucketSteps.{outside-rounds}
 
--- a full bucket that is not resized for worker i's update: that is closed there
-closed-idle :
-    (s : Settings) (i t : ℕ) (x : Name) (b : Body) → x .depth ≤ s .depth → full s b ≡ true → resizeTest s i t x b ≡ false
-    → Closed s i t (x .depth) b
-unfolding splittable settledAt
-closed-idle s i t x b l f e = go (ltb (x .depth) (s .depth)) refl
-  where
-    go : (v : Bool) → ltb (x .depth) (s .depth) ≡ v → Closed s i t (x .depth) b
-    go true h = inl (leb-true t _ (not-false _ (and-right _ _ e (and-true f h))))
-    go false h = inr (f, omega (arith, ltb-false (x .depth) (s .depth) h))
+-- a bucket that holds back and is not resized for worker i's update: that is settled there
+settled-idle :
+    (s : Settings) (i t : ℕ) (x : Name) (b : Body) → holdsBack s (x .depth) b ≡ true → resizeTest s i t x b ≡ false → SettledIn i t b
+unfolding holdsBack settledAt
+settled-idle s i t x b f e = leb-true t _ (not-false _ (and-right _ _ e f))
 
 module _ (s : Settings) (small : s .depth ≤ 32) (c : Cells) (current : Coherent (s .depth) (copyOf (c .directory .value))) (k : Task) where
   -- ---- the current buckets
@@ -60,10 +54,11 @@ module _ (s : Settings) (small : s .depth ≤ 32) (c : Cells) (current : Coheren
   abbrev AllKeptOrResolved : Type 0
   AllKeptOrResolved = (a : ℕ) → KeptOrResolved s c k a
 
-  -- worker i's update, by its slot: if its bucket is full, that is made by now, or the update is closed
+  -- worker i's update, by its slot: if its bucket holds it back, that is made by now, or the update is settled
   abbrev ServedSlot : ℕ → Slot → Copy → Type 0
   ServedSlot i empty d = Unit {0}
-  ServedSlot i (announced u t) d = full s (leafBody c (account u)) ≡ true → IsMade (leafOf d (account u)) ⊎ ClosedIn s c i t (account u)
+  ServedSlot i (announced u t) d =
+      holdsBack s (leaf c (account u) .depth) (leafBody c (account u)) ≡ true → IsMade (leafOf d (account u)) ⊎ SettledFor c i t (account u)
 
   -- what the step for worker i, whose slot was read as x, has made of the working copy
   record Resized (i : ℕ) (x : Slot) (d : Copy) : Type 0 where
@@ -129,7 +124,7 @@ module _ (s : Settings) (small : s .depth ≤ 32) (c : Cells) (current : Coheren
       kept-ok : Resized i (announced u t) (copyLeaf s c i t (k .reads) (kept x))
       unfolding resize
       kept-ok = if-elim (Resized i (announced u t)) (resizeTest s i t x (body c x)) taken-copy (k .reads .copy) taken-ok
-          (λ e. untouched (announced u t) (λ f g. inr (rw (x-leaf f) (closed-idle s i t x (body c x) x-below (rw (x-leaf f) at g) e))))
+          (λ e. untouched (announced u t) (λ f g. inr (rw (x-leaf f) (settled-idle s i t x (body c x) (rw (x-leaf f) at g) e))))
 
     resized-ok : Resized i (k .reads .slots i) (copySlot s c i (k .reads) (k .reads .slots i))
     resized-ok = by-slot (k .reads .slots i) refl
@@ -147,16 +142,16 @@ module _ (s : Settings) (small : s .depth ≤ 32) (c : Cells) (current : Coheren
 record MustSplit (s : Settings) (c : Cells) (j : ℕ) (q : Task) (pc : PC) : Type 0 where
   known : UpdateSeen (q .reads .directory .stamp) (c .directory .stamp) pc
   update : Announced s c j q
-  full : FullOrClosed s c j q
+  blocked : BlockedOrSettled s c j q
 
 must-split :
     (s : Settings) (c : Cells) (j : ℕ) (q : Task) (pc : PC) → BucketSplit (q .reads .directory .stamp) (c .directory .stamp) pc
     → SlotFacts s pc c j q → ReadFacts s pc c j q → MustSplit s c j q pc
 must-split s c j q (inD one r copyD) l a o = absurd l
-must-split s c j q (inD two r copyD) l a o = record { known = tt; update = a; full = o .full tt }
-must-split s c j q (inD two r swapD) l a o = record { known = tt; update = a; full = o .full tt }
-must-split s c j q (inD two r (slotD i)) l a o = record { known = tt; update = a; full = o .full tt }
-must-split s c j q (inD two r (state i)) l a o = record { known = tt; update = a; full = o .full tt }
+must-split s c j q (inD two r copyD) l a o = record { known = tt; update = a; blocked = o .blocked tt }
+must-split s c j q (inD two r swapD) l a o = record { known = tt; update = a; blocked = o .blocked tt }
+must-split s c j q (inD two r (slotD i)) l a o = record { known = tt; update = a; blocked = o .blocked tt }
+must-split s c j q (inD two r (state i)) l a o = record { known = tt; update = a; blocked = o .blocked tt }
 
 -- ---- the steps
 
@@ -188,11 +183,11 @@ module _ (s : Settings) (w : ℕ) (c : Cells) (k : Task) where
     SplitsBucket =
         (j : ℕ) → j < s .workers → (q : Task) → Own s c j q → Own s c w from → Pair s j c q from
         → BucketSplit (q .reads .directory .stamp) now (q .pc)
-        → StateReadD (s .workers) j y → DirectoryFresh c to → IsMade (leafOf (m .copy) (target q)) ⊎ OwnClosed s c j q
+        → StateReadD (s .workers) j y → DirectoryFresh c to → IsMade (leafOf (m .copy) (target q)) ⊎ OwnSettled c j q
 
     directory-step :
         (InDirectory s p r x c w from → ReadAt s y c to × RoundAt s p r′ y c w to)
-        → ((j : ℕ) → OldSlot s c j (k .reads .slots j) → OldSlot s c j (m .slots j))
+        → ((j : ℕ) → OldSlot c j (k .reads .slots j) → OldSlot c j (m .slots j))
         → (UpdateSeenD p r′ (m .directory .stamp) now y → UpdateSeenD p r (k .reads .directory .stamp) now x)
         → (BucketSplitD p r′ (m .directory .stamp) now y → BucketSplitD p r (k .reads .directory .stamp) now x)
         → SeesSlots → SplitsBucket → Reading s w c from to
@@ -200,7 +195,7 @@ module _ (s : Settings) (w : ℕ) (c : Cells) (k : Task) where
       own = λ o h. record {
         ticket = o .ticket;
         slot = announced-on (o .slot);
-        read = record { full = o .read .full; read = read (o .read) .0; round = read (o .read) .1 };
+        read = record { blocked = o .read .blocked; read = read (o .read) .0; round = read (o .read) .1 };
       };
       view = λ j l h. record { bit = λ z. absurd z; slot = λ z. absurd z; old = old j (h .old) };
       bits-applied = λ z o h. ⊎-elim inl (λ n. absurd (n .0)) h;
@@ -222,7 +217,7 @@ module _ (s : Settings) (w : ℕ) (c : Cells) (k : Task) where
   unfolding withCopy withDirectory
   copyD-ok current p r = directory-step p r r copyD (slotD 0) _
       (λ o. ((record { bounded = omega arith; same = λ e. refl; coherent = current }, refl), λ h. inl refl))
-      (λ j h. h) (announced-now p r now) (full-now p r now)
+      (λ j h. h) (announced-now p r now) (blocked-now p r now)
       (λ j h z. absurd (omega arith)) (λ j l q oj o h a z. absurd z)
 
   -- ---- the slots
@@ -238,7 +233,7 @@ module _ (s : Settings) (w : ℕ) (c : Cells) (k : Task) where
     unfolding withSlot
     slotD-more = directory-step p r r (slotD i) (slotD (suc i)) _
         (λ o. ((seen-directory-kept _ _ _ refl (o .read .0 .coherent) (o .read .0), o .read .1), o .round))
-        (λ j. old-read s c j (k .reads .slots) i) (λ l. l) (λ l. l)
+        (λ j. old-read c j (k .reads .slots) i) (λ l. l) (λ l. l)
         (λ j h z f. slot-seen j (λ l. h l f) z) (λ j l q oj o h a z. absurd z)
 
     pub slotD-last :
@@ -253,7 +248,7 @@ module _ (s : Settings) (w : ℕ) (c : Cells) (k : Task) where
           ),
           o .round,
         ))
-        (λ j. old-read s c j (k .reads .slots) i) (λ l. l) (λ l. l)
+        (λ j. old-read c j (k .reads .slots) i) (λ l. l) (λ l. l)
         (λ j h z f. slot-seen j (λ l. h l f) (omega arith)) (λ j l q oj o h a z. absurd (omega arith))
 
   -- ---- the states
@@ -284,11 +279,11 @@ module _ (s : Settings) (w : ℕ) (c : Cells) (k : Task) where
         stays : IsMade (leafOf (k .reads .copy) (target q)) → IsMade (leafOf resized (target q))
         stays m = ⊎-elim (λ e. rw e m) (resolved-made s small c current k (target q)) (z .leaves (o .read .read .1 f) (target q))
 
-        go : Dec (j ≡ i) → IsMade (leafOf resized (target q)) ⊎ OwnClosed s c j q
+        go : Dec (j ≡ i) → IsMade (leafOf resized (target q)) ⊎ OwnSettled c j q
         go (yes e) =
             let n : ServedSlot s small c current k j (k .reads .slots j) resized = rw e (z .serves (o .read .read .1 f)) in
             let n′ = subst (λ (x : Slot). ServedSlot s small c current k j x resized) (h .seen (v .known) jn f ∙ v .update .slot) n in
-            ⊎-elim (λ g. rw (v .update .asks) (n′ (rw (v .update .asks) at g))) inr (v .full)
+            ⊎-elim (λ g. rw (v .update .asks) (n′ (rw (v .update .asks) at g))) inr (v .blocked)
         go (no e) = ⊎-elim (λ m. inl (stays m)) inr (h .splits-bucket a (omega arith) f)
 
     pub state-more : Reading s w c (goes k (inD p r (state i)) (k .reads)) (goes k (inD p r (state (suc i))) (resizedFor s c i (k .reads)))
@@ -312,11 +307,11 @@ module _ (s : Settings) (w : ℕ) (c : Cells) (k : Task) where
       (p r : Two) → (DirectoryFresh c k → ⊥) → Reading s w c (goes k (inD p r swapD) (k .reads)) (goes k (afterD p r) (k .reads))
   missedD-ok p one miss = directory-step p one two swapD copyD (k .reads)
       (λ o. (tt, tt))
-      (λ j h. h) (λ l. announced-since p one miss) (full-since p miss)
+      (λ j h. h) (λ l. announced-since p one miss) (blocked-since p miss)
       (λ j h z. absurd z) (λ j l q oj o h a z. absurd z)
   missedD-ok p two miss = outside-rounds s w c _ _ (refl, λ j x. x, λ x. x, λ x. announced-since p two miss) (λ x. x) (λ x. x)
-      (λ o. record { ticket = o .ticket; slot = announced-on (o .slot); read = own-closed p (o .read .round) })
+      (λ o. record { ticket = o .ticket; slot = announced-on (o .slot); read = own-settled p (o .read .round) })
     where
-      own-closed : (p : Two) → (BothTwo p two → FreshOrClosed s c w k) → CheckFacts s p two c w (goes k (checkD p two) (k .reads))
-      own-closed one h = tt
-      own-closed two h = ⊎-elim (λ e. absurd (miss e)) (λ z. z) (h tt)
+      own-settled : (p : Two) → (BothTwo p two → FreshOrSettled c w k) → CheckFacts s p two c w (goes k (checkD p two) (k .reads))
+      own-settled one h = tt
+      own-settled two h = ⊎-elim (λ e. absurd (miss e)) (λ z. z) (h tt)

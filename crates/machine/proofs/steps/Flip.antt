@@ -16,10 +16,10 @@ use Rattle.machine.proofs.laws.Cells.{bucket-elim}
 use Rattle.machine.specs.Counter.{Two, one, readS, PC, announce, readD, flip, inB}
 use Rattle.machine.proofs.invariant.CounterFacts.{Rounds, HasToggle, HasSlotB, FlipSeen, slot-toggle}
 use Rattle.machine.specs.Tasks.{Task, leaf, held, own}
-use Rattle.machine.proofs.invariant.Inv.{leafBody, Fresh, Applied, ticketOf, ClosedSlot, OldSlot, Hold, HoldsLeaf, Announced, Calling, SlotFacts, ReadFacts, Own, View, Pair, Inv}
+use Rattle.machine.proofs.invariant.Inv.{leafBody, Fresh, Applied, ticketOf, SettledSlot, OldSlot, Hold, HoldsLeaf, Announced, Calling, SlotFacts, ReadFacts, Own, View, Pair, Inv}
 use Rattle.machine.proofs.invariant.Preservation.{goes, Writing, announced-on}
 use Rattle.machine.proofs.laws.Resolve.{settled-same}
-use Rattle.machine.proofs.invariant.Change.{same-directory, same-bucket, CellsChanged, BucketsChanged, kept-same, closed-moved, own-moved, own-move, old-move, seen-move, same-swap-closes, pair-move}
+use Rattle.machine.proofs.invariant.Change.{same-directory, same-bucket, CellsChanged, BucketsChanged, kept-same, settled-moved, own-moved, own-move, old-move, seen-move, same-swap-settles, pair-move}
 
 module _ (s : Settings) (w : ℕ) (wn : w < s .workers) (c : Cells) (tasks : ℕ → Task) (i : Inv s c tasks) where
   -- outside its rounds worker w's bits are all taken up
@@ -49,12 +49,12 @@ module _ (s : Settings) (w : ℕ) (wn : w < s .workers) (c : Cells) (tasks : ℕ
     unfolding assignSlot
     announced-other j e = assign-other (c .slots) w newSlot j e
 
-    -- what others have read in w's slot is closed
-    old-announced : (j : ℕ) (x : Slot) → OldSlot s c j x → OldSlot s announcedCells j x
+    -- what others have read in w's slot is settled
+    old-announced : (j : ℕ) (x : Slot) → OldSlot c j x → OldSlot announcedCells j x
     unfolding assignSlot
-    old-announced j x (inr h) = inr (closed-moved s c announcedCells announced-changed j x h)
-    old-announced j x (inl h) = assign-elim (λ y. (x ≡ y) ⊎ ClosedSlot s announcedCells j x) (c .slots) w newSlot j
-        (λ e. inr (closed-moved s c announcedCells announced-changed j x (rw (h, e) (calling-facts .closed))))
+    old-announced j x (inr h) = inr (settled-moved s c announcedCells announced-changed j x h)
+    old-announced j x (inl h) = assign-elim (λ y. (x ≡ y) ⊎ SettledSlot announcedCells j x) (c .slots) w newSlot j
+        (λ e. inr (settled-moved s c announcedCells announced-changed j x (rw (h, e) (calling-facts .settled))))
         (λ e. inl h)
 
     pub announce-ok : Writing s w tasks (assignSlot c w (announced u (tasks w .ticket))) (readD one)
@@ -143,7 +143,7 @@ module _ (s : Settings) (w : ℕ) (wn : w < s .workers) (c : Cells) (tasks : ℕ
     own-after j jn d = own-move s c c′ change j (tasks j) (i .own j jn)
         (λ h. kept-same s (state-kept (held (tasks j))) (λ r. bit-kept (held (tasks j)) j (d r)))
         (λ l h. absurd (omega arith))
-        (same-swap-closes s c c′ change refl j (tasks j) (tasks j .pc))
+        (same-swap-settles s c c′ change refl j (tasks j) (tasks j .pc))
 
     differs : Applied (own c′ (tasks w)) w → ⊥
     differs = bit-elim (λ y b. b ≡ y .value .applied w → ⊥) x₀ w
@@ -155,7 +155,7 @@ module _ (s : Settings) (w : ℕ) (wn : w < s .workers) (c : Cells) (tasks : ℕ
     me-after =
         let o : Own s c′ w (tasks w) = own-after w wn (λ r. absurd (rw at at r)) in
         let a : Announced s c′ w (tasks w) = subst (λ pc. SlotFacts s pc c′ w (tasks w)) at (o .slot) in
-        let h : Hold s c′ w (tasks w) × HoldsLeaf s p c′ w (tasks w) = subst (λ pc. ReadFacts s pc c′ w (tasks w)) at (o .read) in
+        let h : Hold s c′ w (tasks w) × HoldsLeaf p c′ w (tasks w) = subst (λ pc. ReadFacts s pc c′ w (tasks w)) at (o .read) in
         record {
           ticket = o .ticket;
           slot = announced-on a;

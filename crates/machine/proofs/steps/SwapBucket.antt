@@ -10,7 +10,7 @@ use Rattle.interface.specs.declared.Settings.{Settings}
 use Rattle.machine.specs.Choice.{assign}
 use Rattle.machine.specs.Sequential.{Update}
 use Rattle.machine.specs.Records.{Name, Body, State, Bucket, Slot, empty, announced, Cells}
-use Rattle.machine.specs.BucketPass.{full, settledAt, pending, helped, nextState}
+use Rattle.machine.specs.BucketPass.{holdsBack, settledAt, pending, helped, nextState}
 use Rattle.machine.specs.Steps.{assignBucket, assignState}
 use Rattle.machine.proofs.laws.Base.{no-both, and-true, and-parts, not-both, by-bit}
 use Rattle.machine.proofs.laws.Cells.{bucket-elim}
@@ -18,10 +18,10 @@ use Rattle.machine.specs.Counter.{Two, swap, slotB, PC, inB}
 use Rattle.machine.proofs.invariant.Counter.{afterB}
 use Rattle.machine.proofs.invariant.CounterFacts.{Rounds, HasToggle, Second, slot-toggle, rounds-under, second-flip-seen}
 use Rattle.machine.specs.Tasks.{Task, leaf, held, own}
-use Rattle.machine.proofs.invariant.Inv.{body, leafBody, Fresh, Applied, Pending, ticketOf, SettledOrFull, InRound, ReadFacts, Own, SeesFlip, View, AppliedOrRounds, Inv}
+use Rattle.machine.proofs.invariant.Inv.{body, leafBody, Fresh, Applied, Pending, ticketOf, SettledOrBlocked, InRound, ReadFacts, Own, SeesFlip, View, AppliedOrRounds, Inv}
 use Rattle.machine.proofs.invariant.Preservation.{goes, Reading, reading, under-announced}
 use Rattle.machine.proofs.laws.Resolve.{SettledChange, settled-same, settled-new, settled-change-le, calls, Helped, helped-ok}
-use Rattle.machine.proofs.invariant.Change.{same-directory, Evolves, same-bucket, KeptBucket, BucketsChanged, own-move, old-move, tickets-move, pair-move, same-swap-closes}
+use Rattle.machine.proofs.invariant.Change.{same-directory, Evolves, same-bucket, KeptBucket, BucketsChanged, own-move, old-move, tickets-move, pair-move, same-swap-settles}
 use Rattle.machine.proofs.invariant.Transitions.{swappedCells}
 use Rattle.machine.proofs.steps.BucketSteps.{missed-ok}
 
@@ -41,20 +41,20 @@ unfolding pending
 called-flip x toggle j empty e = absurd (no-both e refl)
 called-flip x toggle j (announced u t) e = xor-differ _ _ .0 (and-parts _ _ e .0)
 
--- a round settles an announced update whose flip it has seen, or the bucket is full
+-- a round settles an announced update whose flip it has seen, or the bucket holds it back
 taken-settled :
-    {s : Settings} {x : State} {toggle : ℕ → Bool} {slots : ℕ → Slot} {n : ℕ} {b : Body} (j t : ℕ) (u : Update)
-    → Helped s x toggle slots n b → j < n → toggle j ≡ not (x .applied j) → slots j ≡ announced u t → SettledOrFull s j t b
+    {s : Settings} {d : ℕ} {x : State} {toggle : ℕ → Bool} {slots : ℕ → Slot} {n : ℕ} {b : Body} (j t : ℕ) (u : Update)
+    → Helped s d x toggle slots n b → j < n → toggle j ≡ not (x .applied j) → slots j ≡ announced u t → SettledOrBlocked s j t d b
 unfolding pending settledAt
-taken-settled {s} {x} {toggle} {slots} {n} {b} j t u h l d e = test (settledAt (x .body) j t) refl
+taken-settled {s} {d} {x} {toggle} {slots} {n} {b} j t u h l g e = test (settledAt (x .body) j t) refl
   where
-    done : (b .settled j .ticket ≡ ticketOf (slots j)) ⊎ (full s b ≡ true) → SettledOrFull s j t b
+    done : (b .settled j .ticket ≡ ticketOf (slots j)) ⊎ (holdsBack s d b ≡ true) → SettledOrBlocked s j t d b
     done (inl y) = inl (omega (arith, ap ticketOf e))
     done (inr y) = inr y
 
-    test : (v : Bool) → settledAt (x .body) j t ≡ v → SettledOrFull s j t b
+    test : (v : Bool) → settledAt (x .body) j t ≡ v → SettledOrBlocked s j t d b
     test true y = inl (omega (arith, leb-true t (x .body .settled j .ticket) y, settled-change-le (h .settled-change j)))
-    test false y = done (h .served j l (rw e (and-true (xor-differ _ _ .1 d) (rw y))))
+    test false y = done (h .served j l (rw e (and-true (xor-differ _ _ .1 g) (rw y))))
 
 -- ---- what a worker has read
 
@@ -103,6 +103,9 @@ module _ (s : Settings) (w : ℕ) (wn : w < s .workers) (c : Cells) (tasks : ℕ
   abbrev new : Bucket
   new = swappedBucket s c k
 
+  abbrev depth : ℕ
+  depth = held k .depth
+
   abbrev bodyBefore : Body
   bodyBefore = old .state .value .body
 
@@ -114,7 +117,7 @@ module _ (s : Settings) (w : ℕ) (wn : w < s .workers) (c : Cells) (tasks : ℕ
 
   -- ---- whom the swap helps
 
-  pub helped-here : Helped s (own c k .state .value) (k .reads .toggle) (k .reads .slots) (s .workers) (roundBody s k)
+  pub helped-here : Helped s (held k .depth) (own c k .state .value) (k .reads .toggle) (k .reads .slots) (s .workers) (roundBody s k)
   helped-here =
       let mine : InRound s p r swap c w k = subst (λ pc. ReadFacts s pc c w k) here (i .own w wn .read) in
       rw (← mine .seen .same fresh) (helped-ok s (held k .depth) (k .reads .state .value) (k .reads .toggle) (k .reads .slots) (s .workers))
@@ -147,17 +150,17 @@ module _ (s : Settings) (w : ℕ) (wn : w < s .workers) (c : Cells) (tasks : ℕ
           let z = slot-current j (h .0) (called-flip (old .state .value) (k .reads .toggle) j (k .reads .slots j) (h .1)) in
           settled-new tt (rw z at l) (rw z at e)
 
-  -- a bit taken up: its worker's update is settled, or the bucket is full
+  -- a bit taken up: its worker's update is settled, or the bucket holds it back
   settles :
-      (j : ℕ) → j < s .workers → Rounds (tasks j .pc) → (Applied old j → SettledOrFull s j (tasks j .ticket) bodyBefore)
-      → Applied new j → SettledOrFull s j (tasks j .ticket) bodyAfter
+      (j : ℕ) → j < s .workers → Rounds (tasks j .pc) → (Applied old j → SettledOrBlocked s j (tasks j .ticket) depth bodyBefore)
+      → Applied new j → SettledOrBlocked s j (tasks j .ticket) depth bodyAfter
   settles j jn h f g = by-bit (old .toggle j) (old .state .value .applied j) (λ e. keep (f e)) (λ d. serve (sym g ∙ d))
     where
-      keep : SettledOrFull s j (tasks j .ticket) bodyBefore → SettledOrFull s j (tasks j .ticket) bodyAfter
+      keep : SettledOrBlocked s j (tasks j .ticket) depth bodyBefore → SettledOrBlocked s j (tasks j .ticket) depth bodyAfter
       keep (inl x) = inl (omega (arith, settled-change-le (settled-changes j)))
-      keep (inr x) = inr (ap (full s) (helped-here .unchanged x) ∙ x)
+      keep (inr x) = inr (ap (holdsBack s depth) (helped-here .unchanged x) ∙ x)
 
-      serve : ReadPending c k j → SettledOrFull s j (tasks j .ticket) bodyAfter
+      serve : ReadPending c k j → SettledOrBlocked s j (tasks j .ticket) depth bodyAfter
       serve d =
           let a = under-announced s c j (tasks j) (tasks j .pc) (rounds-under (tasks j .pc) h) (i .own j jn .slot) in
           taken-settled j (tasks j .ticket) (a .wanted) helped-here jn d (slot-current j jn d ∙ a .slot)
@@ -174,7 +177,7 @@ module _ (s : Settings) (w : ℕ) (wn : w < s .workers) (c : Cells) (tasks : ℕ
 
   evolves : (a : ℕ) → Evolves s (c .slots) (leaf c a) (leafBody c a) (leaf c a) (body c′ (leaf c a))
   evolves a = swapped-elim s c k (λ b. Evolves s (c .slots) (leaf c a) (leafBody c a) (leaf c a) (b .state .value .body)) (leaf c a)
-      (λ e. subst (λ x. Evolves s (c .slots) (leaf c a) (body c x) (leaf c a) bodyAfter) (sym e)
+      (λ e. subst (λ x. Evolves s (c .slots) x (body c x) x bodyAfter) (sym e)
       (same-bucket refl settled-changes (helped-here .unchanged)))
       (λ e. same-bucket refl (λ j. settled-same refl) (λ h. refl))
 
@@ -184,9 +187,10 @@ module _ (s : Settings) (w : ℕ) (wn : w < s .workers) (c : Cells) (tasks : ℕ
 
   pub kept-bucket :
       (j : ℕ) → j < s .workers
-      → KeptBucket s j (tasks j .ticket) (tasks j .pc) (tasks j .reads .state .stamp) (own c (tasks j)) (own (swappedCells s c k) (tasks j))
-  kept-bucket j jn = swapped-elim s c k (OwnKept (own c (tasks j))) (held (tasks j))
-      (λ e. subst (λ x. OwnKept (c .buckets x) new) (sym e) (record {
+      → KeptBucket s j (tasks j .ticket) (held (tasks j) .depth) (tasks j .pc) (tasks j .reads .state .stamp) (own c (tasks j))
+      (own (swappedCells s c k) (tasks j))
+  kept-bucket j jn = swapped-elim s c k (OwnKept (held (tasks j)) (own c (tasks j))) (held (tasks j))
+      (λ e. subst (λ x. OwnKept x (c .buckets x) new) (sym e) (record {
         unchanged = helped-here .unchanged;
         later = omega arith;
         same = λ z. absurd (omega arith);
@@ -203,15 +207,15 @@ module _ (s : Settings) (w : ℕ) (wn : w < s .workers) (c : Cells) (tasks : ℕ
         settled = omega arith;
       })
     where
-      OwnKept : Bucket → Bucket → Type 0
-      OwnKept = KeptBucket s j (tasks j .ticket) (tasks j .pc) (tasks j .reads .state .stamp)
+      OwnKept : Name → Bucket → Bucket → Type 0
+      OwnKept x = KeptBucket s j (tasks j .ticket) (x .depth) (tasks j .pc) (tasks j .reads .state .stamp)
 
   -- ---- the invariant, while the worker is still at its swap
 
   own-kept : (j : ℕ) → j < s .workers → Own s c′ j (tasks j)
   unfolding assignState assignBucket
   own-kept j jn = own-move s c c′ buckets-changed j (tasks j) (i .own j jn) (λ h. kept-bucket j jn) (λ h l. absurd (omega arith))
-      (same-swap-closes s c c′ buckets-changed refl j (tasks j) (tasks j .pc))
+      (same-swap-settles s c c′ buckets-changed refl j (tasks j) (tasks j .pc))
 
   bits-applied-kept : (x : Name) (j : ℕ) → j < s .workers → AppliedOrRounds s j c′ (tasks j) x
   bits-applied-kept x j jn = swapped-elim s c k (λ b. Applied b j ⊎ (Rounds (tasks j .pc) × (held (tasks j) ≡ x))) x

@@ -11,20 +11,20 @@ use Rattle.interface.specs.declared.Settings.{Settings}
 use Rattle.machine.specs.Choice.{assign}
 use Rattle.machine.specs.Sequential.{Update, account}
 use Rattle.machine.specs.Records.{Name, Body, Bucket, Leaf, kept, made, Copy, Slot, empty, announced, Cells, newBucket}
-use Rattle.machine.specs.BucketPass.{full, splittable, settledAt}
+use Rattle.machine.specs.BucketPass.{splittable, settledAt}
 use Rattle.machine.specs.DirectoryPass.{leafOf, nameOf, bodyMade}
 use Rattle.machine.specs.Steps.{created, direct}
 use Rattle.machine.proofs.laws.Base.{no-both, and-true, and-parts}
-use Rattle.machine.proofs.laws.Copies.{nameAt, depthAt, Coherent, splittable-below, Partition, partition-name, partition-of, bodyMade-made, bodyMade-kept, bodyMade-some, bucketOf-directoryOf, coherent-directoryOf}
+use Rattle.machine.proofs.laws.Copies.{nameAt, depthAt, Coherent, Partition, partition-name, partition-of, bodyMade-made, bodyMade-kept, bodyMade-some, bucketOf-directoryOf, coherent-directoryOf}
 use Rattle.machine.specs.Counter.{Two, swapD, state, inD}
 use Rattle.machine.proofs.invariant.Counter.{afterD}
 use Rattle.machine.proofs.invariant.CounterFacts.{Rounds, HasToggle, HasSlotD, UpdateSeen, slot-toggle, flip-seen-rounds, toggle-rounds, rounds-holds, update-seen-under, last-bucket-split}
 use Rattle.machine.specs.Passed.{PastState, HoldsBucket}
 use Rattle.machine.specs.Tasks.{Task, about, target, leaf, held, DirectoryFresh, IsMade, own}
-use Rattle.machine.proofs.invariant.Inv.{resolved, body, leafBody, Applied, Closed, ClosedIn, ClosedSlot, OwnClosed, ResolvedTo, KeptOrResolved, InDirectory, ReadFacts, Own, View, Pair, AppliedOrRounds, Inv}
+use Rattle.machine.proofs.invariant.Inv.{resolved, body, leafBody, Applied, SettledIn, SettledFor, SettledSlot, OwnSettled, ResolvedTo, KeptOrResolved, InDirectory, ReadFacts, Own, View, Pair, AppliedOrRounds, Inv}
 use Rattle.machine.proofs.invariant.Preservation.{goes, Reading, reading, under-announced, holds-hold}
 use Rattle.machine.proofs.laws.Resolve.{SettledChange, settled-same, settled-new, Made, resolved-ok, due, bodyAt}
-use Rattle.machine.proofs.invariant.Change.{later-directory, same-bucket, deeper-bucket, LeafEvolves, BucketsChanged, HeldKept, SplitCloses, SwapCloses, kept-same, closed-move, own-closed-move, own-move, pair-move, old-move, tickets-move}
+use Rattle.machine.proofs.invariant.Change.{later-directory, same-bucket, deeper-bucket, splittable-blocks, LeafEvolves, BucketsChanged, HeldKept, SplitSettles, SwapSettles, kept-same, settled-move, own-settled-move, own-move, pair-move, old-move, tickets-move}
 use Rattle.machine.proofs.invariant.Transitions.{redirectedCells}
 use Rattle.machine.proofs.steps.DirectorySteps.{missedD-ok}
 
@@ -107,40 +107,38 @@ module _
 
     -- ---- the change
 
-    -- an update that is due in a bucket below depth M is not closed
-    pub due-open : (a j : ℕ) → leaf c a .depth < s .depth → (x : Slot) → due (leaf c a) (leafBody c a) j x ≡ true → ClosedSlot s c j x → ⊥
+    -- an update that is due in a bucket is not settled
+    pub due-open : (a j : ℕ) (x : Slot) → due (leaf c a) (leafBody c a) j x ≡ true → SettledSlot c j x → ⊥
     unfolding settledAt
-    due-open a j l empty e h = no-both e refl
-    due-open a j l (announced u t) e h =
+    due-open a j empty e h = no-both e refl
+    due-open a j (announced u t) e h =
         let y : leaf c (account u) ≡ leaf c a = partition .shared a (account u) (eqb-true _ _ (and-parts _ _ e .0)) in
-        ⊎-elim (λ z. omega (arith, leb-false t (leafBody c a .settled j .ticket) (not-true _ (and-parts _ _ e .1))))
-        (λ z. omega (arith, z .1))
-        (subst (λ x. Closed s j t (x .depth) (body c x)) y h)
+        omega
+        (arith, leb-false t (leafBody c a .settled j .ticket) (not-true _ (and-parts _ _ e .1)), subst (λ x. SettledIn j t (body c x)) y h)
 
     -- what is taken into a bucket that is split is what the slot holds
     pub taken-real :
-        (a j : ℕ) → leaf c a .depth < s .depth → j < s .workers → due (leaf c a) (leafBody c a) j (k .reads .slots j) ≡ true
+        (a j : ℕ) → j < s .workers → due (leaf c a) (leafBody c a) j (k .reads .slots j) ≡ true
         → k .reads .slots j ≡ c .slots j
-    taken-real a j l jn d = ⊎-elim (λ e. e) (λ h. absurd (due-open a j l (k .reads .slots j) d h)) (i .view j w jn wn .old)
+    taken-real a j jn d = ⊎-elim (λ e. e) (λ h. absurd (due-open a j (k .reads .slots j) d h)) (i .view j w jn wn .old)
 
     evolves : (a : ℕ) → LeafEvolves s c c′ a
     unfolding splittable
     evolves a = go (kept-or-resolved a)
       where
         real :
-            leaf c a .depth < s .depth → (b : Body) (j : ℕ)
+            (b : Body) (j : ℕ)
             → SettledChange (leafBody c a) b (k .reads .slots j) ((j < s .workers)
             × (due (leaf c a) (leafBody c a) j (k .reads .slots j) ≡ true)) j
             → SettledChange (leafBody c a) b (c .slots j) (Unit {0}) j
-        real d b j (settled-same e) = settled-same e
-        real d b j (settled-new h l e) = let z = taken-real a j d (h .0) (h .1) in settled-new tt (rw z at l) (rw z at e)
+        real b j (settled-same e) = settled-same e
+        real b j (settled-new h l e) = let z = taken-real a j (h .0) (h .1) in settled-new tt (rw z at l) (rw z at e)
 
         go : KeptOrResolved s c k a → LeafEvolves s c c′ a
         go (inl e) = let z = leaf-old a e in same-bucket (z .0) (λ j. settled-same (ap (λ (b : Body). b .settled j) (z .1))) (λ h. z .1)
         go (inr g) =
-            let d = splittable-below s (leaf c a .depth) (leafBody c a) (g .splits) in
-            deeper-bucket (rw (leaf-is a) (g .deeper)) (and-parts _ _ (g .splits) .0) d
-            (λ j. rw (leaf-new a g .1) (real d _ j (remade-ok a .settled-change a j (partition .named a))))
+            deeper-bucket (rw (leaf-is a) (g .deeper)) (splittable-blocks s _ _ (g .splits))
+            (λ j. rw (leaf-new a g .1) (real _ j (remade-ok a .settled-change a j (partition .named a))))
 
     later : c .directory .stamp < c′ .directory .stamp
     unfolding direct
@@ -152,21 +150,16 @@ module _
 
     -- ---- the workers
 
-    -- an update that was read, and whose bucket is split, is closed
-    serves : (j t : ℕ) (u : Update) → j < s .workers → k .reads .slots j ≡ announced u t → Split (account u) → ClosedIn s c′ j t (account u)
+    -- an update that was read, and whose bucket is split, is settled
+    serves : (j t : ℕ) (u : Update) → j < s .workers → k .reads .slots j ≡ announced u t → Split (account u) → SettledFor c′ j t (account u)
     unfolding settledAt
     serves j t u jn e g = go (settledAt (leafBody c (account u)) j t) refl
       where
-        served :
-            (bodyAt (remade s c k (account u)) (account u) .settled j .ticket ≡ t)
-            ⊎ ((full s (bodyAt (remade s c k (account u)) (account u)) ≡ true)
-            × (depthAt (remade s c k (account u)) (account u) ≡ s .depth))
-            → ClosedIn s c′ j t (account u)
-        served (inl h) = inl (rw (leaf-new (account u) g .1) (omega arith))
-        served (inr h) = inr (rw (leaf-new (account u) g .1) (h .0), rw (leaf-new (account u) g .0) (h .1))
+        served : bodyAt (remade s c k (account u)) (account u) .settled j .ticket ≡ t → SettledFor c′ j t (account u)
+        served h = rw (leaf-new (account u) g .1) (omega arith)
 
-        go : (v : Bool) → settledAt (leafBody c (account u)) j t ≡ v → ClosedIn s c′ j t (account u)
-        go true h = closed-move s c c′ buckets-changed j (announced u t) (inl (leb-true t _ h))
+        go : (v : Bool) → settledAt (leafBody c (account u)) j t ≡ v → SettledFor c′ j t (account u)
+        go true h = settled-move s c c′ buckets-changed j (announced u t) (leb-true t _ h)
         go false h =
             served (remade-ok (account u) .served j t u jn e (rw e (and-true (eq-eqb _ _ (partition .named (account u))) (ap not h))))
 
@@ -184,34 +177,34 @@ module _
           subst (λ x. c′ .buckets x ≡ c .buckets x) (sym (o .named)) (untouched (held q .depth) (target q) (o .depth))
 
       -- a worker whose update everybody has read, and whose bucket is split, is served
-      own-closed-split : UpdateSeenNow → Split (target q) → OwnClosed s c′ j q
-      own-closed-split l g =
+      own-settled-split : UpdateSeenNow → Split (target q) → OwnSettled c′ j q
+      own-settled-split l g =
           let a = under-announced s c j q (q .pc) (update-seen-under _ _ (q .pc) l) (i .own j jn .slot) in
           let e : target q ≡ account (a .wanted) = ap about (a .asks) in
           let x = i .pair j w jn wn .seen l (subst (HasSlotD (s .workers) j) (sym here) jn) fresh in
-          subst (ClosedIn s c′ j (q .ticket)) (sym e) (serves j (q .ticket) (a .wanted) jn (x ∙ a .slot) (subst Split e g))
+          subst (SettledFor c′ j (q .ticket)) (sym e) (serves j (q .ticket) (a .wanted) jn (x ∙ a .slot) (subst Split e g))
 
       own-kept : Own s c′ j q
-      own-kept = own-move s c c′ buckets-changed j q (i .own j jn) kept own-closed last
+      own-kept = own-move s c c′ buckets-changed j q (i .own j jn) kept own-settled last
         where
           kept : HeldKept s c c′ j q (q .pc)
           kept h = let e = own-same h in kept-same s (ap (λ (x : Bucket). x .state) e) (λ f. ap (λ (x : Bucket). x .toggle j) e)
 
           split :
-              UpdateSeenNow → leaf c (target q) .depth < leaf c′ (target q) .depth → KeptOrResolved s c k (target q) → OwnClosed s c′ j q
+              UpdateSeenNow → leaf c (target q) .depth < leaf c′ (target q) .depth → KeptOrResolved s c k (target q) → OwnSettled c′ j q
           split l d (inl e) = absurd (omega (arith, ap (λ (x : Name). x .depth) (leaf-old (target q) e .0)))
-          split l d (inr g) = own-closed-split l g
+          split l d (inr g) = own-settled-split l g
 
-          own-closed : SplitCloses s c c′ j q (q .pc)
-          own-closed l d = split l d (kept-or-resolved (target q))
+          own-settled : SplitSettles s c c′ j q (q .pc)
+          own-settled l d = split l d (kept-or-resolved (target q))
 
           bucket-split :
-              UpdateSeenNow → IsMade (leafOf copy (target q)) ⊎ OwnClosed s c j q → KeptOrResolved s c k (target q) → OwnClosed s c′ j q
+              UpdateSeenNow → IsMade (leafOf copy (target q)) ⊎ OwnSettled c j q → KeptOrResolved s c k (target q) → OwnSettled c′ j q
           bucket-split l (inl y) (inl e) = absurd (subst IsMade e y)
-          bucket-split l (inl y) (inr g) = own-closed-split l g
-          bucket-split l (inr y) f = own-closed-move s c c′ buckets-changed j q y
+          bucket-split l (inl y) (inr g) = own-settled-split l g
+          bucket-split l (inr y) f = own-settled-move s c c′ buckets-changed j q y
 
-          last : SwapCloses s c c′ j q (q .pc)
+          last : SwapSettles s c c′ j q (q .pc)
           last h f =
               let v = last-bucket-split (q .reads .directory .stamp) (c .directory .stamp) (q .pc) h in
               inr (bucket-split (v .1) (i .pair j w jn wn .splits-bucket (v .0) (subst (PastState (s .workers) j) (sym here) jn) fresh)
