@@ -69,7 +69,7 @@ settle-sized x j t a v z =
 
 -- ---- the count
 
--- an update adds at most one account
+-- an update adds at most one account, a delete none
 module _ (x : BucketState) where
   pub size-bound : sizeOf x ≤ x .count
   unfolding sizeOf
@@ -84,7 +84,7 @@ module _ (x : BucketState) where
       if-elim (λ (z : BucketState). z .count ≤ x .count + 1) (ltb (sizeOf x) arraySize) _ _ (λ e. let h = size-bound in omega arith)
       (λ e. omega arith)
 
-  pub remove-count : (p : Position) → removeOf x p .count ≤ x .count + 1
+  pub remove-count : (p : Position) → removeOf x p .count ≤ x .count
   unfolding removeOf
   remove-count (At i) = let h = size-bound in omega arith
   remove-count (Before i) = omega arith

@@ -3,9 +3,12 @@
 use Prim.Native.Nat.{ℕ, _+_, _-_, _≤_, _<_}
 use native.Mathlib.Omega.{arith}
 use mathlib.Core.Path.{_≡_, refl, sym, _∙_, ap, subst}
+use mathlib.Core.Logic.{_⊎_, ⊎-elim}
+use mathlib.Core.Bool.{false}
 use mathlib.Core.List.{List, _∷_}
 use lib.ListN.{length, set, take, drop, length-set}
 use lib.Seq.{length-take-le, getD-take}
+use Rattle.interface.specs.Numbers.{kindInsert, kindPost}
 use Rattle.interface.specs.Limits.{greatestCapacity}
 use Rattle.interface.specs.declared.Settings.{Settings}
 use Rattle.fields.specs.Fields.{recordCount, recordApplied, accountsFrom, totalsFrom, settledFrom, answersFrom, postedFrom, widestRecord}
@@ -13,6 +16,8 @@ use Rattle.arrays.proofs.Laws.{Among, scan-among}
 use Rattle.arrays.specs.Arrays.{insertedIn, removedFrom, scan}
 use Rattle.bucket.specs.State.{sizeOf, searchOf, totalIn, putOf, removeOf, settleOf}
 use Rattle.rounds.specs.Rounds.{withApplied}
+use Rattle.rules.specs.Rules.{createsBy, crowdedBy}
+use Rattle.rules.proofs.Laws.{room-left}
 use Rattle.bucket.specs.declared.BucketState.{BucketState}
 use Rattle.arrays.specs.declared.Position.{Position}
 use Rattle.arrays.specs.declared.Position.the-variants.{At, Before}
@@ -21,78 +26,84 @@ use Rattle.lists.specs.Parts.{part, overlay}
 use Rattle.lists.proofs.PartLaws.{part-ext, part-taken}
 use Rattle.record.specs.Loads.{copied, loadedState}
 use Rattle.record.proofs.Runs.{length-copied, getD-copied}
-use Rattle.memory.proofs.Lesser.{least-same}
+use Rattle.memory.proofs.Lesser.{count-bound}
 use Rattle.layout.specs.Shape.{word, Fits}
 use Rattle.record.specs.Bucket.{bucketAt}
-use Rattle.inplace.specs.InPlace.{HasRoom, recordAs}
+use Rattle.inplace.specs.InPlace.{Counted, RoomAt, recordAs}
 use Rattle.inplace.proofs.ArrayChanges.{Changed, array-kept, array-set, array-raised, array-lowered, arrays-stored}
 
 -- ---- where the account stands
 
--- the search in the accounts is the search in the state that the record has
-pub search-is :
-    (l : List ℕ) (s : Settings) (q c a : ℕ) → HasRoom l s q c
-    → scan (take (accountsFrom q + c - accountsFrom q) (drop (accountsFrom q) l)) a 0 ≡ searchOf (bucketAt l s q) a
-unfolding loadedState searchOf
-search-is l s q c a (fits, (inside, (word-is, room))) =
-    let b = fits .capacity in
-    let at : ℕ = accountsFrom q in
-    let n = length-copied l at c in
-    let counted : c ≡ bucketAt l s q .count = word-is ∙ sym (least-same (word l (q + recordCount)) (s .capacity) (omega arith)) in
-    let sized : c ≡ sizeOf (bucketAt l s q) = counted ∙ sym (size-is (bucketAt l s q) (omega arith)) in
-    let same : part l at c ≡ take c (copied l at c) =
-    part-ext l at c (take c (copied l at c)) (omega arith) (length-take-le c (copied l at c) (omega arith))
-    (λ i h. sym (getD-take c (copied l at c) i 0 h ∙ getD-copied l at c i (omega arith) h)) in
-    ap (λ (v : List ℕ). scan v a 0) (part-taken l at at c refl ∙ same)
-    ∙ ap (λ (k : ℕ). scan (take k (copied l at c)) a 0) sized
-    ∙ ap (λ (k : ℕ). scan (take (sizeOf (bucketAt l s q)) (copied l at k)) a 0) counted
-
--- what an update starts from: the record at q has c accounts and room, and a search of account a gave position p
-pub record Start (l : List ℕ) (s : Settings) (q c a : ℕ) (p : Position) : Type 0 where
+-- what an update starts from: the record at q has c accounts
+pub record Start (l : List ℕ) (s : Settings) (q c : ℕ) : Type 0 where
   pub fits : Fits l s
   pub inside : q + widestRecord ≤ length l
-  pub room : c < s .capacity
+  pub within : c ≤ s .capacity
   pub few : c ≤ greatestCapacity
   pub behind : totalsFrom q (s .capacity) + c < length l
   pub counted : c ≡ bucketAt l s q .count
   pub sized : c ≡ sizeOf (bucketAt l s q)
-  pub among : Among c p
 
-pub start : (l : List ℕ) (s : Settings) (q c a : ℕ) (p : Position) → HasRoom l s q c → p ≡ searchOf (bucketAt l s q) a → Start l s q c a p
-unfolding loadedState searchOf
-start l s q c a p (fits, (inside, (word-is, room))) e =
+pub start : (l : List ℕ) (s : Settings) (q c : ℕ) → Counted l s q c → Start l s q c
+unfolding loadedState
+start l s q c (fits, (inside, counted)) =
     let b = fits .capacity in
-    let x : BucketState = bucketAt l s q in
-    let counted : c ≡ x .count = word-is ∙ sym (least-same (word l (q + recordCount)) (s .capacity) (omega arith)) in
-    let sized : c ≡ sizeOf x = counted ∙ sym (size-is x (omega arith)) in
-    let long : 0 + length (take (sizeOf x) (x .accounts)) ≡ c =
-    omega (arith, length-take-le (sizeOf x) (x .accounts) (omega (arith, length-copied l (accountsFrom q) (x .count)))) in
+    let h : c ≤ s .capacity = count-bound (word l (q + recordCount)) (s .capacity) c counted in
     record {
       fits = fits;
       inside = inside;
-      room = room;
+      within = h;
       few = omega arith;
       behind = omega arith;
       counted = counted;
-      sized = sized;
-      among =
-          subst (λ (v : Position). Among c v) (sym e)
-          (subst (λ (k : ℕ). Among k (scan (take (sizeOf x) (x .accounts)) a 0)) long (scan-among (take (sizeOf x) (x .accounts)) a 0));
+      sized = counted ∙ sym (size-is (bucketAt l s q) (omega arith));
     }
 
--- the position that was found, as a branch knows it
-pub found-as : {l : List ℕ} {s : Settings} {q c a : ℕ} {p : Position} → Start l s q c a p → (v : Position) → p ≡ v → Among c v
-found-as {c = c} y v e = subst (Among c) e (y .among)
+-- the search in the accounts is the search in the state that the record has
+pub search-is :
+    (l : List ℕ) (s : Settings) (q c a : ℕ) → Counted l s q c
+    → scan (take (accountsFrom q + c - accountsFrom q) (drop (accountsFrom q) l)) a 0 ≡ searchOf (bucketAt l s q) a
+unfolding loadedState searchOf
+search-is l s q c a known =
+    let y = start l s q c known in
+    let at : ℕ = accountsFrom q in
+    let n = length-copied l at c in
+    let same : part l at c ≡ take c (copied l at c) =
+    part-ext l at c (take c (copied l at c)) (omega (arith, y .behind)) (length-take-le c (copied l at c) (omega (arith, y .few)))
+    (λ i h. sym (getD-take c (copied l at c) i 0 h ∙ getD-copied l at c i (y .few) h)) in
+    ap (λ (v : List ℕ). scan v a 0) (part-taken l at at c refl ∙ same)
+    ∙ ap (λ (k : ℕ). scan (take k (copied l at c)) a 0) (y .sized)
+    ∙ ap (λ (k : ℕ). scan (take (sizeOf (bucketAt l s q)) (copied l at k)) a 0) (y .counted)
+
+-- the position that a search gave, as a branch knows it
+pub found-as :
+    {l : List ℕ} {s : Settings} {q c : ℕ} {p : Position} → Start l s q c → (a : ℕ) → p ≡ searchOf (bucketAt l s q) a
+    → (v : Position) → p ≡ v → Among c v
+unfolding loadedState searchOf
+found-as {l} {s} {q} {c} y a e v f =
+    let x : BucketState = bucketAt l s q in
+    let known : List ℕ = take (sizeOf x) (x .accounts) in
+    let h = y .few in
+    let k = y .sized in
+    let long : 0 + length known ≡ c =
+    omega (arith, length-take-le (sizeOf x) (x .accounts) (omega (arith, length-copied l (accountsFrom q) (x .count)))) in
+    subst (Among c) (sym e ∙ f) (subst (λ (k : ℕ). Among k (scan known a 0)) long (scan-among known a 0))
+
+-- an insert or a post that is not crowded has room where its account is missing
+pub room-at :
+    (s : Settings) (c kind : ℕ) (p : Position) → (kind ≡ kindInsert) ⊎ (kind ≡ kindPost) → crowdedBy s c kind p ≡ false → RoomAt s c p
+unfolding createsBy
+room-at s c kind (At i) k e = tt
+room-at s c kind (Before i) k e = room-left s c kind (Before i) (⊎-elim (λ f. rw f) (λ f. rw f) k) e
 
 -- the total there, as the record's words have it
 pub total-is :
-    {l : List ℕ} {s : Settings} {q c a : ℕ} {p : Position} → Start l s q c a p → (i : ℕ) → p ≡ At i
+    {l : List ℕ} {s : Settings} {q c : ℕ} → Start l s q c → (i : ℕ) → i < c
     → word l (totalsFrom q (s .capacity) + i) ≡ totalIn (bucketAt l s q) (At i)
 unfolding totalIn loadedState
-total-is {l} {s} {q} {c} y i e =
-    let h = found-as y (At i) e in
+total-is {l} {s} {q} y i h =
     let k = y .counted in
-    sym (getD-copied l (totalsFrom q (s .capacity)) (bucketAt l s q .count) i (omega (arith, h, y .few)) (omega (arith, h)))
+    sym (getD-copied l (totalsFrom q (s .capacity)) (bucketAt l s q .count) i (omega (arith, y .few)) (omega arith))
 
 -- ---- the ways that an update goes: m₁ after the first two words, m₂ after the accounts, m₃ after the totals, m₆ after all
 
@@ -119,7 +130,7 @@ changed x k F G =
       applied = x .applied;
     }
 
-module _ {l : List ℕ} {s : Settings} {q c a : ℕ} {p : Position} (y : Start l s q c a p) (bits j ticket answer posted : ℕ)
+module _ {l : List ℕ} {s : Settings} {q c : ℕ} (y : Start l s q c) (bits j ticket answer posted : ℕ)
     (worker : j < s .workers) {m₁ m₂ m₃ m₆ : List ℕ} (e₆ : m₆ ≡ settledIn m₃ s q j ticket answer posted) where
   own-stored :
       (k : ℕ) (F G : List ℕ → List ℕ) → k ≤ s .capacity → m₁ ≡ firstIn l q k bits
@@ -147,38 +158,37 @@ module _ {l : List ℕ} {s : Settings} {q c a : ℕ} {p : Position} (y : Start l
 
   -- the total of an account that is there
   pub replaced :
-      {i : ℕ} (v : ℕ) → p ≡ At i → m₁ ≡ firstIn l q c bits → m₂ ≡ m₁ → m₃ ≡ set m₂ (totalsFrom q (s .capacity) + i) v
+      {i : ℕ} (a v : ℕ) → i < c → m₁ ≡ firstIn l q c bits → m₂ ≡ m₁ → m₃ ≡ set m₂ (totalsFrom q (s .capacity) + i) v
       → m₆ ≡ recordAs l s q bits (settleOf (putOf (bucketAt l s q) (At i) a v) j ticket answer posted)
   unfolding putOf
-  replaced {i} v e e₁ e₂ e₃ =
-      own-stored c (λ v. v) (λ u. set u i v) (omega (arith, y .room)) e₁
+  replaced {i} a v h e₁ e₂ e₃ =
+      own-stored c (λ v. v) (λ u. set u i v) (y .within) e₁
       (λ n. array-kept m₁ (accountsFrom q) c (y .few) m₂ e₂ (omega (arith, y .behind)))
-      (λ n. array-set m₂ (totalsFrom q (s .capacity)) c (y .few) m₃ i v e₃ (found-as y (At i) e) (omega (arith, y .behind)))
+      (λ n. array-set m₂ (totalsFrom q (s .capacity)) c (y .few) m₃ i v e₃ h (omega (arith, y .behind)))
       ∙ rw (y .counted)
 
-  -- an account that is not there
+  -- an account that is not there, and there is room
   pub inserted :
-      {i : ℕ} (v : ℕ) → p ≡ Before i → m₁ ≡ firstIn l q (c + 1) bits
+      {i : ℕ} (a v : ℕ) → i ≤ c → c < s .capacity → m₁ ≡ firstIn l q (c + 1) bits
       → m₂ ≡ overlay m₁ (accountsFrom q + i) (a ∷ part m₁ (accountsFrom q + i) (c - i))
       → m₃ ≡ overlay m₂ (totalsFrom q (s .capacity) + i) (v ∷ part m₂ (totalsFrom q (s .capacity) + i) (c - i))
       → m₆ ≡ recordAs l s q bits (settleOf (putOf (bucketAt l s q) (Before i) a v) j ticket answer posted)
-  inserted {i} v e e₁ e₂ e₃ =
-      let h = found-as y (Before i) e in
-      own-stored (c + 1) (λ u. insertedIn u c i a) (λ u. insertedIn u c i v) (omega (arith, y .room)) e₁
-      (λ n. array-raised m₁ (accountsFrom q) c (y .few) m₂ i a e₂ (omega (arith, y .behind)) h (omega (arith, y .behind)))
-      (λ n. array-raised m₂ (totalsFrom q (s .capacity)) c (y .few) m₃ i v e₃ (omega (arith, y .behind)) h (omega (arith, y .behind)))
+  inserted {i} a v h room e₁ e₂ e₃ =
+      let small : c < greatestCapacity = omega (arith, y .fits .capacity) in
+      own-stored (c + 1) (λ u. insertedIn u c i a) (λ u. insertedIn u c i v) (omega arith) e₁
+      (λ n. array-raised m₁ (accountsFrom q) c (y .few) m₂ i a e₂ small h (omega (arith, y .behind)))
+      (λ n. array-raised m₂ (totalsFrom q (s .capacity)) c (y .few) m₃ i v e₃ small h (omega (arith, y .behind)))
       ∙ ap (λ (x : BucketState). recordAs l s q bits (settleOf x j ticket answer posted))
-      (put-new (bucketAt l s q) c i (y .sized) a v _ _ (omega (arith, y .few, y .room, y .fits .capacity)) refl refl)
+      (put-new (bucketAt l s q) c i (y .sized) a v _ _ small refl refl)
 
   -- an account taken out
   pub removed :
-      {i : ℕ} → p ≡ At i → m₁ ≡ firstIn l q (c - 1) bits
+      {i : ℕ} → i < c → m₁ ≡ firstIn l q (c - 1) bits
       → m₂ ≡ overlay m₁ (accountsFrom q + i) (part m₁ (accountsFrom q + i + 1) (c - i - 1))
       → m₃ ≡ overlay m₂ (totalsFrom q (s .capacity) + i) (part m₂ (totalsFrom q (s .capacity) + i + 1) (c - i - 1))
       → m₆ ≡ recordAs l s q bits (settleOf (removeOf (bucketAt l s q) (At i)) j ticket answer posted)
-  removed {i} e e₁ e₂ e₃ =
-      let h = found-as y (At i) e in
-      own-stored (c - 1) (λ v. removedFrom v c i) (λ v. removedFrom v c i) (omega (arith, y .room)) e₁
+  removed {i} h e₁ e₂ e₃ =
+      own-stored (c - 1) (λ v. removedFrom v c i) (λ v. removedFrom v c i) (omega (arith, y .within)) e₁
       (λ n. array-lowered m₁ (accountsFrom q) c (y .few) m₂ i e₂ h (omega (arith, y .behind)))
       (λ n. array-lowered m₂ (totalsFrom q (s .capacity)) c (y .few) m₃ i e₃ h (omega (arith, y .behind)))
       ∙ ap (λ (x : BucketState). recordAs l s q bits (settleOf x j ticket answer posted))
@@ -188,7 +198,7 @@ module _ {l : List ℕ} {s : Settings} {q c a : ℕ} {p : Position} (y : Start l
   pub kept :
       m₁ ≡ firstIn l q c bits → m₂ ≡ m₁ → m₃ ≡ m₂ → m₆ ≡ recordAs l s q bits (settleOf (bucketAt l s q) j ticket answer posted)
   kept e₁ e₂ e₃ =
-      own-stored c (λ v. v) (λ v. v) (omega (arith, y .room)) e₁
+      own-stored c (λ v. v) (λ v. v) (y .within) e₁
       (λ n. array-kept m₁ (accountsFrom q) c (y .few) m₂ e₂ (omega (arith, y .behind)))
       (λ n. array-kept m₂ (totalsFrom q (s .capacity)) c (y .few) m₃ e₃ (omega (arith, y .behind)))
       ∙ rw (y .counted)

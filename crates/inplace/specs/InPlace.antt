@@ -8,12 +8,14 @@ use lib.ListN.{length}
 use Rattle.interface.specs.declared.Settings.{Settings}
 use Rattle.fields.specs.Fields.{slotSize, workerToggle, workerSlots, recordCount, recordApplied, recordDepth, widestRecord}
 use Rattle.machine.specs.Choice.{if_then_else_}
-use Rattle.rounds.specs.Rounds.{carryOf, withApplied, roundOf}
+use Rattle.rounds.specs.Rounds.{changedOf, carryOf, withApplied, roundOf}
 use Rattle.rules.specs.declared.Descriptor.{Descriptor}
 use Rattle.arrays.specs.declared.Position.{Position}
+use Rattle.arrays.specs.declared.Position.the-variants.{At, Before}
 use Rattle.bucket.specs.declared.BucketState.{BucketState}
-use Rattle.bucket.specs.State.{putOf, settleOf}
+use Rattle.bucket.specs.State.{searchOf, putOf, settleOf}
 use Rattle.lists.specs.Parts.{part}
+use Rattle.memory.specs.Words.{least}
 use Rattle.layout.specs.Shape.{word, Fits}
 use Rattle.record.specs.Bucket.{bucketAt}
 use Rattle.storing.specs.Stores.{withBucketAt}
@@ -28,10 +30,20 @@ roundAt l s p q =
     then l
     else withBucketAt l s q (roundOf (bucketAt l s q) slots s (word l (q + recordDepth)) toggle)
 
--- what an update in place requires of the words: they fit, the record at q is inside, with c accounts and room
-abbrev pub HasRoom : List ℕ → Settings → ℕ → ℕ → Type 0
-HasRoom l s q c =
-    Fits l s × ((q + widestRecord ≤ length l) × ((c ≡ word l (q + recordCount)) × (c < s .capacity)))
+-- what an update in place requires of the words: they fit, and the record at q is inside, with c accounts; a count
+-- above b is read as b
+abbrev pub Counted : List ℕ → Settings → ℕ → ℕ → Type 0
+Counted l s q c =
+    Fits l s × ((q + widestRecord ≤ length l) × (c ≡ least (word l (q + recordCount)) (s .capacity)))
+
+-- and of the position that a search gave among c accounts: the account is there, or there is room for it
+abbrev pub RoomAt : Settings → ℕ → Position → Type 0
+RoomAt s c (At i) = Unit {0}
+RoomAt s c (Before i) = c < s .capacity
+
+-- that p is where worker j's update belongs among the c accounts of the record at q
+abbrev pub Searched : List ℕ → Settings → ℕ → ℕ → ℕ → Position → Descriptor → Type 0
+Searched l s q c j p u = Counted l s q c × ((j < s .workers) × (p ≡ searchOf (bucketAt l s q) (u .account)))
 
 -- the record at q in another state, with other applied bits
 abbrev pub recordAs : List ℕ → Settings → ℕ → ℕ → BucketState → List ℕ
@@ -42,6 +54,10 @@ unfoldable pub putAt : List ℕ → Settings → ℕ → ℕ → ℕ → Positio
 putAt l s q bits j p u answer posted =
     recordAs l s q bits (settleOf (putOf (bucketAt l s q) p (u .account) (u .total)) j (u .ticket) answer posted)
 
+-- after worker j's update alone, which is not crowded
+unfoldable pub changedAt : List ℕ → Settings → ℕ → ℕ → ℕ → Position → Descriptor → List ℕ
+changedAt l s q bits j p u = recordAs l s q bits (changedOf (bucketAt l s q) j p u)
+
 -- after worker j's update alone
 unfoldable pub ownAt : List ℕ → Settings → ℕ → ℕ → ℕ → Descriptor → List ℕ
-ownAt l s q bits j u = recordAs l s q bits (carryOf (bucketAt l s q) j u)
+ownAt l s q bits j u = recordAs l s q bits (carryOf (bucketAt l s q) s j u)

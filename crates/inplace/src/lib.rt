@@ -1,23 +1,27 @@
-// A worker's own update carried out on the words of a bucket's record, which has room. What for: the head of crate own.
+// A worker's own update carried out on the words of a bucket's record. What for: the head of crate own.
 ghost use mathlib.Core.Path.{_≡_};
 ghost use mathlib.Core.Logic.{_≢_};
 ghost use Prim.Native.Nat.{_<_};
 ghost use Rattle.interface.specs.Numbers.{kindInsert, kindPost};
-ghost use Rattle.bucket.specs.State.{searchOf, totalIn};
+ghost use Rattle.bucket.specs.State.{searchOf, totalIn, settleOf};
 ghost use Rattle.record.specs.Bucket.{bucketAt};
-ghost use Rattle.inplace.specs.InPlace.{HasRoom, putAt, ownAt};
+ghost use Rattle.inplace.specs.InPlace.{Counted, RoomAt, Searched, recordAs, putAt, changedAt, ownAt};
 use arrays::Position;
 use arrays::scan;
 use fields::RECORD_ACCOUNTS;
 use interface::ANSWER_ABSENT;
 use interface::ANSWER_ADDED;
+use interface::ANSWER_CROWDED;
 use interface::ANSWER_OVERRUN;
 use interface::ANSWER_POSTED;
 use interface::ANSWER_REMOVED;
 use interface::ANSWER_REPLACED;
+use interface::KIND_INSERT;
+use interface::KIND_POST;
 use interface::Settings;
 use rules::Descriptor;
 use rules::answer_number;
+use rules::crowded;
 use sums::Sum;
 use sums::sum_of;
 use writes::lower_in;
@@ -27,7 +31,7 @@ use writes::settle;
 
 // The account's position in the record at q, which has c accounts.
 fn search_own(words: &[u64], g: Settings, q: usize, c: usize, account: u64) -> Position
-    requires { ⌜ HasRoom (now words) g q c ⌝ }
+    requires { ⌜ Counted (now words) g q c ⌝ }
     ensures { λ r. ⌜ r ≡ searchOf (bucketAt (now (words .entry)) g q) account ⌝ }
 {
     let accounts = q + RECORD_ACCOUNTS;
@@ -37,7 +41,7 @@ fn search_own(words: &[u64], g: Settings, q: usize, c: usize, account: u64) -> P
 
 // The total at the position that a search gave; 0 where the account is missing.
 fn total_own(words: &[u64], g: Settings, q: usize, c: usize, account: u64, p: Position) -> u64
-    requires { ⌜ HasRoom (now words) g q c × (p ≡ searchOf (bucketAt (now words) g q) account) ⌝ }
+    requires { ⌜ Counted (now words) g q c × (p ≡ searchOf (bucketAt (now words) g q) account) ⌝ }
     ensures { λ r. ⌜ r ≡ totalIn (bucketAt (now (words .entry)) g q) p ⌝ }
 {
     match p {
@@ -49,6 +53,25 @@ fn total_own(words: &[u64], g: Settings, q: usize, c: usize, account: u64, p: Po
         }
         Position::Before(_) => 0,
     }
+}
+
+// Worker j's ticket settled with an answer that has no total, and no account changed.
+fn settle_own(
+    words: &mut [u64],
+    g: Settings,
+    q: usize,
+    c: usize,
+    toggle: u64,
+    j: usize,
+    ticket: u64,
+    answer: u64,
+)
+    requires { ⌜ Counted (now words) g q c × (j < g .workers) ⌝ }
+    ensures { λ _. ⌜ now (words .exit)
+        ≡ recordAs (now (words .entry)) g q toggle (settleOf (bucketAt (now (words .entry)) g q) j ticket answer 0) ⌝ }
+{
+    put_first(words, q, c as u64, toggle);
+    settle(words, g, q, j, ticket, answer, 0);
 }
 
 // The update's total set at the position that a search gave, a new account with it where it is missing, and worker j's
@@ -65,8 +88,7 @@ fn put_own(
     answer: u64,
     posted: u64,
 )
-    requires { ⌜ HasRoom (now words) g q c
-        × ((j < g .workers) × (p ≡ searchOf (bucketAt (now words) g q) (u .account))) ⌝ }
+    requires { ⌜ Searched (now words) g q c j p u × RoomAt g c p ⌝ }
     ensures { λ _. ⌜ now (words .exit) ≡ putAt (now (words .entry)) g q toggle j p u answer posted ⌝ }
 {
     let accounts = q + RECORD_ACCOUNTS;
@@ -87,38 +109,20 @@ fn put_own(
     }
 }
 
-// Worker j's insert carried out in the record at q, which has c accounts and room.
-pub fn insert_own(
+// Worker j's post carried out at the position that a search gave, where there is room for it.
+fn post_own(
     words: &mut [u64],
     g: Settings,
     q: usize,
     c: usize,
     toggle: u64,
     j: usize,
+    p: Position,
     u: Descriptor,
 )
-    requires { ⌜ HasRoom (now words) g q c × ((j < g .workers) × (u .kind ≡ kindInsert)) ⌝ }
-    ensures { λ _. ⌜ now (words .exit) ≡ ownAt (now (words .entry)) g q toggle j u ⌝ }
+    requires { ⌜ Searched (now words) g q c j p u × (RoomAt g c p × (u .kind ≡ kindPost)) ⌝ }
+    ensures { λ _. ⌜ now (words .exit) ≡ changedAt (now (words .entry)) g q toggle j p u ⌝ }
 {
-    let p = search_own(words, g, q, c, u.account);
-    let answer = answer_number(p, ANSWER_REPLACED, ANSWER_ADDED);
-    put_own(words, g, q, c, toggle, j, p, u, answer, 0);
-}
-
-// Worker j's post carried out in the record at q, which has c accounts and room.
-pub fn post_own(
-    words: &mut [u64],
-    g: Settings,
-    q: usize,
-    c: usize,
-    toggle: u64,
-    j: usize,
-    u: Descriptor,
-)
-    requires { ⌜ HasRoom (now words) g q c × ((j < g .workers) × (u .kind ≡ kindPost)) ⌝ }
-    ensures { λ _. ⌜ now (words .exit) ≡ ownAt (now (words .entry)) g q toggle j u ⌝ }
-{
-    let p = search_own(words, g, q, c, u.account);
     match sum_of(total_own(words, g, q, c, u.account, p), u.total) {
         Sum::Within(total) => {
             let v = Descriptor {
@@ -129,15 +133,40 @@ pub fn post_own(
             };
             put_own(words, g, q, c, toggle, j, p, v, ANSWER_POSTED, total);
         }
-        Sum::Outside => {
-            put_first(words, q, c as u64, toggle);
-            settle(words, g, q, j, u.ticket, ANSWER_OVERRUN, 0);
-        }
+        Sum::Outside => settle_own(words, g, q, c, toggle, j, u.ticket, ANSWER_OVERRUN),
     }
 }
 
-// Worker j's delete carried out in the record at q, which has c accounts and room.
-pub fn delete_own(
+// Worker j's delete carried out at the position that a search gave.
+fn delete_own(
+    words: &mut [u64],
+    g: Settings,
+    q: usize,
+    c: usize,
+    toggle: u64,
+    j: usize,
+    p: Position,
+    u: Descriptor,
+)
+    requires { ⌜ Searched (now words) g q c j p u × ((u .kind ≢ kindInsert) × (u .kind ≢ kindPost)) ⌝ }
+    ensures { λ _. ⌜ now (words .exit) ≡ changedAt (now (words .entry)) g q toggle j p u ⌝ }
+{
+    match p {
+        Position::At(i) => {
+            let accounts = q + RECORD_ACCOUNTS;
+            let totals = accounts + g.capacity as usize;
+            let i = i as usize;
+            put_first(words, q, c as u64 - 1, toggle);
+            lower_in(words, accounts, c, i);
+            lower_in(words, totals, c, i);
+            settle(words, g, q, j, u.ticket, ANSWER_REMOVED, 0);
+        }
+        Position::Before(_) => settle_own(words, g, q, c, toggle, j, u.ticket, ANSWER_ABSENT),
+    }
+}
+
+// Worker j's update carried out in the record at q, which has c accounts.
+pub fn carry_own(
     words: &mut [u64],
     g: Settings,
     q: usize,
@@ -146,23 +175,22 @@ pub fn delete_own(
     j: usize,
     u: Descriptor,
 )
-    requires { ⌜ HasRoom (now words) g q c
-        × ((j < g .workers) × ((u .kind ≢ kindInsert) × (u .kind ≢ kindPost))) ⌝ }
+    requires { ⌜ Counted (now words) g q c × (j < g .workers) ⌝ }
     ensures { λ _. ⌜ now (words .exit) ≡ ownAt (now (words .entry)) g q toggle j u ⌝ }
 {
-    let accounts = q + RECORD_ACCOUNTS;
-    let totals = accounts + g.capacity as usize;
-    match search_own(words, g, q, c, u.account) {
-        Position::At(i) => {
-            let i = i as usize;
-            put_first(words, q, c as u64 - 1, toggle);
-            lower_in(words, accounts, c, i);
-            lower_in(words, totals, c, i);
-            settle(words, g, q, j, u.ticket, ANSWER_REMOVED, 0);
-        }
-        Position::Before(_) => {
-            put_first(words, q, c as u64, toggle);
-            settle(words, g, q, j, u.ticket, ANSWER_ABSENT, 0);
-        }
+    let p = search_own(words, g, q, c, u.account);
+    if crowded(g, c as u64, u.kind, p) {
+        settle_own(words, g, q, c, toggle, j, u.ticket, ANSWER_CROWDED);
+        return;
     }
+    if u.kind == KIND_INSERT {
+        let answer = answer_number(p, ANSWER_REPLACED, ANSWER_ADDED);
+        put_own(words, g, q, c, toggle, j, p, u, answer, 0);
+        return;
+    }
+    if u.kind == KIND_POST {
+        post_own(words, g, q, c, toggle, j, p, u);
+        return;
+    }
+    delete_own(words, g, q, c, toggle, j, p, u);
 }

@@ -8,7 +8,6 @@ use mathlib.Core.Logic.{_≢_, _⊎_, inl, inr, ⊎-elim, by-cases}
 use mathlib.Core.Bool.{Bool, true, false}
 use mathlib.Core.List.{List, [], _∷_, map}
 use mathlib.Core.Option.{Option, none, some}
-use lib.Dec.{eqb}
 use lib.IntN.{ℤ, pos, _+ℤ_, +ℤ-assoc, +ℤ-idl, +ℤ-idr}
 use borrow.Author.Tests.{eq-eqb, ne-eqb}
 use Rattle.interface.specs.declared.Settings.{Settings}
@@ -21,7 +20,7 @@ use Rattle.machine.specs.Systems.{Entry, System, asked}
 use Rattle.machine.specs.History.{Member, Distinct, entryAt, serveIf, answersTo, tableAfter, tableAt, Linearizable}
 use Rattle.ledger.specs.Ledger.{carriedOut, Booking, sets, adds, closes, nothing, bookingOf, booking, isThere, lastInserted, postedSince, balance, onto, served, bookings, Balanced, Ledger, LedgerOnWords}
 use Rattle.machine.proofs.laws.Base.{if-false, if-elim, and-right-false}
-use Rattle.machine.proofs.laws.Tables.{ascending-changed, find-put-at, find-remove-at, find-changed-other}
+use Rattle.machine.proofs.laws.Tables.{tried-elim, ascending-changed, find-put-at, find-remove-at, find-changed-other}
 use Rattle.machine.proofs.Demand3.{demand3}
 use Rattle.simulation.proofs.Demand3ForCalls.{demand3-on-words}
 
@@ -108,9 +107,9 @@ module _ (t : Table) (a : ℕ) (bs : List Booking) (asc : Ascending t) (same : f
   served-right s none = (asc, same ∙ sym (balance-nothing bs))
   served-right s (some (lookup c)) = (asc, same ∙ sym (balance-nothing bs))
   served-right s (some (update u)) =
-      if-elim (Right (some (update u))) (crowds (s .capacity) (s .depth) (account u) t) _ _
-      (λ e. (asc, same ∙ sym (balance-nothing bs) ∙ ap (λ (b : Booking). balance (b ∷ bs)) (sym (crowded-nothing u))))
-      (λ e. (ascending-changed u t asc, booked u))
+      tried-elim (Right (some (update u))) (crowds (s .capacity) (s .depth) (account u) t) u t
+      (asc, same ∙ sym (balance-nothing bs) ∙ ap (λ (b : Booking). balance (b ∷ bs)) (sym (crowded-nothing u)))
+      (ascending-changed u t asc, booked u)
     where
       crowded-nothing : (u : Update) → booking a (some (update u)) Crowded ≡ nothing
       crowded-nothing u = refl

@@ -12,8 +12,8 @@ use Rattle.interface.specs.declared.Settings.{Settings}
 use Rattle.fields.specs.Fields.{slotSize}
 use Rattle.machine.proofs.laws.Base.{if-elim}
 use Rattle.bucket.specs.State.{arraySize, sizeOf, searchOf, putOf, removeOf, settleOf}
-use Rattle.rounds.specs.Rounds.{postedOf, postOf, carryOf, helpOf, helpedOf, withApplied, roundOf}
-use Rattle.rules.specs.Rules.{descriptorIn, bit}
+use Rattle.rounds.specs.Rounds.{postedOf, postOf, changedOf, carryOf, helpOf, helpedOf, withApplied, roundOf}
+use Rattle.rules.specs.Rules.{descriptorIn, crowdedBy, bit}
 use Rattle.bucket.specs.declared.BucketState.{BucketState}
 use Rattle.rules.specs.declared.Descriptor.{Descriptor}
 use Rattle.arrays.specs.declared.Position.{Position}
@@ -40,17 +40,23 @@ unfolding postedOf settleOf
 posted-applied x j p u (Within total) = put-applied x p (u .account) total
 posted-applied x j p u Outside = refl
 
-carry-applied : (x : BucketState) (j : ℕ) (u : Descriptor) → carryOf x j u .applied ≡ x .applied
-unfolding carryOf postOf settleOf
-carry-applied x j u =
-    let p : Position = searchOf x (u .account) in
+change-applied : (x : BucketState) (j : ℕ) (p : Position) (u : Descriptor) → changedOf x j p u .applied ≡ x .applied
+unfolding changedOf postOf settleOf
+change-applied x j p u =
     if-elim (λ (y : BucketState). y .applied ≡ x .applied) (eqb (u .kind) kindInsert) _ _ (λ e. put-applied x p (u .account) (u .total))
     (λ e. if-elim (λ (y : BucketState). y .applied ≡ x .applied) (eqb (u .kind) kindPost) _ _ (λ f. posted-applied x j p u _)
     (λ f. remove-applied x p))
 
+carry-applied : (x : BucketState) (s : Settings) (j : ℕ) (u : Descriptor) → carryOf x s j u .applied ≡ x .applied
+unfolding carryOf settleOf
+carry-applied x s j u =
+    let p : Position = searchOf x (u .account) in
+    if-elim (λ (y : BucketState). y .applied ≡ x .applied) (crowdedBy s (x .count) (u .kind) p) _ _ (λ e. refl)
+    (λ e. change-applied x j p u)
+
 help-applied : (x : BucketState) (s : Settings) (d toggle j : ℕ) (u : Descriptor) → helpOf x s d toggle j u .applied ≡ x .applied
 unfolding helpOf
-help-applied x s d toggle j u = if-elim (λ (y : BucketState). y .applied ≡ x .applied) _ _ x (λ e. carry-applied x j u) (λ e. refl)
+help-applied x s d toggle j u = if-elim (λ (y : BucketState). y .applied ≡ x .applied) _ _ x (λ e. carry-applied x s j u) (λ e. refl)
 
 -- ---- a round
 

@@ -8,13 +8,10 @@ ghost use Rattle.inplace.specs.InPlace.{roundAt};
 ghost use Rattle.own.specs.Alone.{OwnAlone};
 use fields::RECORD_COUNT;
 use fields::RECORD_DEPTH;
-use inplace::delete_own;
-use inplace::insert_own;
-use inplace::post_own;
-use interface::KIND_INSERT;
-use interface::KIND_POST;
+use inplace::carry_own;
 use interface::Settings;
 use layout::addresses::slot_read;
+use memory::least;
 use record::settled_ticket;
 use rules::holds_back;
 use writes::put_first;
@@ -24,24 +21,15 @@ pub fn own_round(words: &mut [u64], g: Settings, w: usize, q: usize, toggle: u64
     requires { ⌜ OwnAlone (now words) g w q toggle ⌝ }
     ensures { λ _. ⌜ now (words .exit) ≡ roundAt (now (words .entry)) g (workerAt (g .workers) w) q ⌝ }
 {
-    let count = memory::get(words, q + RECORD_COUNT);
-    if holds_back(g, memory::get(words, q + RECORD_DEPTH), count) {
-        put_first(words, q, g.capacity, toggle);
+    let c = least(memory::get(words, q + RECORD_COUNT), g.capacity as usize);
+    if holds_back(g, memory::get(words, q + RECORD_DEPTH), c as u64) {
+        put_first(words, q, c as u64, toggle);
         return;
     }
     let u = slot_read(words, g, w, w);
     if u.ticket <= settled_ticket(words, g, q, w) {
-        put_first(words, q, count, toggle);
+        put_first(words, q, c as u64, toggle);
         return;
     }
-    let c = count as usize;
-    if u.kind == KIND_INSERT {
-        insert_own(words, g, q, c, toggle, w, u);
-        return;
-    }
-    if u.kind == KIND_POST {
-        post_own(words, g, q, c, toggle, w, u);
-        return;
-    }
-    delete_own(words, g, q, c, toggle, w, u);
+    carry_own(words, g, q, c, toggle, w, u);
 }

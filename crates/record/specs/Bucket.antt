@@ -5,7 +5,7 @@ use mathlib.Core.Bool.{Bool}
 use mathlib.Core.List.{List}
 use Rattle.interface.specs.declared.Settings.{Settings}
 use Rattle.fields.specs.Fields.{recordCount, recordDepth, settledFrom, answersFrom, postedFrom}
-use Rattle.rules.specs.Rules.{holdsBackBy, splittableBy, crowdedBy}
+use Rattle.rules.specs.Rules.{holdsBackBy, splittableBy}
 use Rattle.bucket.specs.declared.BucketState.{BucketState}
 use Rattle.record.specs.Loads.{loadedState}
 use Rattle.layout.specs.Shape.{word}
@@ -20,9 +20,6 @@ holdsBackAt l s q = holdsBackBy s (word l (q + recordDepth)) (word l (q + record
 
 abbrev pub splittableAt : List ℕ → Settings → ℕ → Bool
 splittableAt l s q = splittableBy s (word l (q + recordDepth)) (word l (q + recordCount))
-
-abbrev pub crowdedAt : List ℕ → Settings → ℕ → Bool
-crowdedAt l s q = crowdedBy s (word l (q + recordDepth)) (word l (q + recordCount))
 
 -- worker j's last settled ticket, its answer's number, and the word of the total that the answer has
 abbrev pub settledTicket : List ℕ → Settings → ℕ → ℕ → ℕ

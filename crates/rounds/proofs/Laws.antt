@@ -1,7 +1,7 @@
 -- Laws of rounds, which the functions' proofs cite: each case of an update carried out and of help, a turn and the end of the loop.
 -- Rests on the definitions of specs/Rounds.
 use Prim.Native.Nat.{ℕ, zero, suc, _+_, _-_, _*_, _/_, _≤_, _<_}
-use mathlib.Core.Path.{_≡_, refl, _∙_, ap}
+use mathlib.Core.Path.{_≡_, refl, sym, _∙_, ap}
 use mathlib.Core.Logic.{_≢_}
 use mathlib.Core.Bool.{true, false, not}
 use mathlib.Core.List.{List}
@@ -13,14 +13,14 @@ use lib.ListN.{length, getD, set, List·getD-eq-default}
 use lib.Seq.{getD-set-other}
 use borrow.Author.Tests.{eq-eqb, ne-eqb}
 use Rattle.interface.specs.Numbers.{kindInsert, kindPost, answerNumber}
-use Rattle.interface.specs.declared.Answer.the-variants.{Overrun}
+use Rattle.interface.specs.declared.Answer.the-variants.{Crowded, Overrun}
 use Rattle.interface.specs.declared.Settings.{Settings}
 use Rattle.fields.specs.Fields.{slotTicket, slotSize}
 use Rattle.machine.specs.Choice.{if_then_else_}
 use Rattle.machine.proofs.laws.Base.{if-elim, if-true, if-false, if-ap, if-same, and-true, and-left-false, and-right-false}
 use Rattle.bucket.specs.State.{arraySize, sizeOf, searchOf, totalIn, putOf, removeOf, settleOf}
-use Rattle.rounds.specs.Rounds.{postedOf, postOf, carryOf, helpOf, helpedOf, withApplied, roundOf}
-use Rattle.rules.specs.Rules.{holdsBackBy, descriptorIn, insertAnswer, deleteAnswer, postedNumber, pendingBy}
+use Rattle.rounds.specs.Rounds.{postedOf, postOf, changedOf, carryOf, helpOf, helpedOf, withApplied, roundOf}
+use Rattle.rules.specs.Rules.{holdsBackBy, descriptorIn, crowdedBy, insertAnswer, deleteAnswer, postedNumber, pendingBy}
 use Rattle.bucket.specs.declared.BucketState.{BucketState}
 use Rattle.rules.specs.declared.Descriptor.{Descriptor}
 use Rattle.arrays.specs.declared.Position.{Position}
@@ -32,21 +32,21 @@ use Rattle.rules.proofs.Laws.{pending-settled}
 
 -- ---- one update
 
-module _ (x y : BucketState) (j : ℕ) (u : Descriptor) (answer : ℕ) (p : Position) (e : p ≡ searchOf x (u .account)) where
-  pub carry-insert :
-      u .kind ≡ kindInsert → y ≡ putOf x p (u .account) (u .total) → answer ≡ insertAnswer p
-      → settleOf y j (u .ticket) answer 0 ≡ carryOf x j u
-  unfolding carryOf if_then_else_
-  carry-insert k g h = rw (g, h, e, eq-eqb (u .kind) kindInsert k)
-
-  pub carry-delete :
-      (u .kind ≢ kindInsert) × (u .kind ≢ kindPost) → y ≡ removeOf x p → answer ≡ deleteAnswer p
-      → settleOf y j (u .ticket) answer 0 ≡ carryOf x j u
-  unfolding carryOf if_then_else_
-  carry-delete k g h = rw (g, h, e, ne-eqb (u .kind) kindInsert (k .0), ne-eqb (u .kind) kindPost (k .1))
-
--- a post, by what its sum is
+-- an update that is not crowded, by its kind
 module _ (x : BucketState) (j : ℕ) (p : Position) (u : Descriptor) where
+  pub change-insert :
+      (y : BucketState) (answer : ℕ) → u .kind ≡ kindInsert → y ≡ putOf x p (u .account) (u .total) → answer ≡ insertAnswer p
+      → settleOf y j (u .ticket) answer 0 ≡ changedOf x j p u
+  unfolding changedOf if_then_else_
+  change-insert y answer k g h = rw (g, h, eq-eqb (u .kind) kindInsert k)
+
+  pub change-delete :
+      (y : BucketState) (answer : ℕ) → (u .kind ≢ kindInsert) × (u .kind ≢ kindPost) → y ≡ removeOf x p → answer ≡ deleteAnswer p
+      → settleOf y j (u .ticket) answer 0 ≡ changedOf x j p u
+  unfolding changedOf if_then_else_
+  change-delete y answer k g h = rw (g, h, ne-eqb (u .kind) kindInsert (k .0), ne-eqb (u .kind) kindPost (k .1))
+
+  -- a post, by what its sum is
   pub post-within :
       (y : BucketState) (total : ℕ) → sumOf (totalIn x p) (u .total) ≡ Within total → y ≡ putOf x p (u .account) total
       → settleOf y j (u .ticket) postedNumber total ≡ postOf x j p u
@@ -58,19 +58,30 @@ module _ (x : BucketState) (j : ℕ) (p : Position) (u : Descriptor) where
   unfolding postOf postedOf
   post-outside e = rw e
 
-  module _ (found : p ≡ searchOf x (u .account)) (kind : u .kind ≡ kindPost) where
-    pub carry-post : postOf x j p u ≡ carryOf x j u
-    unfolding carryOf if_then_else_
-    carry-post = rw (found, kind)
+  module _ (kind : u .kind ≡ kindPost) where
+    pub change-post : postOf x j p u ≡ changedOf x j p u
+    unfolding changedOf if_then_else_
+    change-post = rw kind
 
-    pub carry-posted :
+    pub change-posted :
         (y : BucketState) (total : ℕ) → sumOf (totalIn x p) (u .total) ≡ Within total → y ≡ putOf x p (u .account) total
-        → settleOf y j (u .ticket) postedNumber total ≡ carryOf x j u
-    carry-posted y total e g = post-within y total e g ∙ carry-post
+        → settleOf y j (u .ticket) postedNumber total ≡ changedOf x j p u
+    change-posted y total e g = post-within y total e g ∙ change-post
 
-    pub carry-overrun :
-        sumOf (totalIn x p) (u .total) ≡ Outside → settleOf x j (u .ticket) (answerNumber Overrun) 0 ≡ carryOf x j u
-    carry-overrun e = post-outside e ∙ carry-post
+    pub change-overrun :
+        sumOf (totalIn x p) (u .total) ≡ Outside → settleOf x j (u .ticket) (answerNumber Overrun) 0 ≡ changedOf x j p u
+    change-overrun e = post-outside e ∙ change-post
+
+  -- crowded, or not
+  module _ (s : Settings) (found : p ≡ searchOf x (u .account)) where
+    pub carry-crowded :
+        crowdedBy s (x .count) (u .kind) p ≡ true → settleOf x j (u .ticket) (answerNumber Crowded) 0 ≡ carryOf x s j u
+    unfolding carryOf
+    carry-crowded e = sym (if-true _ _ (rw (← found) e))
+
+    pub carry-changed : crowdedBy s (x .count) (u .kind) p ≡ false → changedOf x j p u ≡ carryOf x s j u
+    unfolding carryOf
+    carry-changed e = sym (if-false _ _ (rw (← found) e) ∙ rw (← found) refl)
 
 -- ---- help
 
@@ -85,7 +96,7 @@ module _ (x : BucketState) (s : Settings) (d toggle j : ℕ) (u : Descriptor) wh
 
   pub help-carried :
       pendingBy toggle (x .applied) j (getD (x .settled) j 0) (u .ticket) ≡ true → holdsBackBy s d (x .count) ≡ false
-      → helpOf x s d toggle j u ≡ carryOf x j u
+      → helpOf x s d toggle j u ≡ carryOf x s j u
   unfolding helpOf
   help-carried e h = if-true _ x (and-true e (ap not h))
 
@@ -122,14 +133,21 @@ unfolding postedOf settleOf
 posted-settled x j p u (Within total) = ap (λ (l : List ℕ). set l j (u .ticket)) (put-settled x p (u .account) total)
 posted-settled x j p u Outside = refl
 
-carry-settled : (x : BucketState) (j : ℕ) (u : Descriptor) → carryOf x j u .settled ≡ set (x .settled) j (u .ticket)
-unfolding carryOf postOf settleOf
-carry-settled x j u =
-    let p : Position = searchOf x (u .account) in
+change-settled :
+    (x : BucketState) (j : ℕ) (p : Position) (u : Descriptor) → changedOf x j p u .settled ≡ set (x .settled) j (u .ticket)
+unfolding changedOf postOf settleOf
+change-settled x j p u =
     if-elim (λ (y : BucketState). y .settled ≡ set (x .settled) j (u .ticket)) (eqb (u .kind) kindInsert) _ _
     (λ e. ap (λ (l : List ℕ). set l j (u .ticket)) (put-settled x p (u .account) (u .total)))
     (λ e. if-elim (λ (y : BucketState). y .settled ≡ set (x .settled) j (u .ticket)) (eqb (u .kind) kindPost) _ _
     (λ f. posted-settled x j p u _) (λ f. ap (λ (l : List ℕ). set l j (u .ticket)) (remove-settled x p)))
+
+carry-settled : (x : BucketState) (s : Settings) (j : ℕ) (u : Descriptor) → carryOf x s j u .settled ≡ set (x .settled) j (u .ticket)
+unfolding carryOf settleOf
+carry-settled x s j u =
+    let p : Position = searchOf x (u .account) in
+    if-elim (λ (y : BucketState). y .settled ≡ set (x .settled) j (u .ticket)) (crowdedBy s (x .count) (u .kind) p) _ _ (λ e. refl)
+    (λ e. change-settled x j p u)
 
 help-settled :
     (x : BucketState) (s : Settings) (d toggle j : ℕ) (u : Descriptor) (i : ℕ) → i ≢ j
@@ -137,7 +155,7 @@ help-settled :
 unfolding helpOf
 help-settled x s d toggle j u i n =
     if-elim (λ (y : BucketState). getD (y .settled) i 0 ≡ getD (x .settled) i 0) _ _ _
-    (λ e. ap (λ (l : List ℕ). getD l i 0) (carry-settled x j u) ∙ getD-set-other (x .settled) j i (u .ticket) 0 n)
+    (λ e. ap (λ (l : List ℕ). getD l i 0) (carry-settled x s j u) ∙ getD-set-other (x .settled) j i (u .ticket) 0 n)
     (λ e. refl)
 
 module _ (x : BucketState) (slots : List ℕ) (s : Settings) (d toggle : ℕ) where

@@ -1,26 +1,28 @@
 -- Updates carried out and rounds keep the items of a state's arrays, and never have more accounts than a bucket has room for; a round
 -- where no bit differs changes nothing. Rests on the laws of a state and of rounds.
-use Prim.Native.Nat.{ℕ, zero, suc, _+_, _≤_}
+use Prim.Native.Nat.{ℕ, zero, suc, _≤_}
 use native.Mathlib.Omega.{arith}
+use mathlib.Core.Bool.{true, false}
 use mathlib.Core.List.{List}
 use lib.Dec.{eqb}
-use mathlib.Core.Path.{_≡_, refl, ap}
+use mathlib.Core.Path.{_≡_, refl, _∙_, ap}
 use lib.ListN.{getD}
-use borrow.Author.Tests.{not-true}
+use borrow.Author.Tests.{eqb-true, eqb-false}
 use Rattle.interface.specs.Numbers.{kindInsert, kindPost}
 use Rattle.interface.specs.declared.Settings.{Settings}
-use Rattle.machine.proofs.laws.Base.{if-elim, and-parts}
-use Rattle.bucket.specs.State.{searchOf, settleOf}
-use Rattle.rounds.specs.Rounds.{postedOf, postOf, carryOf, helpOf, helpedOf, withApplied, roundOf}
+use Rattle.machine.proofs.laws.Base.{if-elim}
+use Rattle.bucket.specs.State.{putOf, settleOf}
+use Rattle.rounds.specs.Rounds.{postedOf, postOf, changedOf, carryOf, helpOf, helpedOf, withApplied, roundOf}
 use Rattle.bucket.specs.declared.BucketState.{BucketState}
 use Rattle.rules.specs.declared.Descriptor.{Descriptor}
 use Rattle.arrays.specs.declared.Position.{Position}
+use Rattle.arrays.specs.declared.Position.the-variants.{At, Before}
 use Rattle.sums.specs.declared.Sum.{Sum}
 use Rattle.sums.specs.declared.Sum.the-variants.{Within, Outside}
 use Rattle.rounds.proofs.Laws.{help-left}
 use Rattle.bucket.proofs.Sizes.{Sized, put-sized, remove-sized, settle-sized, put-count, remove-count}
-use Rattle.rules.specs.Rules.{bit}
-use Rattle.rules.proofs.Laws.{room-left, pending-same}
+use Rattle.rules.specs.Rules.{createsBy, crowdedBy, bit}
+use Rattle.rules.proofs.Laws.{creates-insert, creates-post, room-left, pending-same}
 
 -- ---- a state's arrays keep their items
 
@@ -29,20 +31,23 @@ unfolding postedOf
 posted-sized x j p u (Within total) z = settle-sized _ j (u .ticket) _ total (put-sized x p (u .account) total z)
 posted-sized x j p u Outside z = settle-sized x j (u .ticket) _ 0 z
 
-pub carry-sized : (x : BucketState) (j : ℕ) (u : Descriptor) → Sized x → Sized (carryOf x j u)
-unfolding carryOf postOf
-carry-sized x j u z =
-    let p : Position = searchOf x (u .account) in
+change-sized : (x : BucketState) (j : ℕ) (p : Position) (u : Descriptor) → Sized x → Sized (changedOf x j p u)
+unfolding changedOf postOf
+change-sized x j p u z =
     if-elim Sized (eqb (u .kind) kindInsert) _ _ (λ e. settle-sized _ j (u .ticket) _ 0 (put-sized x p (u .account) (u .total) z))
     (λ e. if-elim Sized (eqb (u .kind) kindPost) _ _ (λ f. posted-sized x j p u _ z)
     (λ f. settle-sized _ j (u .ticket) _ 0 (remove-sized x p z)))
+
+pub carry-sized : (x : BucketState) (s : Settings) (j : ℕ) (u : Descriptor) → Sized x → Sized (carryOf x s j u)
+unfolding carryOf
+carry-sized x s j u z = if-elim Sized _ _ _ (λ e. settle-sized x j (u .ticket) _ 0 z) (λ e. change-sized x j _ u z)
 
 helped-sized : (x : BucketState) (slots : List ℕ) (s : Settings) (d toggle n : ℕ) → Sized x → Sized (helpedOf x slots s d toggle n)
 unfolding helpedOf helpOf
 helped-sized x slots s d toggle zero z = z
 helped-sized x slots s d toggle (suc j) z =
     let y = helped-sized x slots s d toggle j z in
-    if-elim Sized _ _ _ (λ e. carry-sized _ j _ y) (λ e. y)
+    if-elim Sized _ _ _ (λ e. carry-sized _ s j _ y) (λ e. y)
 
 pub round-sized : (x : BucketState) (slots : List ℕ) (s : Settings) (d toggle : ℕ) → Sized x → Sized (roundOf x slots s d toggle)
 unfolding roundOf withApplied
@@ -52,32 +57,46 @@ round-sized x slots s d toggle z =
 
 -- ---- counts, and a round that changes nothing
 
-module _ (x : BucketState) where
-  posted-count : (j : ℕ) (p : Position) (u : Descriptor) (v : Sum) → postedOf x j p u v .count ≤ x .count + 1
-  unfolding postedOf settleOf
-  posted-count j p u (Within total) = put-count x p (u .account) total
-  posted-count j p u Outside = omega arith
+module _ (x : BucketState) (s : Settings) (h : x .count ≤ s .capacity) where
+  -- an update that is not crowded and may make an account
+  module _ (j : ℕ) (p : Position) (u : Descriptor) (uncrowded : crowdedBy s (x .count) (u .kind) p ≡ false)
+      (new : (i : ℕ) → p ≡ Before i → createsBy (u .kind) p ≡ true) where
+    placed-count : (q : Position) → p ≡ q → (v : ℕ) → putOf x q (u .account) v .count ≤ s .capacity
+    unfolding putOf
+    placed-count (At i) e v = h
+    placed-count (Before i) e v =
+        let k = put-count x (Before i) (u .account) v in
+        let f = room-left s (x .count) (u .kind) p (new i e) uncrowded in
+        omega arith
 
-  pub carry-count : (j : ℕ) (u : Descriptor) → carryOf x j u .count ≤ x .count + 1
-  unfolding carryOf postOf settleOf
-  carry-count j u =
-      let p : Position = searchOf x (u .account) in
-      if-elim (λ (z : BucketState). z .count ≤ x .count + 1) (eqb (u .kind) kindInsert) _ _
-      (λ e. put-count x p (u .account) (u .total))
-      (λ e. if-elim (λ (z : BucketState). z .count ≤ x .count + 1) (eqb (u .kind) kindPost) _ _ (λ f. posted-count j p u _)
-      (λ f. remove-count x p))
+    posted-count : (v : Sum) → postedOf x j p u v .count ≤ s .capacity
+    unfolding postedOf settleOf
+    posted-count (Within total) = placed-count p refl total
+    posted-count Outside = h
 
-  pub help-count : (s : Settings) (d toggle j : ℕ) (u : Descriptor) → x .count ≤ s .capacity → helpOf x s d toggle j u .count ≤ s .capacity
+  change-count :
+      (j : ℕ) (p : Position) (u : Descriptor) → crowdedBy s (x .count) (u .kind) p ≡ false → changedOf x j p u .count ≤ s .capacity
+  unfolding changedOf postOf settleOf
+  change-count j p u uncrowded =
+      if-elim (λ (z : BucketState). z .count ≤ s .capacity) (eqb (u .kind) kindInsert) _ _
+      (λ e. placed-count j p u uncrowded (λ i m. creates-insert (u .kind) i p m (eqb-true _ _ e)) p refl (u .total))
+      (λ e. if-elim (λ (z : BucketState). z .count ≤ s .capacity) (eqb (u .kind) kindPost) _ _
+      (λ f. posted-count j p u uncrowded (λ i m. creates-post (u .kind) i p m (eqb-false _ _ e) ∙ f) _)
+      (λ f. let k = remove-count x p in omega arith))
+
+  pub carry-count : (j : ℕ) (u : Descriptor) → carryOf x s j u .count ≤ s .capacity
+  unfolding carryOf settleOf
+  carry-count j u = if-elim (λ (z : BucketState). z .count ≤ s .capacity) _ _ _ (λ e. h) (λ e. change-count j _ u e)
+
+  pub help-count : (d toggle j : ℕ) (u : Descriptor) → helpOf x s d toggle j u .count ≤ s .capacity
   unfolding helpOf
-  help-count s d toggle j u h = if-elim (λ (z : BucketState). z .count ≤ s .capacity) _ _ _
-      (λ e. let k = carry-count j u in let f = room-left s d (x .count) (not-true _ (and-parts _ _ e .1)) in omega arith)
-      (λ e. h)
+  help-count d toggle j u = if-elim (λ (z : BucketState). z .count ≤ s .capacity) _ _ _ (λ e. carry-count j u) (λ e. h)
 
 module _ (x : BucketState) (slots : List ℕ) (s : Settings) (d toggle : ℕ) where
   pub helped-count : (k : ℕ) → x .count ≤ s .capacity → helpedOf x slots s d toggle k .count ≤ s .capacity
   unfolding helpedOf
   helped-count zero h = h
-  helped-count (suc k) h = help-count (helpedOf x slots s d toggle k) s d toggle k _ (helped-count k h)
+  helped-count (suc k) h = help-count (helpedOf x slots s d toggle k) s (helped-count k h) d toggle k _
 
   pub round-count : x .count ≤ s .capacity → roundOf x slots s d toggle .count ≤ s .capacity
   unfolding roundOf withApplied

@@ -7,13 +7,13 @@ use lib.Dec.{eqb}
 use lib.ListN.{getD}
 use Rattle.interface.specs.Numbers.{kindInsert, kindPost, answerNumber}
 use Rattle.interface.specs.declared.Settings.{Settings}
-use Rattle.interface.specs.declared.Answer.the-variants.{Overrun}
+use Rattle.interface.specs.declared.Answer.the-variants.{Crowded, Overrun}
 use Rattle.fields.specs.Fields.{slotSize}
 use Rattle.machine.specs.Choice.{if_then_else_, _and_}
 use Rattle.bucket.specs.declared.BucketState.{BucketState}
 use Rattle.rules.specs.declared.Descriptor.{Descriptor}
 use Rattle.arrays.specs.declared.Position.{Position}
-use Rattle.rules.specs.Rules.{holdsBackBy, descriptorIn, insertAnswer, deleteAnswer, postedNumber, pendingBy}
+use Rattle.rules.specs.Rules.{holdsBackBy, descriptorIn, crowdedBy, insertAnswer, deleteAnswer, postedNumber, pendingBy}
 use Rattle.bucket.specs.State.{searchOf, totalIn, putOf, removeOf, settleOf}
 use Rattle.sums.specs.declared.Sum.{Sum}
 use Rattle.sums.specs.declared.Sum.the-variants.{Within, Outside}
@@ -30,20 +30,28 @@ postedOf x j p u Outside = settleOf x j (u .ticket) (answerNumber Overrun) 0
 unfoldable pub postOf : BucketState → ℕ → Position → Descriptor → BucketState
 postOf x j p u = postedOf x j p u (sumOf (totalIn x p) (u .total))
 
--- worker j's update carried out; any kind but an insert's and a post's is a delete; only posted has a total
-unfoldable pub carryOf : BucketState → ℕ → Descriptor → BucketState
-carryOf x j u =
-    let p : Position = searchOf x (u .account) in
+-- What worker j's update, for which a search gave position p, does where it is not crowded. Any kind but an insert's
+-- and a post's is a delete; only posted has a total.
+unfoldable pub changedOf : BucketState → ℕ → Position → Descriptor → BucketState
+changedOf x j p u =
     if eqb (u .kind) kindInsert
     then settleOf (putOf x p (u .account) (u .total)) j (u .ticket) (insertAnswer p) 0
     else if eqb (u .kind) kindPost then postOf x j p u
     else settleOf (removeOf x p) j (u .ticket) (deleteAnswer p) 0
 
--- worker j's update carried out in a bucket of depth d if it is pending, unless the copy takes none
+-- worker j's update carried out: crowded "is settled with its ticket like any other answer" (02, No. 2)
+unfoldable pub carryOf : BucketState → Settings → ℕ → Descriptor → BucketState
+carryOf x s j u =
+    let p : Position = searchOf x (u .account) in
+    if crowdedBy s (x .count) (u .kind) p
+    then settleOf x j (u .ticket) (answerNumber Crowded) 0
+    else changedOf x j p u
+
+-- worker j's update carried out in a bucket of depth d if it is pending, unless the copy holds it back
 unfoldable pub helpOf : BucketState → Settings → ℕ → ℕ → ℕ → Descriptor → BucketState
 helpOf x s d toggle j u =
     if pendingBy toggle (x .applied) j (getD (x .settled) j 0) (u .ticket) and not (holdsBackBy s d (x .count))
-    then carryOf x j u
+    then carryOf x s j u
     else x
 
 -- ---- a round

@@ -3,7 +3,7 @@
 ghost use mathlib.Core.Path.{_≡_};
 ghost use lib.ListN.{length, getD};
 ghost use Rattle.bucket.specs.State.{arraySize};
-ghost use Rattle.rounds.specs.Rounds.{postOf, carryOf, roundOf};
+ghost use Rattle.rounds.specs.Rounds.{postOf, changedOf, carryOf, roundOf};
 use arrays::Position;
 use bucket::ARRAY_SIZE;
 use bucket::BucketState;
@@ -11,6 +11,7 @@ use fields::SLOT_SIZE;
 use fields::SLOT_TICKET;
 use interface::ANSWER_ABSENT;
 use interface::ANSWER_ADDED;
+use interface::ANSWER_CROWDED;
 use interface::ANSWER_OVERRUN;
 use interface::ANSWER_POSTED;
 use interface::ANSWER_REMOVED;
@@ -20,6 +21,7 @@ use interface::KIND_POST;
 use interface::Settings;
 use rules::Descriptor;
 use rules::answer_number;
+use rules::crowded;
 use rules::descriptor_at;
 use rules::holds_back;
 use rules::pending;
@@ -48,11 +50,11 @@ fn post(state: BucketState, j: usize, p: Position, u: Descriptor) -> BucketState
     }
 }
 
-// Worker j's update carried out; any kind but an insert's and a post's is a delete.
-pub fn carry(state: BucketState, j: usize, u: Descriptor) -> BucketState
-    ensures { λ r. ⌜ r ≡ carryOf state j u ⌝ }
+// What worker j's update, for which a search gave position p, does where it is not crowded; any kind but an insert's
+// and a post's is a delete.
+fn change(state: BucketState, j: usize, p: Position, u: Descriptor) -> BucketState
+    ensures { λ r. ⌜ r ≡ changedOf state j p u ⌝ }
 {
-    let p = state.search(u.account);
     if u.kind == KIND_INSERT {
         state.put(p, u.account, u.total).settle(
             j,
@@ -70,6 +72,17 @@ pub fn carry(state: BucketState, j: usize, u: Descriptor) -> BucketState
             0,
         )
     }
+}
+
+// Worker j's update carried out, a new account in a full bucket as crowded.
+pub fn carry(state: BucketState, s: Settings, j: usize, u: Descriptor) -> BucketState
+    ensures { λ r. ⌜ r ≡ carryOf state s j u ⌝ }
+{
+    let p = state.search(u.account);
+    if crowded(s, state.count, u.kind, p) {
+        return state.settle(j, u.ticket, ANSWER_CROWDED, 0);
+    }
+    change(state, j, p, u)
 }
 
 // A whole round in a bucket of this depth, with the slots that were read; then the applied bits become the toggle.
@@ -91,7 +104,7 @@ pub fn round(state: BucketState, slots: &[u64], s: Settings, depth: u64, toggle:
         let last = at(&settled, j);
         if pending(toggle, x.applied, j, last, ticket) {
             if !holds_back(s, depth, x.count) {
-                x = carry(x, j, descriptor_at(slots, first));
+                x = carry(x, s, j, descriptor_at(slots, first));
             }
         }
         j += 1;

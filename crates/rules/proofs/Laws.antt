@@ -1,23 +1,36 @@
--- Laws of the rules: the room that is left in a bucket that takes updates, and each case of a pending update. Rests on the rules.
+-- Laws of the rules: the room that is left for a new account that is not crowded, and each case of a pending update. Rests on the rules.
 use Prim.Native.Nat.{ℕ, _^_, _≤_, _<_}
 use mathlib.Core.Path.{_≡_, ap}
 use mathlib.Core.Logic.{_≢_}
-use mathlib.Core.Bool.{false, not}
+use mathlib.Core.Bool.{true, false, not}
 use native.Mathlib.Nat.{div-eq-of-lt, lt-of-lt-of-le}
 use lib.Dec.{ltb, eqb}
 use lib.Pow.{pow-mono}
 use borrow.Author.Tests.{leb-false, le-ltb, eq-eqb, ne-eqb}
+use Rattle.interface.specs.Numbers.{kindInsert, kindPost}
 use Rattle.interface.specs.declared.Settings.{Settings}
 use Rattle.machine.specs.Choice.{_and_}
-use Rattle.machine.proofs.laws.Base.{and-left-false, and-right-false}
-use Rattle.rules.specs.Rules.{fullBy, holdsBackBy, bit, pendingBy}
+use Rattle.machine.proofs.laws.Base.{no-both, is-false, and-right, and-left-false, and-right-false}
+use Rattle.arrays.specs.declared.Position.{Position}
+use Rattle.arrays.specs.declared.Position.the-variants.{Before}
+use Rattle.rules.specs.Rules.{fullBy, createsBy, crowdedBy, bit, pendingBy}
 
--- ---- full buckets
+-- ---- new accounts
 
--- a bucket that takes updates has room
-pub room-left : (s : Settings) (d count : ℕ) → holdsBackBy s d count ≡ false → count < s .capacity
-unfolding holdsBackBy fullBy
-room-left s d count e = leb-false (s .capacity) count e
+module _ (kind i : ℕ) (p : Position) (missing : p ≡ Before i) where
+  pub creates-insert : kind ≡ kindInsert → createsBy kind p ≡ true
+  unfolding createsBy
+  creates-insert e = rw (missing, e)
+
+  pub creates-post : kind ≢ kindInsert → createsBy kind p ≡ eqb kind kindPost
+  unfolding createsBy
+  creates-post d = rw (missing, ne-eqb kind kindInsert d)
+
+-- a new account that is not crowded has room
+pub room-left :
+    (s : Settings) (count kind : ℕ) (p : Position) → createsBy kind p ≡ true → crowdedBy s count kind p ≡ false → count < s .capacity
+unfolding crowdedBy fullBy
+room-left s count kind p new e = leb-false (s .capacity) count (is-false _ (λ full. no-both new (and-right _ _ e full)))
 
 -- ---- whether an update is pending
 

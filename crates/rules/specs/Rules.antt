@@ -2,14 +2,14 @@
 -- update in a slot, single bits, when an update is pending, and the numbers of answers. Rests on the settings, on the
 -- names of numbers and words, and on a search's result.
 use Prim.Native.Nat.{ℕ, _+_, _-_, _/_, _%_, _^_}
-use mathlib.Core.Bool.{Bool, not}
+use mathlib.Core.Bool.{Bool, false, not, _||_}
 use mathlib.Core.List.{List}
 use lib.Dec.{ltb, leb, eqb}
 use lib.ListN.{getD}
 use lib.IntN.{pos}
 use mir.Syntax.{w64}
 use mir.Val.{toZ}
-use Rattle.interface.specs.Numbers.{answerNumber}
+use Rattle.interface.specs.Numbers.{kindInsert, kindPost, answerNumber}
 use Rattle.interface.specs.declared.Settings.{Settings}
 use Rattle.interface.specs.declared.Answer.the-variants.{Added, Replaced, Removed, Absent, None, Posted, Crowded, Overrun}
 use Rattle.fields.specs.Fields.{slotKind, slotAccount, slotTotal, slotTicket}
@@ -25,17 +25,13 @@ use Rattle.interface.specs.declared.Answer.{Answer}
 unfoldable pub fullBy : Settings → ℕ → Bool
 fullBy s count = leb (s .capacity) count
 
--- "A full bucket takes no update, deletes included."
-unfoldable pub holdsBackBy : Settings → ℕ → ℕ → Bool
-holdsBackBy s depth count = fullBy s count
-
 -- full below depth M: to be split
 unfoldable pub splittableBy : Settings → ℕ → ℕ → Bool
 splittableBy s depth count = fullBy s count and ltb depth (s .depth)
 
--- full at depth M: an update that is not settled there is crowded
-unfoldable pub crowdedBy : Settings → ℕ → ℕ → Bool
-crowdedBy s depth count = fullBy s count and leb (s .depth) depth
+-- "only a bucket that is full below depth M holds an update back" (02, No. 2)
+unfoldable pub holdsBackBy : Settings → ℕ → ℕ → Bool
+holdsBackBy s depth count = splittableBy s depth count
 
 -- ---- one update
 
@@ -48,6 +44,15 @@ descriptorIn l i =
       total = getD l (i + slotTotal) 0;
       ticket = getD l (i + slotTicket) 0;
     }
+
+-- "a new account" (02, No. 2): an insert or a post, whose account a search has not found
+unfoldable pub createsBy : ℕ → Position → Bool
+createsBy kind (At i) = false
+createsBy kind (Before i) = eqb kind kindInsert || eqb kind kindPost
+
+-- "Crowded is left for a new account": in a full bucket, by how many accounts it has
+unfoldable pub crowdedBy : Settings → ℕ → ℕ → Position → Bool
+crowdedBy s count kind p = fullBy s count and createsBy kind p
 
 -- one number where the account stands there, the other where it is missing
 unfoldable pub answerBy : Position → ℕ → ℕ → ℕ

@@ -6,12 +6,14 @@ ghost use Prim.Native.Nat.{_+_, _≤_, _<_};
 ghost use lib.ListN.{length};
 ghost use Rattle.fields.specs.Fields.{slotSize};
 ghost use Rattle.machine.specs.Sequential.{place, firstBits};
-ghost use Rattle.rules.specs.Rules.{fullBy, holdsBackBy, splittableBy, crowdedBy, descriptorIn, answerBy, flipBit, pendingBy};
+ghost use Rattle.rules.specs.Rules.{fullBy, holdsBackBy, splittableBy, descriptorIn, createsBy, crowdedBy, answerBy, flipBit, pendingBy};
 use arrays::Position;
 use fields::SLOT_ACCOUNT;
 use fields::SLOT_KIND;
 use fields::SLOT_TICKET;
 use fields::SLOT_TOTAL;
+use interface::KIND_INSERT;
+use interface::KIND_POST;
 use interface::Settings;
 
 // A worker's update as announced in its slot: the field's operation descriptor.
@@ -48,13 +50,6 @@ pub fn full(s: Settings, count: u64) -> bool
     s.capacity <= count
 }
 
-// Whether the bucket takes no update.
-pub fn holds_back(s: Settings, depth: u64, count: u64) -> bool
-    ensures { λ r. ⌜ r ≡ holdsBackBy s depth count ⌝ }
-{
-    full(s, count)
-}
-
 // Whether the bucket is to be split.
 pub fn splittable(s: Settings, depth: u64, count: u64) -> bool
     ensures { λ r. ⌜ r ≡ splittableBy s depth count ⌝ }
@@ -65,14 +60,11 @@ pub fn splittable(s: Settings, depth: u64, count: u64) -> bool
     false
 }
 
-// Whether an update that is not settled there is crowded.
-pub fn crowded(s: Settings, depth: u64, count: u64) -> bool
-    ensures { λ r. ⌜ r ≡ crowdedBy s depth count ⌝ }
+// Whether the bucket takes no update.
+pub fn holds_back(s: Settings, depth: u64, count: u64) -> bool
+    ensures { λ r. ⌜ r ≡ holdsBackBy s depth count ⌝ }
 {
-    if full(s, count) {
-        return s.depth <= depth;
-    }
-    false
+    splittable(s, depth, count)
 }
 
 // ---- one update
@@ -88,6 +80,26 @@ pub fn descriptor_at(words: &[u64], at: usize) -> Descriptor
         total: words[at + SLOT_TOTAL],
         ticket: words[at + SLOT_TICKET],
     }
+}
+
+// Whether an update of this kind makes a new account, where a search gave position p.
+fn creates(kind: u64, p: Position) -> bool
+    ensures { λ r. ⌜ r ≡ createsBy kind p ⌝ }
+{
+    match p {
+        Position::At(_) => false,
+        Position::Before(_) => kind == KIND_INSERT || kind == KIND_POST,
+    }
+}
+
+// Whether that update is crowded, in a bucket with so many accounts.
+pub fn crowded(s: Settings, count: u64, kind: u64, p: Position) -> bool
+    ensures { λ r. ⌜ r ≡ crowdedBy s count kind p ⌝ }
+{
+    if full(s, count) {
+        return creates(kind, p);
+    }
+    false
 }
 
 // One number where the account stands there, the other where it is missing.

@@ -30,7 +30,7 @@ use Rattle.splits.specs.Splits.{splitWhileAt}
 -- ---- one update
 
 pub carried-is : (l z : List ℕ) (s : Settings) (p i q : ℕ) (u : Descriptor) (x y : BucketState) → x ≡ bucketAt l s q
-    → u ≡ descriptorIn l (readAt p i) → y ≡ carryOf x i u → z ≡ withBucketAt l s q y → z ≡ carriedAt l s p i q
+    → u ≡ descriptorIn l (readAt p i) → y ≡ carryOf x s i u → z ≡ withBucketAt l s q y → z ≡ carriedAt l s p i q
 unfolding carriedAt
 carried-is l z s p i q u x y e f g h = rw (h, g, f, e)
 
@@ -44,8 +44,8 @@ module _ (l m : List ℕ) (s : Settings) (p i a b q : ℕ) (t : Bool) (e : a ≡
   pub taken-back : t ≡ true → m ≡ takenAt l s p i
   taken-back d = sym (taken-from ∙ if-true _ _ d)
 
-  pub taken-room : (z : List ℕ) → t ≡ false → z ≡ carriedAt m s p i q → z ≡ takenAt l s p i
-  taken-room z d c = c ∙ sym (taken-from ∙ if-false _ _ d)
+  pub taken-carried : (z : List ℕ) → t ≡ false → z ≡ carriedAt m s p i q → z ≡ takenAt l s p i
+  taken-carried z d c = c ∙ sym (taken-from ∙ if-false _ _ d)
 
 -- ---- the updates that are due
 

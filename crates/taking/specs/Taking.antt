@@ -19,7 +19,7 @@ use Rattle.splits.specs.Splits.{splitWhileAt}
 
 -- worker i's update, by the slot that the worker at p has read, carried out in the record at q
 unfoldable pub carriedAt : List ℕ → Settings → ℕ → ℕ → ℕ → List ℕ
-carriedAt l s p i q = withBucketAt l s q (carryOf (bucketAt l s q) i (descriptorIn l (readAt p i)))
+carriedAt l s p i q = withBucketAt l s q (carryOf (bucketAt l s q) s i (descriptorIn l (readAt p i)))
 
 unfoldable pub takenAt : List ℕ → Settings → ℕ → ℕ → List ℕ
 takenAt l s p i =

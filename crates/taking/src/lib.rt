@@ -33,10 +33,10 @@ fn carry(words: &mut [u64], g: Settings, w: usize, i: usize, q: usize)
     let b = g.capacity as usize;
     let s = record::load_state(words, q, b, n);
     let u = slot_read(words, g, w, i);
-    storing::store_state(words, q, b, n, rounds::carry(s, i, u));
+    storing::store_state(words, q, b, n, rounds::carry(s, g, i, u));
 }
 
-// Worker i's update taken: splits first, then carried out if there is room.
+// Worker i's update taken: splits first, then carried out unless its bucket holds it back.
 fn take(words: &mut [u64], g: Settings, w: usize, i: usize)
     requires { ⌜ Whole (now words) g × ((w < g .workers) × (i < g .workers)) ⌝ }
     ensures { λ _. ⌜ now (words .exit) ≡ takenAt (now (words .entry)) g (workerAt (g .workers) w) i ⌝ }

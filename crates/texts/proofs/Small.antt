@@ -31,7 +31,6 @@ use Rattle.memory.proofs.Lesser.{least-bound}
 use Rattle.layout.specs.Shape.{word}
 use Rattle.calls.specs.Calls.{endedAt}
 use Rattle.updates.specs.Updates.{checkedAt, checkAt, updateAt, operationAt}
-use Rattle.record.specs.Bucket.{crowdedAt}
 use Rattle.lookups.specs.Lookups.{foundAt, lookedAt, lookupAt}
 use Rattle.runs.specs.Runs.{lastOf, orElse, runIn, longestRun, runWords}
 use Rattle.commands.specs.declared.Command.{Command}
@@ -95,8 +94,7 @@ small-checked : (l : List ℕ) (s : Settings) (p q w k c : ℕ) → k < stepsRan
 unfolding checkAt checkedAt smallStepped smallAnswer
 small-checked l s p q w k c h =
     if-elim (λ (o : Option Answer). smallStepped (checkAt l p k c o .1)) _ _ _ (λ e. small-ended l p k c _ h (small-stored _ _))
-    (λ e. if-elim (λ (o : Option Answer). smallStepped (checkAt l p k c o .1)) (crowdedAt l s q) _ _
-    (λ f. small-ended l p k c Crowded h tt) (λ f. tt))
+    (λ e. tt)
 
 small-update : (l : List ℕ) (s : Settings) (p w k : ℕ) (g : Phase) → k < stepsRange → smallStepped (updateAt l s p w k g .1)
 unfolding updateAt smallStepped

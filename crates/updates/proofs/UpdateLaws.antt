@@ -3,25 +3,22 @@
 use Prim.Native.Nat.{ℕ, _+_, _≤_, _<_, _%_}
 use mathlib.Core.Path.{_≡_, sym, _∙_, ap, subst}
 use mathlib.Core.Logic.{_≢_}
-use mathlib.Core.Bool.{Bool, true, false}
 use mathlib.Core.List.{List}
-use mathlib.Core.Option.{Option, none, some}
+use mathlib.Core.Option.{Option}
 use lib.ListN.{length, set}
 use borrow.Author.Tests.{le-leb, lt-leb, eq-eqb, ne-eqb}
 use Rattle.interface.specs.Numbers.{kindLookup}
 use Rattle.interface.specs.declared.Settings.{Settings}
 use Rattle.interface.specs.declared.Answer.{Answer}
-use Rattle.interface.specs.declared.Answer.the-variants.{Crowded}
 use Rattle.interface.specs.declared.Stepped.{Stepped}
 use Rattle.fields.specs.Fields.{workerKind, workerTicket, workerSteps, widestRecord, stepsRange}
-use Rattle.machine.specs.Choice.{if_then_else_}
 use Rattle.machine.specs.Plan.{Phase, phase, checkNumber}
 use Rattle.machine.proofs.laws.Base.{if-true, if-false}
 use Rattle.machine.proofs.laws.PlanBounds.{Below, phase-below}
 use Rattle.phases.specs.declared.Phase as Code
 use Rattle.layout.specs.Shape.{word, Fits}
 use Rattle.layout.specs.Addresses.{heldBy}
-use Rattle.record.specs.Bucket.{crowdedAt, settledTicket}
+use Rattle.record.specs.Bucket.{settledTicket}
 use Rattle.phases.specs.Phases.{planned}
 use Rattle.calls.specs.Calls.{endedAt}
 use Rattle.updates.specs.Updates.{checkedAt, answerAt, checkAt, updateAt, operationAt}
@@ -49,28 +46,19 @@ module _ (l : List ℕ) (s : Settings) (p w k n : ℕ) (m : List ℕ × Stepped)
 
 -- ---- a check of worker w at p, whose bucket's record is at q
 
-module _ (l : List ℕ) (s : Settings) (p q w k c t u : ℕ) (number : c ≡ checkNumber (s .workers) k) (ticket : t ≡ word l (p + workerTicket))
-    (settled : u ≡ settledTicket l s q w) where
+module _ (l : List ℕ) (s : Settings) (p q w k t u : ℕ) (ticket : t ≡ word l (p + workerTicket)) (settled : u ≡ settledTicket l s q w) where
   abbrev gives : Option Answer → List ℕ × Stepped
   gives = checkAt l p k (checkNumber (s .workers) k)
 
   pub check-settled :
-      (a : Answer) (m : List ℕ × Stepped) → t ≤ u → a ≡ answerAt l s q w → m ≡ endedAt l p k c a → m ≡ gives (checkedAt l s p q w)
+      (a : Answer) (m : List ℕ × Stepped) → t ≤ u → a ≡ answerAt l s q w → m ≡ endedAt l p k (checkNumber (s .workers) k) a
+      → m ≡ gives (checkedAt l s p q w)
   unfolding checkedAt checkAt
-  check-settled a m h e f = f ∙ rw (e, number) (ap gives (sym (if-true _ _ (le-leb _ _ (rw (ticket, settled) at h)))))
+  check-settled a m h e f = f ∙ rw e (ap gives (sym (if-true _ _ (le-leb _ _ (rw (ticket, settled) at h)))))
 
-  module _ (full : Bool) (h : u < t) (tested : full ≡ crowdedAt l s q) where
-    unsettled : checkedAt l s p q w ≡ if full then some Crowded else none
-    unfolding checkedAt
-    unsettled = if-false _ _ (lt-leb _ _ (rw (ticket, settled) at h)) ∙ rw tested
-
-    pub check-moved : full ≡ false → (l, Stepped.Moved) ≡ gives (checkedAt l s p q w)
-    unfolding checkAt
-    check-moved e = ap gives (sym (unsettled ∙ if-false _ _ e))
-
-    pub check-crowded : (m : List ℕ × Stepped) → full ≡ true → m ≡ endedAt l p k c Crowded → m ≡ gives (checkedAt l s p q w)
-    unfolding checkAt
-    check-crowded m e f = f ∙ rw number (ap gives (sym (unsettled ∙ if-true _ _ e)))
+  pub check-moved : u < t → (l, Stepped.Moved) ≡ gives (checkedAt l s p q w)
+  unfolding checkedAt checkAt
+  check-moved h = ap gives (sym (if-false _ _ (lt-leb _ _ (rw (ticket, settled) at h))))
 
 pub held-room : {l : List ℕ} {s : Settings} (q p : ℕ) → Fits l s → q ≡ heldBy l p → q + widestRecord ≤ length l
 held-room q p f e = rw e (held-inside f p)

@@ -18,8 +18,7 @@ use Rattle.directory.specs.Directory.{redirectedAt}
 use Rattle.calls.specs.Calls.{endedAt}
 use Rattle.interface.specs.Numbers.{kindLookup}
 use Rattle.interface.specs.declared.Answer.{Answer}
-use Rattle.interface.specs.declared.Answer.the-variants.{Crowded}
-use Rattle.record.specs.Bucket.{crowdedAt, settledTicket, settledAnswer, settledTotal}
+use Rattle.record.specs.Bucket.{settledTicket, settledAnswer, settledTotal}
 use Rattle.machine.specs.Choice.{if_then_else_}
 use Rattle.fields.specs.Fields.{workerKind, workerTicket, workerSteps}
 use Rattle.layout.specs.Shape.{word}
@@ -31,12 +30,13 @@ use Rattle.lookups.specs.Lookups.{lookupAt}
 abbrev pub answerAt : List ℕ → Settings → ℕ → ℕ → Answer
 answerAt l s q w = answerOf (settledAnswer l s q w) (settledTotal l s q w)
 
--- what the check's second step finds for worker w at p, whose bucket's record is at q: an answer, or nothing
+-- "The checks then answer only from settled tickets": what the check's second step finds for worker w at p, whose
+-- bucket's record is at q
 unfoldable pub checkedAt : List ℕ → Settings → ℕ → ℕ → ℕ → Option Answer
 checkedAt l s p q w =
     if leb (word l (p + workerTicket)) (settledTicket l s q w)
     then some (answerAt l s q w)
-    else if crowdedAt l s q then some Crowded else none
+    else none
 
 -- what check c leaves and gives, after k own steps
 unfoldable pub checkAt : List ℕ → ℕ → ℕ → ℕ → Option Answer → List ℕ × Stepped

@@ -1,19 +1,14 @@
 // A step of an update: the step that its plan names, and the check.
 ghost use mathlib.Core.Path.{_≡_};
-ghost use Prim.Native.Nat.{_+_, _≤_, _<_};
-ghost use lib.ListN.{length};
-ghost use Rattle.fields.specs.Fields.{stepsRange, workerSlots};
+ghost use Prim.Native.Nat.{_<_};
+ghost use Rattle.fields.specs.Fields.{stepsRange};
 ghost use Rattle.layout.specs.Shape.{settingsOf, Fits};
-ghost use Rattle.calls.specs.Calls.{endedAt};
 ghost use Rattle.updates.specs.Updates.{checkStep, updateStep};
 use calls::finish;
 use directory::swap_directory;
 use ends::answer_of;
 use ends::completed;
-use fields::RECORD_COUNT;
-use fields::RECORD_DEPTH;
 use fields::WORKER_TICKET;
-use interface::Answer;
 use interface::Settings;
 use interface::Stepped;
 use layout::addresses::held_by;
@@ -25,36 +20,23 @@ use phases::phase_of;
 use record::settled_answer;
 use record::settled_ticket;
 use record::settled_total;
-use rules::crowded;
 
-// The operation of the worker whose words are at p ended, after k own steps before this one, at a check.
-fn ended(words: &mut [u64], p: usize, k: u64, check: u64, answer: Answer) -> Stepped
-    requires { ⌜ (p + workerSlots ≤ length (now words)) × (k < stepsRange) ⌝ }
-    ensures { λ r. ⌜ (now (words .exit), r) ≡ endedAt (now (words .entry)) p k check answer ⌝ }
-{
-    finish(words, p);
-    Stepped::Answered(completed(answer, k, check))
-}
-
-// The second step of a check: the answer that is settled, with its total, or crowded, or the operation goes on.
+// The second step of a check: the answer that is settled, with its total, or the operation goes on.
 fn check(words: &mut [u64], g: Settings, w: usize, k: u64) -> Stepped
     requires { ⌜ Fits (now words) g × ((w < g .workers) × (k < stepsRange)) ⌝ }
     ensures { λ r. ⌜ (now (words .exit), r) ≡ checkStep (now (words .entry)) g w k ⌝ }
 {
     let q = held_by(words, g, w);
     let p = worker_at(g, w);
-    if memory::get(words, p + WORKER_TICKET) <= settled_ticket(words, g, q, w) {
-        let answer = answer_of(
-            settled_answer(words, g, q, w),
-            settled_total(words, g, q, w),
-        );
-        return ended(words, p, k, check_number(k, g.workers), answer);
-    }
-    let depth = memory::get(words, q + RECORD_DEPTH);
-    if !crowded(g, depth, memory::get(words, q + RECORD_COUNT)) {
+    if settled_ticket(words, g, q, w) < memory::get(words, p + WORKER_TICKET) {
         return Stepped::Moved;
     }
-    ended(words, p, k, check_number(k, g.workers), Answer::Crowded)
+    let answer = answer_of(
+        settled_answer(words, g, q, w),
+        settled_total(words, g, q, w),
+    );
+    finish(words, p);
+    Stepped::Answered(completed(answer, k, check_number(k, g.workers)))
 }
 
 // An update's step, after k own steps, by the plan. The words do not stand first, so that what the caller has at hand

@@ -13,18 +13,16 @@ use Rattle.inplace.proofs.total_own.Statement.{statement}
 use Rattle.inplace.proofs.total_own.Tie as tie
 
 -- what the search started from
-begun :
-    (c : tie.After-p) → let s = c .before .before .before .args in Start (s .words .now) (s .g) (s .q) (s .c) (s .account) (s .p)
-begun c =
-    let entry = c .before .before .before in
-    let s = entry .args in
-    start (s .words .now) (s .g) (s .q) (s .c) (s .account) _ (entry .pre .0) (entry .pre .1)
+begun : (c : tie.Start) → let s = c .args in Start (s .words .now) (s .g) (s .q) (s .c)
+begun c = let s = c .args in start (s .words .now) (s .g) (s .q) (s .c) (c .pre .0)
 
 -- the position found is one of the accounts, and its total inside the words
 found-at :
     (c : tie.After-p) → let s = c .before .before .before .args in
     (c .p .given .0 .0 < s .c) × (totalsFrom (s .q) (s .g .capacity) + s .c < length (s .words .now))
-found-at c = let y = begun c in (found-as y (At _) (c .p .given .1), y .behind)
+found-at c =
+    let entry = c .before .before .before in
+    let y = begun entry in (found-as y (entry .args .account) (entry .pre .1) (At _) (c .p .given .1), y .behind)
 
 add-get-3 : tie.Need-add-get-3
 add-get-3 c = let h = found-at (c .before) in omega arith
@@ -33,7 +31,9 @@ get-requires : tie.Need-get-requires
 get-requires c κs = let h = found-at (c .before) in omega arith
 
 returns : tie.Need-returns
-returns c = let found = c .before .before in rw (found .p .given .1) (c .get .ensures ∙ total-is (begun found) _ (found .p .given .1))
+returns c =
+    let found = c .before .before in
+    rw (found .p .given .1) (c .get .ensures ∙ total-is (begun (found .before .before .before)) _ (found-at found .0))
 
 returns-2 : tie.Need-returns-2
 unfolding totalIn

@@ -59,7 +59,7 @@ loop-again c =
       search needs,
       l .inv .2,
       ⊎-elim
-          (λ w. w .5 ∙ turn _ (w .4 .ensures ∙ ap (carryOf (l .x) (l .j)) (w .3 .ensures)
+          (λ w. w .5 ∙ turn _ (w .4 .ensures ∙ ap (carryOf (l .x) (s .s) (l .j)) (w .3 .ensures)
           ∙ sym (help-carried (l .x) (s .s) (s .depth) (s .toggle) (l .j) u (pending ∙ w .0 .taken)
           (sym (w .1 .ensures) ∙ not-true _ (w .2 .taken)))) (l .inv .3))
           (⊎-elim

@@ -14,7 +14,7 @@ use mir.Syntax.{w64}
 use mir.Val.{ofZ}
 use mir.Facts.{toZ-ofZ, fits-ofZ}
 use lib.ListN.{length, getD, set, length-set}
-use borrow.Author.Tests.{leb-true, leb-false, le-ltb, lt-ltb, eq-eqb, ne-eqb, not-true}
+use borrow.Author.Tests.{leb-true, leb-false, le-ltb, lt-ltb}
 use lib.Seq.{getD-set-same, getD-set-other}
 use Rattle.interface.specs.Numbers.{kindNone, kindInsert, kindPost, answerTotal, answerNumber}
 use Rattle.interface.specs.declared.Answer.{Answer}
@@ -22,11 +22,11 @@ use Rattle.interface.specs.declared.Answer.the-variants.{Added, Replaced, Remov
 use Rattle.interface.specs.declared.Settings.{Settings}
 use Rattle.fields.specs.Fields.{slotSize}
 use Rattle.machine.specs.Choice.{if_then_else_, _and_}
-use Rattle.machine.specs.Sequential.{Table, Update, insert, delete, post, present, totalOr0, isTotal, sum, result, changed, find, put, having}
+use Rattle.machine.specs.Sequential.{Table, Update, insert, delete, post, present, totalOr0, isTotal, sum, result, changed, creates, tried, find, put, having}
 use Rattle.machine.specs.Records.{Name, Settled, Body, State, Slot, empty, announced, noBits}
-use Rattle.machine.specs.BucketPass.{full, holdsBack, splittable, crowded, settledAt, carryOut, pending, help, helped, nextState}
+use Rattle.machine.specs.BucketPass.{full, splittable, holdsBack, settledAt, carryOut, pending, help, helped, nextState}
 use Rattle.machine.specs.DirectoryPass.{half}
-use Rattle.machine.proofs.laws.Base.{eq-elim, and-parts, assign-elim}
+use Rattle.machine.proofs.laws.Base.{no-both, is-false, if-true, if-false, eq-elim, and-right, assign-elim}
 use Rattle.machine.proofs.laws.Resolve.{SettledChange, settled-same, settled-new, calls, helped-ok}
 use Rattle.bucket.specs.declared.BucketState.{BucketState}
 use Rattle.rules.specs.declared.Descriptor.{Descriptor}
@@ -36,11 +36,11 @@ use Rattle.bucket.specs.State.{arraySize, sizeOf, searchOf, totalIn, putOf, rem
 use Rattle.sums.specs.declared.Sum.the-variants.{Within, Outside}
 use Rattle.sums.specs.Sums.{added, sumOf}
 use Rattle.sums.proofs.Ranges.{fits-total}
-use Rattle.rounds.specs.Rounds.{postedOf, postOf, carryOf, helpOf, helpedOf, withApplied, roundOf}
+use Rattle.rounds.specs.Rounds.{postedOf, postOf, changedOf, carryOf, helpOf, helpedOf, withApplied, roundOf}
 use Rattle.halves.specs.Halves.{halfOf}
-use Rattle.rules.specs.Rules.{fullBy, holdsBackBy, splittableBy, crowdedBy, descriptorIn, answerBy, insertAnswer, deleteAnswer, postedNumber, bit, pendingBy, answerOf}
+use Rattle.rules.specs.Rules.{fullBy, splittableBy, holdsBackBy, descriptorIn, createsBy, crowdedBy, answerBy, insertAnswer, deleteAnswer, postedNumber, bit, pendingBy, answerOf}
 use Rattle.simulation.specs.Buckets.{signed, itemsOf, totalAt, settledOf, bitsOf, updateFrom, slotFrom, slotOf, SoundSlots, Means}
-use Rattle.rules.proofs.Laws.{room-left, pending-settled}
+use Rattle.rules.proofs.Laws.{pending-settled}
 use Rattle.rounds.proofs.Laws.{help-left}
 use Rattle.simulation.proofs.buckets.Items.{Becomes, stays-as, find-search, put-becomes, remove-becomes, sound-applied, half-becomes, length-items}
 
@@ -86,13 +86,45 @@ sum-is x (Before i) a v t h = rw h
 abbrev pub withBody : State → Body → State
 withBody y b = record { body = b; applied = y .applied }
 
-module _ (x : BucketState) (y : State) (n : ℕ) (few : n ≤ arraySize) (m : Means x y n) where
-  -- z is x with the table that update u makes of it; then its ticket is settled with the answer of number k and total v
+-- an insert or a post whose account was not found is a new account
+creates-is :
+    (x : BucketState) (p : Position) (kind a : ℕ) (z : ℤ) (t : Table) → find t a ≡ totalAt x p
+    → createsBy kind p ≡ creates (if eqb kind kindInsert then insert a z else if eqb kind kindPost then post a z else delete a) t
+unfolding createsBy creates totalAt if_then_else_
+creates-is x p kind a z t = go p (eqb kind kindInsert) (eqb kind kindPost) refl refl
+  where
+    go :
+        (p : Position) (b c : Bool) → eqb kind kindInsert ≡ b → eqb kind kindPost ≡ c → find t a ≡ totalAt x p
+        → createsBy kind p ≡ creates (if b then insert a z else if c then post a z else delete a) t
+    go (At i) true c e f h = rw h
+    go (At i) false true e f h = rw h
+    go (At i) false false e f h = refl
+    go (Before i) true c e f h = rw (e, h)
+    go (Before i) false true e f h = rw (e, f, h)
+    go (Before i) false false e f h = rw (e, f)
+
+-- the bucket is full, is to be split, holds updates back where the machine's does
+module _ (s : Settings) (x : BucketState) (y : State) (n : ℕ) (m : Means x y n) where
+  pub full-means : fullBy s (x .count) ≡ full s (y .body)
+  unfolding fullBy full
+  full-means = ap (leb (s .capacity)) (sym (length-items x (m .sound)) ∙ ap length (m .items))
+
+  pub splittable-means : (d : ℕ) → splittableBy s d (x .count) ≡ splittable s d (y .body)
+  unfolding splittableBy splittable
+  splittable-means d = ap (λ (b : Bool). b and ltb d (s .depth)) full-means
+
+  pub holds-back-means : (d : ℕ) → holdsBackBy s d (x .count) ≡ holdsBack s d (y .body)
+  unfolding holdsBackBy holdsBack
+  holds-back-means = splittable-means
+
+module _ (s : Settings) (narrow : s .capacity ≤ arraySize) (x : BucketState) (y : State) (n : ℕ) (few : n ≤ arraySize)
+    (m : Means x y n) where
+  -- z is x with the table that trying update u makes of it; then its ticket is settled with the answer of number k and total v
   settle-means :
-      (z : BucketState) (u : Update) (j t k v : ℕ) → Becomes x (changed u (itemsOf x)) z → answerOf k v ≡ result u (itemsOf x)
-      → Means (settleOf z j t k v) (withBody y (carryOut j u t (y .body))) n
+      (z : BucketState) (u : Update) (j t k v : ℕ) (r : Answer × Table) → tried (fullBy s (x .count)) u (itemsOf x) ≡ r
+      → Becomes x (r .1) z → answerOf k v ≡ r .0 → Means (settleOf z j t k v) (withBody y (carryOut s j u t (y .body))) n
   unfolding settleOf carryOut itemsOf sizeOf settledOf
-  settle-means z u j t k v h r =
+  settle-means z u j t k v r tries h told =
       record {
         sound = record {
           count = h .sound .count;
@@ -105,11 +137,14 @@ module _ (x : BucketState) (y : State) (n : ℕ) (few : n ≤ arraySize) (m : Me
           narrow = h .sound .narrow;
           fits = h .sound .fits;
         };
-        items = h .items ∙ ap (changed u) (m .items);
+        items = h .items ∙ ap (λ (q : Answer × Table). q .1) same;
         settled = λ i l. assign-elim (λ (e : Settled). settledOf (settleOf z j t k v) i ≡ e) (y .body .settled) j _ i (own i l) (other i l);
         applied = λ i l. ap (λ (w : ℕ). bitsOf w i) (h .applied) ∙ m .applied i l;
       }
     where
+      same : r ≡ tried (full s (y .body)) u (y .body .items)
+      same = sym tries ∙ (λ o. tried (full-means s x y n m o) u (m .items o))
+
       -- an array with its item j set, at j and elsewhere
       at : (a : List ℕ) (e i : ℕ) → i < n → length a ≡ arraySize → i ≡ j → getD (set a j e) i 0 ≡ e
       at a e i l long same = rw same (getD-set-same a j e 0 (omega arith))
@@ -117,11 +152,13 @@ module _ (x : BucketState) (y : State) (n : ℕ) (few : n ≤ arraySize) (m : Me
       beside : (a b : List ℕ) (e i : ℕ) → a ≡ b → i ≢ j → getD (set a j e) i 0 ≡ getD b i 0
       beside a b e i same apart = getD-set-other a j i e 0 apart ∙ ap (λ (a : List ℕ). getD a i 0) same
 
-      own : (i : ℕ) → i < n → i ≡ j → settledOf (settleOf z j t k v) i ≡ record { ticket = t; answer = result u (y .body .items) }
+      own :
+          (i : ℕ) → i < n → i ≡ j
+          → settledOf (settleOf z j t k v) i ≡ record { ticket = t; answer = tried (full s (y .body)) u (y .body .items) .0 }
       own i l e =
-          let g : settledOf (settleOf z j t k v) i .answer ≡ result u (y .body .items) =
-          ap₂ answerOf (at (z .answers) k i l (h .sound .answers) e) (at (z .posted) v i l (h .sound .posted) e) ∙ r
-          ∙ ap (result u) (m .items) in
+          let g : settledOf (settleOf z j t k v) i .answer ≡ tried (full s (y .body)) u (y .body .items) .0 =
+          ap₂ answerOf (at (z .answers) k i l (h .sound .answers) e) (at (z .posted) v i l (h .sound .posted) e) ∙ told
+          ∙ ap (λ (q : Answer × Table). q .0) same in
           λ o. record { ticket = at (z .settled) t i l (h .sound .settled) e o; answer = g o }
 
       other : (i : ℕ) → i < n → i ≢ j → settledOf (settleOf z j t k v) i ≡ y .body .settled i
@@ -132,12 +169,22 @@ module _ (x : BucketState) (y : State) (n : ℕ) (few : n ≤ arraySize) (m : Me
           } in
           g ∙ m .settled i l
 
-  -- worker j's update carried out, where there is room
+  -- an update that is not crowded does what it does where there is room, and a new account has room
+  module _ (u : Update) (e : fullBy s (x .count) and creates u (itemsOf x) ≡ false) where
+    tries : _≡_ {A = Answer × Table} (tried (fullBy s (x .count)) u (itemsOf x)) (result u (itemsOf x), changed u (itemsOf x))
+    unfolding tried
+    tries = if-false _ _ e
+
+    room : creates u (itemsOf x) ≡ true → x .count < arraySize
+    unfolding fullBy
+    room new = omega (arith, leb-false (s .capacity) (x .count) (is-false _ (λ full. no-both new (and-right _ _ e full))))
+
+  -- worker j's update carried out
   pub carry-means :
-      (j : ℕ) (u : Descriptor) → u .account < 2 ^ 32 → u .total < 2 ^ 64 → x .count < arraySize
-      → Means (carryOf x j u) (withBody y (carryOut j (updateFrom u) (u .ticket) (y .body))) n
-  unfolding carryOf postOf sumOf postedOf updateFrom if_then_else_ changed result answerOf signed
-  carry-means j u narrow fits room = go (eqb (u .kind) kindInsert) (eqb (u .kind) kindPost)
+      (j : ℕ) (u : Descriptor) → u .account < 2 ^ 32 → u .total < 2 ^ 64
+      → Means (carryOf x s j u) (withBody y (carryOut s j (updateFrom u) (u .ticket) (y .body))) n
+  unfolding carryOf changedOf crowdedBy postOf sumOf postedOf updateFrom tried creates changed result answerOf signed if_then_else_
+  carry-means j u small fits = whole (fullBy s (x .count) and createsBy (u .kind) p) refl
     where
       a : ℕ
       a = u .account
@@ -160,55 +207,54 @@ module _ (x : BucketState) (y : State) (n : ℕ) (few : n ≤ arraySize) (m : Me
       sums : sum (itemsOf x) a (signed v) ≡ z
       sums = sum-is x p a v (itemsOf x) finds
 
+      -- the update, by the tests of its kind
+      of : Bool → Bool → Update
+      of b c = if b then insert a (signed v) else if c then post a (signed v) else delete a
+
+      crowded-is : fullBy s (x .count) and creates (updateFrom u) (itemsOf x) ≡ fullBy s (x .count) and createsBy (u .kind) p
+      crowded-is = ap (λ (b : Bool). fullBy s (x .count) and b) (sym (creates-is x p (u .kind) a (signed v) (itemsOf x) finds))
+
       -- a post, by whether its sum is a total
       posts :
-          (b : Bool) → isTotal z ≡ b
-          → Means (postedOf x j p u (if b then Within (ofZ w64 z) else Outside)) (withBody y (carryOut j (post a (signed v)) t (y .body))) n
-      posts true e =
+          (b : Bool) → isTotal z ≡ b → fullBy s (x .count) and creates (post a (signed v)) (itemsOf x) ≡ false
+          → Means (postedOf x j p u (if b then Within (ofZ w64 z) else Outside))
+          (withBody y (carryOut s j (post a (signed v)) t (y .body))) n
+      posts true e free =
           let f = fits-total z e in
           let w : ℕ = ofZ w64 z in
-          settle-means (putOf x p a w) (post a (signed v)) j t postedNumber w
+          settle-means (putOf x p a w) (post a (signed v)) j t postedNumber w _ (tries (post a (signed v)) free)
           (rw (sums, e) (subst (λ (r : ℤ). Becomes x (put (itemsOf x) a r) (putOf x p a w)) (toZ-ofZ f)
-          (put-becomes x (m .sound) a w narrow (fits-ofZ f .fits) (λ e. room))))
+          (put-becomes x (m .sound) a w small (fits-ofZ f .fits) (λ g. room (post a (signed v)) free (rw g)))))
           (rw (sums, e, toZ-ofZ f))
-      posts false e =
-          settle-means x (post a (signed v)) j t (answerNumber Overrun) 0 (rw (sums, e) (stays-as (m .sound) refl)) (rw (sums, e))
+      posts false e free =
+          settle-means x (post a (signed v)) j t (answerNumber Overrun) 0 _ (tries (post a (signed v)) free)
+          (rw (sums, e) (stays-as (m .sound) refl)) (rw (sums, e))
 
-      go :
-          (b c : Bool)
+      kinds :
+          (b c : Bool) → fullBy s (x .count) and creates (of b c) (itemsOf x) ≡ false
           → Means (if b then settleOf (putOf x p a v) j t (insertAnswer p) 0 else if c then postOf x j p u
           else settleOf (removeOf x p) j t (deleteAnswer p) 0)
-          (withBody y (carryOut j (if b then insert a (signed v) else if c then post a (signed v) else delete a) t (y .body))) n
-      go true c =
-          settle-means (putOf x p a v) (insert a (signed v)) j t _ 0 (put-becomes x (m .sound) a v narrow fits (λ e. room))
+          (withBody y (carryOut s j (of b c) t (y .body))) n
+      kinds true c free =
+          settle-means (putOf x p a v) (insert a (signed v)) j t _ 0 _ (tries (insert a (signed v)) free)
+          (put-becomes x (m .sound) a v small fits (λ g. room (insert a (signed v)) free (rw g)))
           (insert-answer x p a (signed v) (itemsOf x) finds)
-      go false true = posts (isTotal z) refl
-      go false false =
-          settle-means (removeOf x p) (delete a) j t _ 0 (remove-becomes x (m .sound) a) (delete-answer x p a (itemsOf x) finds)
+      kinds false true free = posts (isTotal z) refl free
+      kinds false false free =
+          settle-means (removeOf x p) (delete a) j t _ 0 _ (tries (delete a) free) (remove-becomes x (m .sound) a)
+          (delete-answer x p a (itemsOf x) finds)
+
+      -- crowded, or not
+      whole :
+          (b : Bool) → fullBy s (x .count) and createsBy (u .kind) p ≡ b
+          → Means (if b then settleOf x j t (answerNumber Crowded) 0 else changedOf x j p u)
+          (withBody y (carryOut s j (updateFrom u) t (y .body))) n
+      whole true e =
+          settle-means x (updateFrom u) j t (answerNumber Crowded) 0 (Crowded, itemsOf x) (if-true _ _ (crowded-is ∙ e))
+          (stays-as (m .sound) refl) refl
+      whole false e = kinds (eqb (u .kind) kindInsert) (eqb (u .kind) kindPost) (crowded-is ∙ e)
 
 -- ---- the tests of a round
-
-module _ (s : Settings) (x : BucketState) (y : State) (n : ℕ) (m : Means x y n) where
-  pub full-means : fullBy s (x .count) ≡ full s (y .body)
-  unfolding fullBy full
-  full-means = ap (leb (s .capacity)) (sym (length-items x (m .sound)) ∙ ap length (m .items))
-
-  pub holds-back-means : (d : ℕ) → holdsBackBy s d (x .count) ≡ holdsBack s d (y .body)
-  unfolding holdsBackBy holdsBack
-  holds-back-means d = full-means
-
-  pub splittable-means : (d : ℕ) → splittableBy s d (x .count) ≡ splittable s d (y .body)
-  unfolding splittableBy splittable
-  splittable-means d = ap (λ (b : Bool). b and ltb d (s .depth)) full-means
-
-  -- no bucket is deeper than M
-  pub crowded-means : (d : ℕ) → d ≤ s .depth → crowdedBy s d (x .count) ≡ crowded s d (y .body)
-  unfolding crowdedBy crowded
-  crowded-means d h = λ i. full-means i and deepest (leb (s .depth) d) refl i
-    where
-      deepest : (b : Bool) → leb (s .depth) d ≡ b → leb (s .depth) d ≡ eqb d (s .depth)
-      deepest true e = e ∙ sym (eq-eqb d (s .depth) (omega (arith, leb-true (s .depth) d e)))
-      deepest false e = e ∙ sym (ne-eqb d (s .depth) (λ q. omega (arith, leb-false (s .depth) d e)))
 
 bits-differ : (p q : ℕ) → p < 2 → q < 2 → not (eqb p q) ≡ xor (eqb p 1) (eqb q 1)
 unfolding xor
@@ -259,7 +305,7 @@ module _ (s : Settings) (d : ℕ) (narrow : s .capacity ≤ arraySize) (n : ℕ)
   unfolding helpOf help slotFrom if_then_else_
   help-means x c j u l small fits quiet same m =
       eq-elim (λ (o : Slot). Means (helpOf x s d toggle j u) (withBody y (help s d y bits j o c)) n) (u .kind) kindNone
-      empty (announced (updateFrom u) (u .ticket)) idle (λ k. rw tests (go (pending y bits j (u .ticket) and not (holdsBack s d c)) tests))
+      empty (announced (updateFrom u) (u .ticket)) idle (λ k. rw tests (go (pending y bits j (u .ticket) and not (holdsBack s d c))))
     where
       tests : due x toggle j (u .ticket) and not (holdsBackBy s d (x .count)) ≡ pending y bits j (u .ticket) and not (holdsBack s d c)
       tests = λ i. due-is x c j (u .ticket) l same m i and not (holds-back-means s x (withBody y c) n m d i)
@@ -270,12 +316,10 @@ module _ (s : Settings) (d : ℕ) (narrow : s .capacity ≤ arraySize) (n : ℕ)
           subst (λ (r : BucketState). Means r (withBody y c) n) (sym (help-left x s d toggle j u off)) m
 
       go :
-          (b : Bool) → due x toggle j (u .ticket) and not (holdsBackBy s d (x .count)) ≡ b
-          → Means (if b then carryOf x j u else x) (withBody y (if b then carryOut j (updateFrom u) (u .ticket) c else c)) n
-      go true e =
-          let room = room-left s d (x .count) (not-true _ (and-parts _ _ e .1)) in
-          carry-means x (withBody y c) n few m j u small fits (omega arith)
-      go false e = m
+          (b : Bool)
+          → Means (if b then carryOf x s j u else x) (withBody y (if b then carryOut s j (updateFrom u) (u .ticket) c else c)) n
+      go true = carry-means s narrow x (withBody y c) n few m j u small fits
+      go false = m
 
   -- while the workers below k are helped, worker k's ticket stays
   later : (slots : ℕ → Slot) (k : ℕ) → helped s d y bits slots k .settled k ≡ y .body .settled k

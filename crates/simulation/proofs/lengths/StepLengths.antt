@@ -119,7 +119,7 @@ pub length-carried :
 unfolding carriedAt
 length-carried l s p i q fits h =
     length-state l q (s .capacity) (s .workers) _ h (fits .capacity) (fits .workers)
-    (carry-sized _ i _ (loaded-sized l q (s .capacity) (s .workers)))
+    (carry-sized _ s i _ (loaded-sized l q (s .capacity) (s .workers)))
 
 module _ (s : Settings) (p : ℕ) where
   pub length-taken : (l : List ℕ) (i : ℕ) → Whole l s → length (takenAt l s p i) ≡ length l

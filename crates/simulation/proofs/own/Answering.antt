@@ -2,31 +2,27 @@
 -- Rests on what a bucket's state means.
 use Prim.Native.Nat.{ℕ, _+_, _≤_, _<_}
 use native.Mathlib.Omega.{arith}
-use native.Mathlib.Decide.{ℕ-discrete}
 use mathlib.Core.Path.{_≡_, refl, ap, ap₂, sym, _∙_, subst}
-use mathlib.Core.Logic.{by-cases}
 use mathlib.Core.Bool.{not}
 use mathlib.Core.List.{List}
 use mathlib.Core.Option.{none, some}
-use lib.Dec.{ltb, leb, eqb}
+use lib.Dec.{ltb, leb}
 use lib.ListN.{length, take, length-take}
 use mir.Syntax.{w64}
 use mir.Val.{toZ}
 use lib.Seq.{getD-take, length-take-le}
-use borrow.Author.Tests.{le-leb, lt-leb, eq-eqb, ne-eqb}
 use Rattle.interface.specs.declared.Settings.{Settings}
 use Rattle.interface.specs.declared.Answer.{Answer}
-use Rattle.interface.specs.declared.Answer.the-variants.{Crowded}
 use Rattle.machine.specs.Choice.{if_then_else_, _and_}
 use Rattle.machine.specs.Sequential.{Table, find, looked}
 use Rattle.machine.specs.Records.{Settled, Body, Bucket}
-use Rattle.machine.specs.BucketPass.{full, holdsBack, splittable, crowded, settledAt, checked}
+use Rattle.machine.specs.BucketPass.{full, holdsBack, splittable, settledAt, checked}
 use Rattle.bucket.specs.declared.BucketState.{BucketState}
 use Rattle.arrays.specs.declared.Position.{Position}
 use Rattle.arrays.specs.declared.Position.the-variants.{At, Before}
 use Rattle.bucket.specs.State.{arraySize, sizeOf, searchOf}
 use Rattle.arrays.specs.Arrays.{scan}
-use Rattle.rules.specs.Rules.{fullBy, holdsBackBy, splittableBy, crowdedBy, answerOf}
+use Rattle.rules.specs.Rules.{fullBy, holdsBackBy, splittableBy, answerOf}
 use Rattle.simulation.specs.Buckets.{signed, totalAt, settledOf}
 use Rattle.bucket.proofs.Laws.{size-is}
 use Rattle.arrays.proofs.Laws.{Among, scan-among}
@@ -43,19 +39,10 @@ use Rattle.record.proofs.Runs.{length-copied, getD-copied}
 use Rattle.memory.proofs.Lesser.{least-same}
 use Rattle.record.proofs.States.{loaded-count}
 use Rattle.layout.specs.Shape.{word}
-use Rattle.record.specs.Bucket.{bucketAt, holdsBackAt, splittableAt, crowdedAt, settledTicket, settledAnswer, settledTotal}
+use Rattle.record.specs.Bucket.{bucketAt, holdsBackAt, splittableAt, settledTicket, settledAnswer, settledTotal}
 use Rattle.updates.specs.Updates.{checkedAt}
 use Rattle.lookups.specs.Lookups.{foundAt, lookedAt}
 use Rattle.simulation.specs.Meaning.{at, Keeps}
-
--- ---- a lookup
-
--- ---- a check
-
--- at a depth that is no greater, the greatest one
-at-greatest : (M d : ℕ) → d ≤ M → leb M d ≡ eqb d M
-at-greatest M d h =
-    by-cases (ℕ-discrete d M) (λ e. le-leb M d (omega arith) ∙ sym (eq-eqb d M e)) (λ e. lt-leb M d (omega (arith, e)) ∙ sym (ne-eqb d M e))
 
 module _ (s : Settings) (narrow : s .capacity ≤ arraySize) (few : s .workers ≤ arraySize) (l : List ℕ) (r : ℕ) (x : Bucket)
     (keeps : Keeps s l r x) where
@@ -118,12 +105,6 @@ module _ (s : Settings) (narrow : s .capacity ≤ arraySize) (few : s .workers �
   unfolding splittableBy splittable
   splittable-is = λ i. full-is i and ltb (at s l (record′ r) recordDepth) (s .depth)
 
-  crowded-is : (d : ℕ) → at s l (record′ r) recordDepth ≡ d → d ≤ s .depth → crowdedAt l s q ≡ crowded s d b
-  unfolding crowdedBy crowded
-  crowded-is d f deep =
-      let late : leb (s .depth) (word l (q + recordDepth)) ≡ eqb d (s .depth) = ap (leb (s .depth)) f ∙ at-greatest (s .depth) d deep in
-      λ i. full-is i and late i
-
   module _ (w : ℕ) (wn : w < s .workers) where
     pub ticket-is : settledTicket l s q w ≡ b .settled w .ticket
     unfolding loadedState settledOf
@@ -144,9 +125,6 @@ module _ (s : Settings) (narrow : s .capacity ≤ arraySize) (few : s .workers �
         ∙ ap (λ (z : Settled). z .answer) (keeps .state .settled w wn)
 
     pub checked-is :
-        (p t d : ℕ) → word l (p + workerTicket) ≡ t → at s l (record′ r) recordDepth ≡ d → d ≤ s .depth
-        → checkedAt l s p (startOf s (record′ r)) w ≡ checked s w t d (x .state .value .body)
+        (p t : ℕ) → word l (p + workerTicket) ≡ t → checkedAt l s p (startOf s (record′ r)) w ≡ checked w t (x .state .value .body)
     unfolding checkedAt checked settledAt
-    checked-is p t d e f deep =
-        let full-deep = crowded-is d f deep in
-        λ i. if leb (e i) (ticket-is i) then some (answer-is i) else if full-deep i then some Crowded else none
+    checked-is p t e = λ i. if leb (e i) (ticket-is i) then some (answer-is i) else none

@@ -1,8 +1,8 @@
 -- The steps that may end an operation: a lookup's second step and the check. Rests on what is found in a bucket record's words.
-use Prim.Native.Nat.{ℕ, zero, suc, _+_, _≤_}
+use Prim.Native.Nat.{ℕ, zero, suc, _+_}
 use native.Mathlib.Omega.{arith}
 use native.Mathlib.Numerals.{add-one}
-use mathlib.Core.Path.{_≡_, refl, ap, ap₂, sym, _∙_, subst, subst⁻¹}
+use mathlib.Core.Path.{_≡_, refl, ap, ap₂, sym, _∙_, subst⁻¹}
 use mathlib.Core.List.{List}
 use mathlib.Core.Option.{Option, none, some}
 use lib.ListN.{set}
@@ -12,21 +12,20 @@ use Rattle.interface.specs.declared.Settings.{Settings}
 use Rattle.interface.specs.declared.Answer.{Answer}
 use Rattle.machine.specs.Choice.{if_then_else_, assign}
 use Rattle.machine.specs.Sequential.{Operation, lookup, find, looked}
-use Rattle.machine.specs.Records.{Name, Reads, Machine}
+use Rattle.machine.specs.Records.{Reads, Machine}
 use Rattle.machine.specs.Plan.{checkNumber}
 use Rattle.machine.specs.Steps.{counted, checkOf, stepReply}
 use Rattle.machine.specs.BucketPass.{checked}
 use Rattle.machine.proofs.laws.Base.{if-eq}
 use Rattle.machine.specs.Passed.{HoldsBucket}
-use Rattle.machine.specs.Counter.{Two, one, two, PC, idle, look₂, checkS}
+use Rattle.machine.specs.Counter.{Two, one, two, idle, look₂, checkS}
 use Rattle.machine.proofs.invariant.Counter.{afterC}
-use Rattle.machine.proofs.laws.Copies.{partition-of}
 use Rattle.machine.specs.Tasks.{Task, about, target, held, taskOf, tasksOf, lookupCounter}
-use Rattle.machine.proofs.invariant.Inv.{Hold, body, ReadFacts, Looking}
+use Rattle.machine.proofs.invariant.Inv.{body, Looking}
 use Rattle.machine.proofs.invariant.Transitions.{endedTask}
 use Rattle.rules.specs.declared.Descriptor.{Descriptor}
 use Rattle.rules.specs.Rules.{descriptorIn}
-use Rattle.fields.specs.Fields.{workerKind, workerAccount, workerTotal, workerTicket, workerSteps, workerToggle, workerMarks, recordDepth}
+use Rattle.fields.specs.Fields.{workerKind, workerAccount, workerTotal, workerTicket, workerSteps, workerToggle, workerMarks}
 use Rattle.fields.specs.Regions.{startOf, worker}
 use Rattle.layout.specs.Shape.{word}
 use Rattle.layout.specs.Addresses.{heldBy}
@@ -37,8 +36,7 @@ use Rattle.calls.specs.Calls.{endedAt}
 use Rattle.simulation.specs.Meaning.{at, operationIn}
 use Rattle.simulation.proofs.frames.Entering.{raised, checkBy, counter-is, is-about, lookup-enters}
 use Rattle.simulation.proofs.own.Answering.{looked-is, checked-is}
-use Rattle.simulation.proofs.frames.Frames.{record-wide, own-record}
-use Rattle.simulation.proofs.frames.OwnWorker.{worker-means, nowhere, Ready, Next, Words, Free, words-here, words-set, mine-means, slots-kept, toggle-kept, Onward, enough₁, own₁, beside₁, free, mine, at-mine, keeps₁, announced-at, plan-step, stays}
+use Rattle.simulation.proofs.frames.OwnWorker.{worker-means, nowhere, Ready, Next, Words, Free, words-here, words-set, mine-means, slots-kept, toggle-kept, Onward, enough₁, beside₁, free, mine, at-mine, keeps₁, announced-at, plan-step, stays}
 
 operation-none : (d : Descriptor) → d .kind ≡ kindNone → operationIn d ≡ none
 unfolding operationIn
@@ -155,27 +153,22 @@ module _ {s : Settings} {l : List ℕ} {m : Machine} {w : ℕ} (ready : Ready s 
     unfolding updateAt
     check-enters = plan-step ready (checkS p x) (announced-at ready (checkS p x) e) e
 
-    check-finds : found ≡ checked s w (k .ticket) (held k .depth) (body (m .cells) (held k))
+    check-finds : found ≡ checked w (k .ticket) (body (m .cells) (held k))
     check-finds =
         let h : HoldsBucket (k .pc) = subst⁻¹ HoldsBucket e tt in
         let limits = range-of (s .workers) (s .capacity) (s .depth) (ready .range) in
-        let hold : Hold s (m .cells) w k =
-        subst (λ (pc : PC). ReadFacts s pc (m .cells) w k) e (ready .good .own w (ready .known) .read) .0 in
-        let deep : held k .depth ≤ s .depth = omega (arith, partition-of _ (ready .good .directory) .bound (target k)) in
-        let depth-same = own-record (own₁ ready) (mine ready h .0) (mine ready h .1 .inPool) recordDepth (rw record-wide (omega arith)) in
-        rw (at-mine ready h) (checked-is s (omega arith) (omega arith) l₁ (mine ready h .0) _ (keeps₁ ready h) w (ready .known) _ _ _
-        (beside₁ ready workerTicket (omega arith) (λ g. omega arith) ∙ worker-means ready .ticket)
-        (depth-same ∙ ap (λ (z : Name). z .depth) (mine ready h .2)) deep)
+        rw (at-mine ready h) (checked-is s (omega arith) (omega arith) l₁ (mine ready h .0) _ (keeps₁ ready h) w (ready .known) _ _
+        (beside₁ ready workerTicket (omega arith) (λ g. omega arith) ∙ worker-means ready .ticket))
 
     pub answers-means :
-        (a : Answer) → checked s w (k .ticket) (held k .depth) (body (m .cells) (held k)) ≡ some a → Ends a
+        (a : Answer) → checked w (k .ticket) (body (m .cells) (held k)) ≡ some a → Ends a
     unfolding checkAt checkOf
     answers-means a q =
         ends a number (ap (checkBy s (m .workers w)) (announced-at ready (checkS p x) e .asks))
         (check-enters ∙ ap (checkAt l₁ me (m .workers w .steps) number) (check-finds ∙ q))
 
     pub passes-means :
-        checked s w (k .ticket) (held k .depth) (body (m .cells) (held k)) ≡ none → Onward ready (afterC p x) (k .reads)
+        checked w (k .ticket) (body (m .cells) (held k)) ≡ none → Onward ready (afterC p x) (k .reads)
     unfolding checkAt
     passes-means q =
         stays ready (afterC p x) (λ z. absurd (nothing p x .0 z)) (nothing p x .1) (nothing p x .2)

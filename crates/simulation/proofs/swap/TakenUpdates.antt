@@ -7,7 +7,7 @@ use mathlib.Core.Path.{_≡_, refl, ap, sym, _∙_, subst}
 use mathlib.Core.Logic.{inl, inr}
 use mathlib.Core.Bool.{Bool, true, false, not}
 use mathlib.Core.List.{List}
-use lib.Dec.{ltb, eqb}
+use lib.Dec.{eqb}
 use lib.ListN.{length}
 use borrow.Author.Tests.{eqb-true}
 use Rattle.interface.specs.Limits.{inRange, Range}
@@ -16,10 +16,11 @@ use Rattle.interface.specs.declared.Settings.{Settings}
 use Rattle.machine.specs.Choice.{if_then_else_, _and_}
 use Rattle.machine.specs.Sequential.{Update, account, firstBits}
 use Rattle.machine.specs.Records.{Name, Body, Bucket, Leaf, kept, made, Copy, Slot, empty, announced, Cells, noBits, newBucket}
-use Rattle.machine.specs.BucketPass.{settledAt, full, holdsBack, splittable, carryOut}
+use Rattle.machine.specs.BucketPass.{settledAt, holdsBack, splittable, carryOut}
 use Rattle.machine.specs.DirectoryPass.{leafOf, nameOf, replaceLeaf, child, split, splitLeaf, splitWhile, carryLeaf, takeUpdate, takeSlot, takeSlots}
-use Rattle.fields.specs.Fields.{slotAccount, slotTotal, slotSize, recordCount, recordToggle, recordDepth, recordPrefix}
+use Rattle.fields.specs.Fields.{slotAccount, slotTotal, slotSize, recordToggle, recordDepth, recordPrefix}
 use Rattle.fields.specs.Regions.{readAt, poolSize, wordsNeeded, record′, startOf, worker}
+use Rattle.machine.proofs.invariant.Change.{splittable-blocks}
 use Rattle.machine.proofs.laws.Base.{no-both, if-eq, and-parts}
 use Rattle.machine.proofs.laws.Copies.{leaf-split, Coherent, depthAt-le, own-leaf, refined-takeSlots, splittable-below, due}
 use Rattle.machine.specs.Tasks.{leaf, IsMade}
@@ -28,7 +29,6 @@ use Rattle.rules.specs.declared.Descriptor.{Descriptor}
 use Rattle.rules.specs.Rules.{bit, descriptorIn}
 use Rattle.rounds.specs.Rounds.{carryOf}
 use Rattle.simulation.specs.Buckets.{bitsOf, slotFrom, Means}
-use Rattle.rules.proofs.Laws.{room-left}
 use Rattle.simulation.proofs.buckets.Ties.{carry-means}
 use Rattle.record.proofs.States.{loaded-count}
 use Rattle.layout.specs.Shape.{word}
@@ -38,11 +38,11 @@ use Rattle.record.specs.Bucket.{bucketAt, holdsBackAt, splittableAt}
 use Rattle.storing.specs.Stores.{withBucketAt}
 use Rattle.splits.specs.Splits.{halfAt, deepenedAt, splitAt, splitWhileAt}
 use Rattle.taking.specs.Taking.{carriedAt, takenAt, takenAll}
-use Rattle.simulation.specs.Meaning.{at, slotIn, nameIn, Keeps, Directs}
+use Rattle.simulation.specs.Meaning.{slotIn, nameIn, Keeps, Directs}
 use Rattle.simulation.proofs.frames.Frames.{worker-wide, descriptor-near, keeps-same}
 use Rattle.simulation.proofs.swap.Halves.{Deepened, Halved}
 use Rattle.simulation.proofs.frames.Entering.{depth-bound, directed-record, Describes, slot-describes}
-use Rattle.simulation.proofs.own.Answering.{loaded-all, holds-back-is, splittable-is}
+use Rattle.simulation.proofs.own.Answering.{holds-back-is, splittable-is}
 use Rattle.simulation.proofs.frames.BucketWords.{Stored, stored-words}
 use Rattle.rounds.proofs.Sizes.{carry-count}
 use Rattle.simulation.proofs.frames.Storing.{deepened-at, stored-beside, restated}
@@ -56,11 +56,6 @@ record KeepsBody (s : Settings) (l : List ℕ) (r : ℕ) (b : Body) : Type 0 whe
   bucket : Bucket
   keeps : Keeps s l r bucket
   body : bucket .state .value .body ≡ b
-
--- a bucket that is to be split takes no update
-splittable-holds-back : (s : Settings) (d : ℕ) (b : Body) → splittable s d b ≡ true → holdsBack s d b ≡ true
-unfolding splittable holdsBack
-splittable-holds-back s d b h = and-parts (full s b) (ltb d (s .depth)) h .0
 
 -- ---- the words at the beginning
 
@@ -238,11 +233,11 @@ module _ {s : Settings} {l₀ : List ℕ} {c₀ : Cells} {w : ℕ} {slots : ℕ 
     pub slot-is : (l : List ℕ) (c : Copy) → Middle l c → Describes (descriptorIn l (readAt (startOf s (worker w)) i)) u t
     slot-is l c mid = slot-describes _ u t (slot-read l c mid i h ∙ read)
 
-    -- carried out, if there is room
+    -- carried out, where the bucket does not hold it back
     carry-mid :
         (l : List ℕ) (c : Copy) (mid : Middle l c) (x : Name) (b : Body) → leafOf c (account u) ≡ made x b
         → holdsBack s (x .depth) b ≡ false
-        → Middle (carriedAt l s p i (startAt l c mid (account u))) (replaceLeaf x (made x (carryOut i u t b)) c)
+        → Middle (carriedAt l s p i (startAt l c mid (account u))) (replaceLeaf x (made x (carryOut s i u t b)) c)
     unfolding carriedAt newBucket descriptorIn
     carry-mid l c mid x b e f = go (subst (Content s l₀ c₀ l r (account u)) e (mid .keeps (account u) .content))
       where
@@ -259,31 +254,21 @@ module _ {s : Settings} {l₀ : List ℕ} {c₀ : Cells} {w : ℕ} {slots : ℕ 
         read-in = descriptorIn l (readAt p i)
 
         after : BucketState
-        after = carryOf state i read-in
+        after = carryOf state s i read-in
 
-        room : Keeps s l r (newBucket b) → state .count < s .capacity
-        room k =
-            let g = limits in
-            let all = loaded-all s (omega arith) (omega arith) l r (newBucket b) k in
-            omega (
-              arith,
-              room-left s (at s l (record′ r) recordDepth) (at s l (record′ r) recordCount) (holds-back-at l c mid (account u) x b e ∙ f),
-            )
+        few : after .count ≤ s .capacity
+        few = carry-count state s (loaded-count l q (s .capacity) (s .workers)) i read-in
 
-        few : Keeps s l r (newBucket b) → after .count ≤ s .capacity
-        few k = omega (arith, room k, carry-count state i read-in)
-
-        means : Keeps s l r (newBucket b) → Means after (newBucket (carryOut i u t b) .state .value) (s .workers)
+        means : Keeps s l r (newBucket b) → Means after (newBucket (carryOut s i u t b) .state .value) (s .workers)
         means k =
             let n = limits .greatest-workers in
             let m = limits .greatest-capacity in
             let g = slot-is l c mid in
             subst (λ (v : Body). Means after (record { body = v; applied = noBits }) (s .workers))
-            (λ o. carryOut i (g .update o) (g .ticket o) b)
-            (carry-means state (newBucket b .state .value) (s .workers) (omega arith) (k .state) i read-in
+            (λ o. carryOut s i (g .update o) (g .ticket o) b)
+            (carry-means s (omega arith) state (newBucket b .state .value) (s .workers) (omega arith) (k .state) i read-in
             (omega (arith, slot-word l c mid i h slotAccount (omega arith), swap-ready .seen .narrow i h))
-            (omega (arith, slot-word l c mid i h slotTotal (omega arith), swap-ready .seen .fits i h))
-            (omega (arith, room k)))
+            (omega (arith, slot-word l c mid i h slotTotal (omega arith), swap-ready .seen .fits i h)))
 
         w′ : r < poolSize s
         w′ = mid .keeps (account u) .directs .inPool
@@ -291,10 +276,10 @@ module _ {s : Settings} {l₀ : List ℕ} {c₀ : Cells} {w : ℕ} {slots : ℕ 
         l′ : List ℕ
         l′ = withBucketAt l s q after
 
-        stored : Keeps s l r (newBucket b) → Stored s l l′ r (newBucket (carryOut i u t b) .state .value)
-        stored k = stored-words s (swap-ready .range) l (enough′ l c mid) r w′ after _ (means k) (few k)
+        stored : Keeps s l r (newBucket b) → Stored s l l′ r (newBucket (carryOut s i u t b) .state .value)
+        stored k = stored-words s (swap-ready .range) l (enough′ l c mid) r w′ after _ (means k) few
 
-        keeps : Keeps s l r (newBucket b) → Keeps s l′ r (newBucket (carryOut i u t b))
+        keeps : Keeps s l r (newBucket b) → Keeps s l′ r (newBucket (carryOut s i u t b))
         keeps k =
             let f = stored k in
             record {
@@ -304,11 +289,11 @@ module _ {s : Settings} {l₀ : List ℕ} {c₀ : Cells} {w : ℕ} {slots : ℕ 
                   (stored-beside s l l′ r w′ _ f recordToggle (omega arith) (omega arith)) ∙ k .toggle j jn;
             }
 
-        go : Content s l₀ c₀ l r (account u) (made x b) → Middle l′ (replaceLeaf x (made x (carryOut i u t b)) c)
-        go (inl k) = absurd (no-both (splittable-holds-back s (x .depth) b (k .splits)) f)
+        go : Content s l₀ c₀ l r (account u) (made x b) → Middle l′ (replaceLeaf x (made x (carryOut s i u t b)) c)
+        go (inl k) = absurd (no-both (splittable-blocks s (x .depth) b (k .splits)) f)
         go (inr k) =
             let f = restated s l l′ r w′ _ (stored (k .1)) in
-            replaced-mid s l₀ c₀ small l _ c mid (account u) x (ap nameOf e) (carryOut i u t b) f (λ a z. inr (k .0, keeps (k .1)))
+            replaced-mid s l₀ c₀ small l _ c mid (account u) x (ap nameOf e) (carryOut s i u t b) f (λ a z. inr (k .0, keeps (k .1)))
             (λ j v jn z. f .others v (z .inPool) (λ (y : v ≡ r). k .0 j jn (z .names ∙ ap (λ (n : ℕ). startOf s (record′ n)) y)))
 
     -- once split as often as need be
@@ -329,7 +314,7 @@ module _ {s : Settings} {l₀ : List ℕ} {c₀ : Cells} {w : ℕ} {slots : ℕ 
           where
             by :
                 (v : Bool) → holdsBack s (x .depth) b ≡ v
-                → Middle (if v then l else carriedAt l s p i q) (if v then c else replaceLeaf x (made x (carryOut i u t b)) c)
+                → Middle (if v then l else carriedAt l s p i q) (if v then c else replaceLeaf x (made x (carryOut s i u t b)) c)
             by true f = m .0
             by false f = carry-mid l c (m .0) x b e f
 

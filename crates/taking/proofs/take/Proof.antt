@@ -1,4 +1,4 @@
--- `take` splits for one update, and then carries it out if there is room.
+-- `take` splits for one update, and then carries it out unless its bucket holds it back.
 -- Rests on the bound of a bucket's record, which a split keeps.
 use Prim.Native.Nat.{_+_, _≤_}
 use native.Mathlib.Omega.{arith}
@@ -7,7 +7,7 @@ use Rattle.layout.specs.Shape.{Fits}
 use Rattle.fields.specs.Fields.{widestRecord}
 use Rattle.fields.specs.Regions.{workerAt}
 use Rattle.layout.proofs.Positions.{fits-kept, record-inside}
-use Rattle.taking.proofs.TakingLaws.{taken-back, taken-room}
+use Rattle.taking.proofs.TakingLaws.{taken-back, taken-carried}
 use mathlib.Core.Path.{_≡_}
 use Rattle.rules.specs.Rules.{holdsBackBy}
 use Rattle.record.specs.Bucket.{holdsBackAt}
@@ -70,16 +70,16 @@ carry-requires c κs =
 returns-2 : tie.Need-returns-2
 returns-2 c =
     let done = c .before .before in
-    let room = done .before .before in
-    let test = room .before in
+    let taking = done .before .before in
+    let test = taking .before in
     let found = test .before .before .before .before .before in
     let again = found .before in
     let split = again .before .before .before .before in
     let first = split .before in
     let args = first .before .before .before .before .args in
-    taken-room _ _ (args .g) (workerAt (args .g .workers) (args .w)) (args .i) _ _ _ _ (first .slot-word .ensures)
+    taken-carried _ _ (args .g) (workerAt (args .g .workers) (args .w)) (args .i) _ _ _ _ (first .slot-word .ensures)
     (split .split-while .ensures)
-    (again .slot-word2 .ensures) (found .record-of .ensures) (tested test) _ (room .if1 .left) (done .carry .ensures)
+    (again .slot-word2 .ensures) (found .record-of .ensures) (tested test) _ (taking .if1 .left) (done .carry .ensures)
 
 pub take-spec : {M : Type 1} → statement M
 take-spec =
