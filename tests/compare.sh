@@ -1,16 +1,19 @@
 #!/usr/bin/env bash
 # Random input, answered by the compiled program and by the second model: every byte has to agree, and every sort of
 # answer has to occur.
-# compare.sh [SEED LINES]...: without arguments, fixed seeds of 400,000 lines in all, and each wrong machine of the
-# model has to be told from the program by the last of them.
+# compare.sh [--crowded] [SEED LINES]...: without arguments, fixed seeds of 500,000 lines in all, the first 100,000
+# crowded, and each wrong machine of the model has to be told from the program by the last of them. With --crowded every
+# table has b 2 and M 0 to 2, and buckets that are full most of the time.
 set -u
 cd "$(dirname "$0")/.." || exit 2
 . tests/common.sh
-[ $(($# % 2)) -eq 0 ] || { echo "usage: compare.sh [SEED LINES]..." && exit 2; }
+crowded=()
+[ "${1-}" != --crowded ] || { crowded=(--crowded) && shift; }
+[ $(($# % 2)) -eq 0 ] || { echo "usage: compare.sh [--crowded] [SEED LINES]..." && exit 2; }
 
 # compare SEED LINES
 compare() {
-  "$model" lines "$1" "$2" >"$run/input" && "$model" totals <"$run/input" >"$run/model" &&
+  "$model" lines "$1" "$2" "${crowded[@]}" >"$run/input" && "$model" totals <"$run/input" >"$run/model" &&
     "$totals" <"$run/input" >"$run/totals"
   local status=$?
   [ "$status" -eq 0 ] && { cmp "$run/totals" "$run/model" || status=1; }
@@ -64,8 +67,13 @@ told_apart() {
 }
 
 given=$#
-[ "$given" -gt 0 ] || set -- 1 100000 2 100000 3 100000 4 100000
 : >"$run/all"
+if [ "$given" -eq 0 ]; then
+  crowded=(--crowded)
+  compare 5 100000
+  crowded=()
+  set -- 1 100000 2 100000 3 100000 4 100000
+fi
 while [ $# -gt 0 ]; do
   compare "$1" "$2"
   shift 2
