@@ -22,8 +22,8 @@
  *   - The slices of one call do not overlap.
  *   - One call at a time over the same words, totals_list included. Workers are numbers and no threads: one caller
  *     interleaves their steps. Nothing here locks or waits; threads would need a lock around every call.
- *   - The number that is returned is looked at: an update that is answered TOTALS_CROWDED, and a post that is answered
- *     TOTALS_OVERRUN, was not carried out.
+ *   - The number that is returned is looked at: an insert or a post that is answered TOTALS_CROWDED, and a post that is
+ *     answered TOTALS_OVERRUN, was not carried out.
  */
 #ifndef TOTALS_H
 #define TOTALS_H
@@ -107,10 +107,11 @@ extern "C" {
 #define TOTALS_FOUND 21    /* lookup: the account's total */
 #define TOTALS_NONE 22     /* lookup: the account is not there */
 #define TOTALS_POSTED 23   /* post: the account's new total; an account that was not there has started from 0 */
-#define TOTALS_CROWDED 25  /* insert, delete or post: the table holds b accounts that agree with this one in the first M
-                              bits, itself counted where it is there; nothing changed, the update was not carried out */
-#define TOTALS_OVERRUN 27  /* post: the sum is outside the 64-bit signed range; nothing changed, the post was not
-                              carried out. Where the post is crowded, TOTALS_CROWDED is the answer */
+#define TOTALS_CROWDED 25  /* insert or post: the account was not there, and b others agree with it in the first M bits;
+                              nothing changed, the update was not carried out. A delete, an insert that replaces and a
+                              post to an account that is there are never answered so */
+#define TOTALS_OVERRUN 27  /* post: the account was there, and the sum is outside the 64-bit signed range; nothing
+                              changed, the post was not carried out */
 
 /*
  * How many words a table of these settings needs: 162 to 17,305. Or TOTALS_SETTINGS, 1, where one of them is outside

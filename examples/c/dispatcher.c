@@ -147,7 +147,7 @@ static int dispatch(unsigned turns, unsigned parked)
     return 0;
 }
 
-/* An operation from its call to its answer: none takes more steps than an update at most. */
+/* A lookup or a delete from its call to its answer: none takes more steps than an update at most, none is crowded. */
 static int at_once(unsigned w, uint64_t kind, uint32_t account)
 {
     uint64_t report[2] = {0, 0};
@@ -161,8 +161,6 @@ static int at_once(unsigned w, uint64_t kind, uint32_t account)
     }
     if (number < TOTALS_ADDED)
         return refused(number, "run");
-    if (number == TOTALS_CROWDED)
-        return not_carried_out(number, w, account);
     printf("worker %u %s %" PRIu32 ": ", w, kind == TOTALS_LOOKUP ? "looks up" : "deletes", account);
     print_answer(number, report);
     return 0;

@@ -21,7 +21,10 @@ struct turn {
     uint64_t told[3];
 };
 
-/* One worker, buckets of 2, depth 1 at most: the third account needs a split. */
+/*
+ * One worker, buckets of 2, depth 1 at most: the third account needs a split, and leaves the bucket of 5 and 6 full at
+ * that depth. It then takes what corrects these two, and a new account when one of them is removed.
+ */
 static const struct turn turns[] = {
     {0, 0, 0, STEP, 1, TOTALS_IDLE, 0, {0, 0, 0}},
     {0, 0, 0, RUN, MOST, TOTALS_IDLE, 0, {0, 0, 0}},
@@ -32,14 +35,22 @@ static const struct turn turns[] = {
     {0, 0, 0, RUN, MOST, TOTALS_ADDED, 3, {13, 0, 1}},
     {TOTALS_INSERT, 2147483648, TOTAL, RUN, MOST - 1, TOTALS_MOVED, 3, {22, 0, 0}},
     {0, 0, 0, STEP, 1, TOTALS_ADDED, 3, {23, 0, 2}},
-    {TOTALS_DELETE, 5, TOTAL, RUN, MOST, TOTALS_CROWDED, 3, {13, 0, 1}},
+    {TOTALS_INSERT, 7, TOTAL, RUN, MOST, TOTALS_CROWDED, 3, {13, 0, 1}},
     {TOTALS_LOOKUP, 5, TOTAL, RUN, MOST, TOTALS_FOUND, 3, {2, (uint64_t)TOTAL, 0}},
     {TOTALS_LOOKUP, 7, TOTAL, RUN, 1, TOTALS_MOVED, 3, {1, 0, 0}},
     {0, 0, 0, STEP, 1, TOTALS_NONE, 3, {2, 0, 0}},
     {TOTALS_POST, 2147483648, TOTAL, RUN, 12, TOTALS_MOVED, 3, {12, 0, 0}},
     {0, 0, 0, STEP, 1, TOTALS_POSTED, 3, {13, (uint64_t)(2 * TOTAL), 1}},
     {TOTALS_POST, 2147483648, INT64_MIN, RUN, MOST, TOTALS_OVERRUN, 3, {13, 0, 1}},
-    {TOTALS_POST, 5, INT64_MIN, RUN, MOST, TOTALS_CROWDED, 3, {13, 0, 1}},
+    {TOTALS_POST, 5, INT64_MIN, RUN, MOST, TOTALS_OVERRUN, 3, {13, 0, 1}},
+    {TOTALS_POST, 5, TOTAL, RUN, MOST, TOTALS_POSTED, 3, {13, (uint64_t)(2 * TOTAL), 1}},
+    {TOTALS_INSERT, 6, TOTAL, RUN, MOST, TOTALS_REPLACED, 3, {13, 0, 1}},
+    {TOTALS_POST, 7, INT64_MIN, RUN, 12, TOTALS_MOVED, 3, {12, 0, 0}},
+    {0, 0, 0, STEP, 1, TOTALS_CROWDED, 3, {13, 0, 1}},
+    {TOTALS_DELETE, 7, TOTAL, RUN, MOST, TOTALS_ABSENT, 3, {13, 0, 1}},
+    {TOTALS_DELETE, 5, TOTAL, RUN, MOST, TOTALS_REMOVED, 3, {13, 0, 1}},
+    {TOTALS_POST, 7, INT64_MIN, RUN, MOST, TOTALS_POSTED, 3, {13, (uint64_t)INT64_MIN, 1}},
+    {TOTALS_INSERT, 5, TOTAL, RUN, MOST, TOTALS_CROWDED, 3, {13, 0, 1}},
 };
 
 static uint64_t words[LENGTH];

@@ -105,6 +105,28 @@ static const struct turn posting[] = {
     {1, GO_ON, {0, 0}, ALL, TOTALS_POSTED, {15, 70, 1}, 5, 3, {{5, 10}, {9, 101}, {IN_10, 70}}},
 };
 
+/*
+ * A full bucket at the greatest depth, 0. Worker 1's new account is crowded, and stays so though worker 0 makes room
+ * before worker 1 reads its answer; the next one finds the room. Then updates of both in the full bucket, one of them a
+ * new account's, and once more room for one.
+ */
+static const struct turn crowding[] = {
+    {0, TOTALS_INSERT, {5, 50}, ALL, TOTALS_ADDED, {15, 0, 1}, 1, 1, {{5, 50}}},
+    {0, TOTALS_INSERT, {6, 60}, ALL, TOTALS_ADDED, {15, 0, 1}, 2, 2, {{5, 50}, {6, 60}}},
+    {1, TOTALS_INSERT, {7, 70}, 8, TOTALS_MOVED, {8, 0, 0}, 1, 2, {{5, 50}, {6, 60}}},
+    {0, TOTALS_DELETE, {5, 0}, ALL, TOTALS_REMOVED, {15, 0, 1}, 3, 1, {{6, 60}}},
+    {1, GO_ON, {0, 0}, ALL, TOTALS_CROWDED, {15, 0, 1}, 1, 1, {{6, 60}}},
+    {1, TOTALS_POST, {7, 70}, ALL, TOTALS_POSTED, {15, 70, 1}, 2, 2, {{6, 60}, {7, 70}}},
+    {1, TOTALS_POST, {7, INT64_MAX}, 3, TOTALS_MOVED, {3, 0, 0}, 3, 2, {{6, 60}, {7, 70}}},
+    {0, TOTALS_INSERT, {6, 61}, ALL, TOTALS_REPLACED, {15, 0, 1}, 4, 2, {{6, 61}, {7, 70}}},
+    {1, GO_ON, {0, 0}, ALL, TOTALS_OVERRUN, {15, 0, 1}, 3, 2, {{6, 61}, {7, 70}}},
+    {1, TOTALS_DELETE, {9, 0}, 3, TOTALS_MOVED, {3, 0, 0}, 4, 2, {{6, 61}, {7, 70}}},
+    {0, TOTALS_POST, {8, 80}, ALL, TOTALS_CROWDED, {15, 0, 1}, 5, 2, {{6, 61}, {7, 70}}},
+    {1, GO_ON, {0, 0}, ALL, TOTALS_ABSENT, {15, 0, 1}, 4, 2, {{6, 61}, {7, 70}}},
+    {0, TOTALS_DELETE, {7, 0}, ALL, TOTALS_REMOVED, {15, 0, 1}, 6, 1, {{6, 61}}},
+    {1, TOTALS_INSERT, {8, 80}, ALL, TOTALS_ADDED, {15, 0, 1}, 5, 2, {{6, 61}, {8, 80}}},
+};
+
 struct order {
     uint64_t capacity, depth;
     const struct turn *turns;
@@ -114,7 +136,8 @@ struct order {
 #define ORDER(capacity, depth, turns) {capacity, depth, turns, sizeof turns / sizeof turns[0]}
 
 static const struct order at_the_end = ORDER(2, 1, ending);
-static const struct order at_an_edge[] = {ORDER(3, 1, helped), ORDER(2, 2, splitting), ORDER(3, 1, posting)};
+static const struct order at_an_edge[] = {ORDER(3, 1, helped), ORDER(2, 2, splitting), ORDER(3, 1, posting),
+                                          ORDER(2, 0, crowding)};
 
 /* The least tickets of 17, 32, 33 and 64 bits. */
 static const uint64_t edges[] = {UINT64_C(1) << 16, UINT64_C(1) << 31, UINT64_C(1) << 32, UINT64_C(1) << 63};

@@ -106,11 +106,10 @@ impl<W: Write> Dispatcher<'_, W> {
         Ok(())
     }
 
-    /// The rest of a worker's operation: it never takes more steps than these.
+    /// The rest of a worker's lookup or delete: it never takes more steps than these, and is never crowded.
     fn finish(&mut self, w: usize, what: &str, account: u32) -> Done {
         match self.table.run(w as u64, self.settings.greatest_steps())? {
             Ran::Moved(steps) => Err(format!("worker {w}: no answer after {steps} steps").into()),
-            Ran::Answered { answer: Answer::Crowded, .. } => not_carried_out(Answer::Crowded, w, account),
             Ran::Answered { answer, steps, .. } => {
                 Ok(writeln!(self.out, "worker {w} {what} {account}: {answer}, {steps} steps")?)
             }

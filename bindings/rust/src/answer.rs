@@ -22,10 +22,12 @@ pub enum Answer {
     None,
     /// Post: the account's new total. An account that was not there has started from 0.
     Posted(i64),
-    /// Insert, delete or post: the table holds b accounts that agree with this one in the first M bits, itself counted
-    /// where it is there. Nothing changed: the update was not carried out.
+    /// Insert or post: the account was not there, and b others agree with it in the first M bits. Nothing changed: the
+    /// update was not carried out. A delete, an insert that replaces and a post to an account that is there are never
+    /// answered so.
     Crowded,
-    /// Post: the sum is outside the 64-bit signed range. Nothing changed: the post was not carried out.
+    /// Post: the account was there, and the sum is outside the 64-bit signed range. Nothing changed: the post was not
+    /// carried out.
     Overrun,
 }
 
@@ -67,7 +69,7 @@ impl fmt::Display for Answer {
 
 /// What one step gives.
 #[derive(Clone, Copy, Debug, PartialEq, Eq, Hash)]
-#[must_use = "an update that is answered crowded or overrun was not carried out"]
+#[must_use = "an insert or a post that is answered crowded or overrun was not carried out"]
 pub enum Stepped {
     /// The operation goes on.
     Moved,
@@ -85,7 +87,7 @@ pub enum Stepped {
 
 /// What up to so many steps give.
 #[derive(Clone, Copy, Debug, PartialEq, Eq, Hash)]
-#[must_use = "an update that is answered crowded or overrun was not carried out"]
+#[must_use = "an insert or a post that is answered crowded or overrun was not carried out"]
 pub enum Ran {
     /// So many steps were given, and the operation goes on.
     Moved(u64),

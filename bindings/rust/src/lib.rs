@@ -5,8 +5,8 @@
 //! its steps, one at a time and interleaved with the others' as the caller likes. Whatever the other workers do, a
 //! lookup answers at its second step, an update at one of its four checks, which are its steps 2n+11, 6n+17, 8n+27 and
 //! 12n+33; with one worker at step 13 or 23. [`Settings::greatest_steps`] is the most to plan for. Workers are numbers
-//! and no threads: a [`Table`] has one caller at a time. An update that is answered [`Answer::Crowded`] or
-//! [`Answer::Overrun`] was not carried out.
+//! and no threads: a [`Table`] has one caller at a time. An insert or a post that is answered [`Answer::Crowded`] or
+//! [`Answer::Overrun`] was not carried out; a delete is never answered so.
 //!
 //! ```
 //! use totals::{Answer, Owned, Ran, Refusal, Settings};

@@ -48,9 +48,9 @@ pub const TOTALS_FOUND: u64 = 21;
 pub const TOTALS_NONE: u64 = 22;
 /// Post: the account's new total is in the report.
 pub const TOTALS_POSTED: u64 = 23;
-/// Insert, delete or post: b accounts agree with this one in the first M bits.
+/// Insert or post: the account was not there, and b others agree with it in the first M bits.
 pub const TOTALS_CROWDED: u64 = 25;
-/// The greatest answer. Post: the sum is outside the 64-bit signed range.
+/// The greatest answer. Post: the account was there, and the sum is outside the 64-bit signed range.
 pub const TOTALS_OVERRUN: u64 = 27;
 
 /// The greatest ticket number, and with it how many updates one worker can make.

@@ -80,7 +80,29 @@ impl<'a> Table<'a> {
         self.call(worker, raw::TOTALS_INSERT, account, total)
     }
 
-    /// Hands the worker a delete of the account. Refuses as [`Table::insert`].
+    /// Hands the worker a delete of the account. Refuses as [`Table::insert`]. It works however many others agree with
+    /// the account in the first M bits, and so makes room where an insert or a post is
+    /// [`Crowded`](crate::Answer::Crowded).
+    ///
+    /// ```
+    /// use totals::{Answer, Owned, Ran, Settings};
+    /// let mut owned = Owned::new(Settings::new(1, 2, 0)?)?;
+    /// let mut table = owned.table();
+    /// let mut insert = |account, total| {
+    ///     table.insert(0, account, total)?;
+    ///     table.run(0, 99)
+    /// };
+    /// assert_eq!(insert(5, 50)?, Ran::Answered { answer: Answer::Added, steps: 13, check: 1 });
+    /// assert_eq!(insert(6, 60)?, Ran::Answered { answer: Answer::Added, steps: 13, check: 1 });
+    /// assert_eq!(insert(7, 70)?, Ran::Answered { answer: Answer::Crowded, steps: 13, check: 1 });
+    /// assert_eq!(insert(6, 61)?, Ran::Answered { answer: Answer::Replaced, steps: 13, check: 1 });
+    /// table.delete(0, 5)?;
+    /// assert_eq!(table.run(0, 99)?, Ran::Answered { answer: Answer::Removed, steps: 13, check: 1 });
+    /// table.insert(0, 7, 70)?;
+    /// assert_eq!(table.run(0, 99)?, Ran::Answered { answer: Answer::Added, steps: 13, check: 1 });
+    /// assert_eq!(table.listing()?, [(6, 61), (7, 70)]);
+    /// # Ok::<(), totals::Refusal>(())
+    /// ```
     pub fn delete(&mut self, worker: u64, account: u32) -> Result<(), Refusal> {
         self.call(worker, raw::TOTALS_DELETE, account, 0)
     }

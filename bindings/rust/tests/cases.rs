@@ -1,5 +1,6 @@
-//! Document 01's session and cases by the safe interface, posts, every refusal, tickets at both ends of their 64 bits,
-//! every position in the largest bucket, the words needed for all settings, and the steps at every check.
+//! Document 01's session and cases by the safe interface, posts, full buckets at the greatest depth, every refusal,
+//! tickets at both ends of their 64 bits, every position in the largest bucket, the words needed for all settings, and
+//! the steps at every check.
 #[path = "model/tickets.rs"]
 mod tickets;
 
@@ -94,8 +95,8 @@ fn a_split_then_crowded() -> Done {
     table.insert(0, 7, 70)?;
     ends(&mut table, 0, Answer::Crowded, 13, 1)?;
     table.delete(0, 5)?;
-    ends(&mut table, 0, Answer::Crowded, 13, 1)?;
-    assert_eq!(table.listing()?, [(5, 50), (6, 60), (2147483648, 80)]);
+    ends(&mut table, 0, Answer::Removed, 13, 1)?;
+    assert_eq!(table.listing()?, [(6, 60), (2147483648, 80)]);
     Ok(())
 }
 
@@ -108,6 +109,125 @@ fn crowded_straight_away_and_the_split_stays() -> Done {
     // nothing is left to split
     table.insert(0, 2147483648, 80)?;
     ends(&mut table, 0, Answer::Added, 13, 1)
+}
+
+/// A table of buckets of 2 at the greatest depth 0, in which worker 0 has inserted 5 and 6, which fill the bucket.
+fn two_neighbours(workers: u64) -> Result<Owned, Refusal> {
+    let mut owned = opened(workers, 2, 0)?;
+    let mut table = owned.table();
+    for (account, total) in [(5, 50), (6, 60)] {
+        table.insert(0, account, total)?;
+        ends(&mut table, 0, Answer::Added, 2 * workers + 11, 1)?;
+    }
+    Ok(owned)
+}
+
+/// Worker 0's update ends with this answer, in a table of one worker that splits nothing.
+fn answers(table: &mut Table, answer: Answer) -> Done {
+    ends(table, 0, answer, 13, 1)
+}
+
+#[test]
+fn a_full_bucket_takes_what_corrects_its_accounts() -> Done {
+    let mut owned = two_neighbours(1)?;
+    let mut table = owned.table();
+    table.insert(0, 7, 70)?;
+    answers(&mut table, Answer::Crowded)?;
+    table.post(0, 7, 0)?;
+    answers(&mut table, Answer::Crowded)?;
+    table.delete(0, 7)?;
+    answers(&mut table, Answer::Absent)?;
+    assert_eq!(table.listing()?, [(5, 50), (6, 60)]);
+    table.insert(0, 5, i64::MAX)?;
+    answers(&mut table, Answer::Replaced)?;
+    table.post(0, 5, 1)?;
+    answers(&mut table, Answer::Overrun)?;
+    table.post(0, 6, 5)?;
+    answers(&mut table, Answer::Posted(65))?;
+    assert_eq!(table.listing()?, [(5, i64::MAX), (6, 65)]);
+    // room for one
+    table.delete(0, 5)?;
+    answers(&mut table, Answer::Removed)?;
+    table.insert(0, 7, 70)?;
+    answers(&mut table, Answer::Added)?;
+    table.insert(0, 5, 50)?;
+    answers(&mut table, Answer::Crowded)?;
+    assert_eq!(table.listing()?, [(6, 65), (7, 70)]);
+    Ok(())
+}
+
+#[test]
+fn a_full_half_takes_what_corrects_its_accounts() -> Done {
+    let mut owned = holding(1, &[5, 6])?;
+    let mut table = owned.table();
+    // the full bucket is split first, and then the full half takes the delete
+    table.delete(0, 5)?;
+    ends(&mut table, 0, Answer::Removed, 23, 2)?;
+    table.insert(0, 5, 51)?;
+    ends(&mut table, 0, Answer::Added, 13, 1)?;
+    table.insert(0, 6, 61)?;
+    ends(&mut table, 0, Answer::Replaced, 13, 1)?;
+    posts(&mut table, 7, 1, Answer::Crowded)?;
+    posts(&mut table, 5, 1, Answer::Posted(52))?;
+    table.delete(0, 4)?;
+    ends(&mut table, 0, Answer::Absent, 13, 1)?;
+    assert_eq!(table.listing()?, [(5, 52), (6, 61)]);
+    Ok(())
+}
+
+#[test]
+fn crowded_is_settled_though_room_is_made() -> Done {
+    let mut owned = two_neighbours(2)?;
+    let mut table = owned.table();
+    table.insert(1, 7, 70)?;
+    // after its first swap
+    assert_eq!(table.run(1, 8)?, Ran::Moved(8));
+    table.delete(0, 5)?;
+    ends(&mut table, 0, Answer::Removed, 15, 1)?;
+    ends(&mut table, 1, Answer::Crowded, 15, 1)?;
+    assert_eq!(table.listing()?, [(6, 60)]);
+    // the next one finds the room
+    table.insert(1, 7, 70)?;
+    ends(&mut table, 1, Answer::Added, 15, 1)?;
+    assert_eq!(table.listing()?, [(6, 60), (7, 70)]);
+    Ok(())
+}
+
+#[test]
+fn a_delete_and_an_insert_in_one_swap() -> Done {
+    let mut owned = two_neighbours(2)?;
+    let mut table = owned.table();
+    // worker 1 carries out both in the order of their numbers: the delete makes room for its insert
+    table.delete(0, 5)?;
+    assert_eq!(table.run(0, 3)?, Ran::Moved(3));
+    table.insert(1, 7, 70)?;
+    ends(&mut table, 1, Answer::Added, 15, 1)?;
+    ends(&mut table, 0, Answer::Removed, 15, 1)?;
+    assert_eq!(table.listing()?, [(6, 60), (7, 70)]);
+    // and not the other way round
+    table.insert(0, 8, 80)?;
+    assert_eq!(table.run(0, 3)?, Ran::Moved(3));
+    table.delete(1, 7)?;
+    ends(&mut table, 1, Answer::Removed, 15, 1)?;
+    ends(&mut table, 0, Answer::Crowded, 15, 1)?;
+    assert_eq!(table.listing()?, [(6, 60)]);
+    Ok(())
+}
+
+#[test]
+fn crowded_is_settled_by_a_split() -> Done {
+    let mut owned = holding(2, &[5, 6])?;
+    let mut table = owned.table();
+    table.insert(1, 7, 70)?;
+    assert_eq!(table.step(1)?, Stepped::Moved);
+    // worker 0 splits the full bucket, and settles worker 1's insert, which it has only seen announced
+    table.insert(0, 2147483648, 80)?;
+    ends(&mut table, 0, Answer::Added, 29, 2)?;
+    table.delete(0, 5)?;
+    ends(&mut table, 0, Answer::Removed, 15, 1)?;
+    ends(&mut table, 1, Answer::Crowded, 15, 1)?;
+    assert_eq!(table.listing()?, [(6, 60), (2147483648, 80)]);
+    Ok(())
 }
 
 #[test]
@@ -220,24 +340,34 @@ fn a_sum_past_either_end_is_an_overrun_and_changes_nothing() -> Done {
 }
 
 #[test]
-fn crowded_comes_before_overrun() -> Done {
+fn posts_into_a_full_bucket() -> Done {
     let mut owned = opened(1, 2, 0)?;
     let mut table = owned.table();
     posts(&mut table, 5, i64::MAX, Answer::Posted(i64::MAX))?;
-    posts(&mut table, 5, 1, Answer::Overrun)?;
     posts(&mut table, 6, 0, Answer::Posted(0))?;
-    posts(&mut table, 5, 1, Answer::Crowded)?;
-    posts(&mut table, 7, 1, Answer::Crowded)?;
-    assert_eq!(table.listing()?, [(5, i64::MAX), (6, 0)]);
+    // to accounts that it holds
+    posts(&mut table, 5, 1, Answer::Overrun)?;
+    posts(&mut table, 5, -7, Answer::Posted(i64::MAX - 7))?;
+    posts(&mut table, 6, i64::MIN, Answer::Posted(i64::MIN))?;
+    // to others, whatever the amount
+    for amount in [0, 1, i64::MIN, i64::MAX] {
+        posts(&mut table, 4, amount, Answer::Crowded)?;
+        posts(&mut table, 7, amount, Answer::Crowded)?;
+    }
+    assert_eq!(table.listing()?, [(5, i64::MAX - 7), (6, i64::MIN)]);
     Ok(())
 }
 
 #[test]
 fn a_post_that_splits_first() -> Done {
-    let mut owned = holding(1, &[5, 6])?;
-    let mut table = owned.table();
-    table.post(0, 5, 1)?;
-    ends(&mut table, 0, Answer::Crowded, 23, 2)?;
+    for (account, amount, answer) in
+        [(5, 1, Answer::Posted(51)), (6, i64::MAX, Answer::Overrun), (7, 1, Answer::Crowded)]
+    {
+        let mut owned = holding(1, &[5, 6])?;
+        let mut table = owned.table();
+        table.post(0, account, amount)?;
+        ends(&mut table, 0, answer, 23, 2)?;
+    }
     let mut owned = holding(1, &[5, 2147483648])?;
     let mut table = owned.table();
     table.post(0, 5, 1)?;
@@ -383,15 +513,10 @@ fn looks(table: &mut Table, account: u32, total: Option<i64>) -> Done {
     ends(table, 0, total.map_or(Answer::None, Answer::Found), 2, 0)
 }
 
-/// An account that is not there is added; if there is room for another, replaced, posted to and removed, and then made
-/// by a post, each time with another total. In the end its total is three times its number.
-fn updated(table: &mut Table, account: u32, room: bool) -> Done {
+/// An account that is not there is added, replaced, posted to and removed, and then made by a post, each time with
+/// another total. In the end its total is three times its number.
+fn updated(table: &mut Table, account: u32) -> Done {
     let number = i64::from(account);
-    if !room {
-        table.insert(0, account, 3 * number)?;
-        ends(table, 0, Answer::Added, 13, 1)?;
-        return looks(table, account, Some(3 * number));
-    }
     for (total, answer) in [(number, Answer::Added), (2 * number, Answer::Replaced)] {
         table.insert(0, account, total)?;
         ends(table, 0, answer, 13, 1)?;
@@ -414,14 +539,20 @@ fn every_position_in_a_bucket_of_sixteen() -> Done {
         // 10, 20, .., 160, each once, in no order; each of them comes last for one `first`
         let accounts: Vec<u32> = (first..first + 16).map(|i| 10 * (i * 7 % 16 + 1)).collect();
         for (i, &account) in accounts.iter().enumerate() {
-            updated(&mut table, account, i < 15)?;
+            updated(&mut table, account)?;
             for (k, &other) in accounts.iter().enumerate() {
                 looks(&mut table, other, (k <= i).then_some(3 * i64::from(other)))?;
                 looks(&mut table, other + 5, None)?;
             }
         }
-        table.insert(0, 165, 4)?;
-        ends(&mut table, 0, Answer::Crowded, 13, 1)?;
+        // among sixteen others, before and behind each of them
+        for account in (5..=165).step_by(10) {
+            table.insert(0, account, 4)?;
+            ends(&mut table, 0, Answer::Crowded, 13, 1)?;
+            posts(&mut table, account, 4, Answer::Crowded)?;
+            table.delete(0, account)?;
+            ends(&mut table, 0, Answer::Absent, 13, 1)?;
+        }
         assert_eq!(table.listing()?, (1..=16).map(|i| (10 * i, 30 * i64::from(i))).collect::<Vec<_>>());
     }
     Ok(())
@@ -447,15 +578,15 @@ fn words_that_hold_no_table_are_strange() {
 }
 
 /// The least first word of a table: the mark, above the 2,048 numbers of settings.
-const LEAST_FIRST: u64 = 6_004_514_764 * 2048;
+const LEAST_FIRST: u64 = 6_004_514_765 * 2048;
 
 #[test]
 fn another_mark_and_a_greatest_depth_above_8_are_strange() -> Done {
     let mut words = words_after(2, &[0])?;
     // n 1, b 2, M 1
     assert_eq!(words[0], LEAST_FIRST + 8 + 128);
-    // 6,004,514,763 was the mark before posts, when the words meant something else
-    for mark in [0, 1, 6_004_514_763, 6_004_514_765, u64::MAX >> 11] {
+    // 6,004,514,763 was the mark before posts, 6,004,514,764 the one while a delete could be crowded
+    for mark in [0, 1, 6_004_514_763, 6_004_514_764, 6_004_514_766, u64::MAX >> 11] {
         words[0] = mark * 2048 + 8 + 128;
         strange(&mut words);
     }

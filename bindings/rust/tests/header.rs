@@ -125,5 +125,10 @@ fn kinds_and_answers() {
     assert_eq!(answer("POST", 6, 7), (header["POSTED"], 7, 1));
     assert_eq!(answer("INSERT", 7, 1), (header["ADDED"], 0, 1));
     assert_eq!(answer("INSERT", 8, 1), (header["CROWDED"], 0, 1));
-    assert_eq!(answer("POST", 6, i64::MAX), (header["CROWDED"], 0, 1));
+    assert_eq!(answer("POST", 8, 1), (header["CROWDED"], 0, 1));
+    assert_eq!(answer("POST", 6, i64::MAX), (header["OVERRUN"], 0, 1));
+    assert_eq!(answer("INSERT", 7, 2), (header["REPLACED"], 0, 1));
+    assert_eq!(answer("DELETE", 8, 1), (header["ABSENT"], 0, 1));
+    assert_eq!(answer("DELETE", 7, 1), (header["REMOVED"], 0, 1));
+    assert_eq!(answer("POST", 8, 1), (header["POSTED"], 1, 1));
 }

@@ -2,11 +2,12 @@
 //! leaves are those of the same source compiled as Rust. And counts of what came back.
 
 use crate::lent::{self, told, Lent};
-use crate::words::{any_account, any_total, any_word, bucket_swaps, directory_swaps, posted_from, steps_at_checks};
+use crate::words::{any_account, any_total, any_word, bucket_swaps, directory_swaps};
+use crate::words::{posted_from, settled_from, steps_at_checks};
 use model::prng::Prng;
 use same::capi::capi as source;
 use same::capi::fields::*;
-use same::capi::interface::{GREATEST_KIND, KIND_INSERT, KIND_LOOKUP};
+use same::capi::interface::{Settings, ANSWER_CROWDED, GREATEST_KIND, KIND_INSERT, KIND_LOOKUP};
 use same::capi::layout::addresses::{held_by, worker_at};
 use same::capi::layout::shape::{settings_of, strange_words};
 use totals::raw::{self, TOTALS_ADDED, TOTALS_GREATEST_CHECK, TOTALS_GREATEST_RUN as RUN, TOTALS_IDLE, TOTALS_MOVED};
@@ -18,14 +19,17 @@ const NAMES: [&str; 6] = ["words_needed", "open", "call", "step", "run", "list"]
 pub type Told = [u64; 3];
 
 /// How often each call gave each number; a number of words needed counts as 0. How many updates each check answered. Of
-/// steps, how many were a bucket swap that carried updates out or a directory swap that split; of runs, how many were
-/// held against single steps.
+/// steps, how many were a bucket swap that carried updates out or a directory swap that split; of updates in a bucket
+/// that was full at the greatest depth, how many a bucket swap settled as crowded, and how many with another answer; of
+/// runs, how many were held against single steps.
 #[derive(Default)]
 pub struct Figures {
     counts: [[u64; TOTALS_OVERRUN as usize + 1]; NAMES.len()],
     pub checks: [u64; TOTALS_GREATEST_CHECK as usize],
     pub carried: u64,
     pub split: u64,
+    pub crowded: u64,
+    pub corrected: u64,
     pub compared: u64,
 }
 
@@ -54,6 +58,7 @@ impl Figures {
         }
         let steps = before[p + WORKER_STEPS] % STEPS_RANGE;
         let (count, always) = if bucket_swaps(s).contains(&steps) {
+            self.add_settled(before, after, s, q);
             (&mut self.carried, [q + RECORD_NUMBER, q + RECORD_APPLIED])
         } else if directory_swaps(s).contains(&steps) {
             (&mut self.split, [HEADER_NUMBER; 2])
@@ -63,6 +68,20 @@ impl Figures {
         let is_item = |at: &usize| *at != p + WORKER_STEPS && !always.contains(at);
         let changed = (0..before.len()).filter(is_item).any(|at| before[at] != after[at]);
         *count += u64::from(changed);
+    }
+
+    /// Counts the updates that a bucket swap settled in the record at q, where this was full at the greatest depth.
+    fn add_settled(&mut self, before: &[u64], after: &[u64], s: Settings, q: usize) {
+        if before[q + RECORD_COUNT] < s.capacity || before[q + RECORD_DEPTH] < s.depth {
+            return;
+        }
+        let (tickets, n) = (settled_from(s, q), s.workers as usize);
+        for at in (tickets..tickets + n).filter(|at| before[*at] != after[*at]) {
+            match after[at + n] {
+                ANSWER_CROWDED => self.crowded += 1,
+                _ => self.corrected += 1,
+            }
+        }
     }
 
     /// Counts the check of an answered update; a lookup's is 0.
@@ -75,8 +94,8 @@ impl Figures {
     pub fn print(&self, class: &str) {
         println!("{class}: {} calls; updates answered by each check {:?}", self.calls(), self.checks);
         println!(
-            "  steps that carried out {}, that split {}; runs compared {}",
-            self.carried, self.split, self.compared
+            "  steps that carried out {}, that split {}; among neighbours crowded {}, corrected {}; runs compared {}",
+            self.carried, self.split, self.crowded, self.corrected, self.compared
         );
         for (name, counts) in NAMES.iter().zip(&self.counts) {
             let given: Vec<String> =

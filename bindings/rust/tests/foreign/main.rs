@@ -66,6 +66,7 @@ fn random_words() {
     gave(&figures, "step", &[&UNENDED[..], &UPDATED, &LOOKED_UP].concat());
     gave(&figures, "list", &LISTED);
     assert!(figures.carried > 1000 && figures.split > 100 && figures.compared > 1000);
+    assert!(figures.crowded > 100 && figures.corrected > 100);
     assert!(figures.checks.iter().all(|updates| *updates > 100));
 }
 
@@ -84,6 +85,7 @@ fn damaged_tables() {
     gave(&figures, "run", &stepped);
     gave(&figures, "list", &LISTED);
     assert!(figures.carried > 1000 && figures.split > 1000 && figures.compared > 10_000);
+    assert!(figures.crowded > 100 && figures.corrected > 100);
     assert!(figures.checks.iter().all(|updates| *updates > 100));
 }
 
@@ -97,6 +99,7 @@ fn misleading_words() {
     gave(&figures, "step", &[&UNENDED[..], &LOOKED_UP, &[TOTALS_CROWDED]].concat());
     gave(&figures, "list", &LISTED);
     assert!(figures.carried > 1000 && figures.split > 100 && figures.compared > 1000);
+    assert!(figures.crowded > 100 && figures.corrected > 100);
     assert!(figures.checks.iter().all(|updates| *updates > 100));
 }
 
@@ -114,6 +117,7 @@ fn tables_that_nothing_damaged_are_never_strange() {
     });
     gave(&figures, "step", &[&[TOTALS_MOVED, TOTALS_IDLE, TOTALS_ABSENT][..], &UPDATED, &LOOKED_UP].concat());
     assert!(figures.carried > 1000 && figures.split > 100);
+    assert!(figures.crowded > 100 && figures.corrected > 100);
 }
 
 /// The steps and the checks that an answer may come with: of one worker's update the first two.

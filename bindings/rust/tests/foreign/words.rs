@@ -202,11 +202,12 @@ fn pointer_place(s: Settings, prng: &mut Prng) -> usize {
     }
 }
 
-/// A word of the header, the whole of its settings, the mark kept, or the mark of tables without posts.
+/// A word of the header, the whole of its settings, the mark kept, or one of the two marks before it: of tables without
+/// posts, and of those in which a delete could be crowded.
 fn header(w: &mut [u64], prng: &mut Prng) {
     match prng.below(7) {
         0 => w[HEADER_SETTINGS] = marked(prng),
-        6 => w[HEADER_SETTINGS] = (MARK - 1) * MARK_UNIT + w[HEADER_SETTINGS] % MARK_UNIT,
+        6 => w[HEADER_SETTINGS] = (MARK - prng.between(1, 2)) * MARK_UNIT + w[HEADER_SETTINGS] % MARK_UNIT,
         1 => w[HEADER_SETTINGS] ^= 1 << prng.below(u64::from(MARK_UNIT.ilog2())),
         2 => w[HEADER_NEEDED] = any_word(prng, w.len()),
         3 => w[HEADER_DEPTH] = any_word(prng, 9),
@@ -226,7 +227,7 @@ fn record_word(w: &mut [u64], s: Settings, prng: &mut Prng) {
 }
 
 /// Where the settled tickets begin in the record at q; behind them their answers, and the words of these's totals.
-fn settled_from(s: Settings, q: usize) -> usize {
+pub fn settled_from(s: Settings, q: usize) -> usize {
     q + RECORD_ACCOUNTS + 2 * s.capacity as usize
 }
 
