@@ -1,5 +1,5 @@
 // Every side gives the same answers, totals and step counts on the same random work; those of whole operations are a
-// plain map's where not crowded.
+// plain map's, but for new accounts where the capacity of others agree in the first bits: these are crowded.
 use bench::fields::*;
 use bench::sides::{Map, Proved, Reply, Same, Table};
 use bench::turns::{by_run, by_steps};
@@ -103,11 +103,19 @@ fn single_steps_in_turn_answer_alike() {
     assert!(late > 0, "no update was answered in its second pass");
 }
 
-// The map is fed what was not crowded.
+// How many rows agree with the account in the first bits.
+fn neighbours(rows: &[(u32, i64)], account: u32, depth: u64) -> u64 {
+    let first = |a: u32| u64::from(a) >> (32 - depth);
+    rows.iter()
+        .filter(|row| first(row.0) == first(account))
+        .count() as u64
+}
+
+// The map is fed what is not crowded. Counted: what is crowded, and the other answers amid as many accounts.
 #[test]
 fn operations_run_to_their_answer_answer_as_a_map() {
     let mut random = Prng::new(2);
-    let (mut crowded, mut posted, mut overrun) = (0, 0, 0);
+    let (mut crowded, mut amid) = (0, [0; TOTALS_OVERRUN as usize + 1]);
     for _ in 0..1500 {
         let c = case(&mut random);
         let (ours, proved) = replies::<Proved>(&c, ran);
@@ -115,19 +123,29 @@ fn operations_run_to_their_answer_answer_as_a_map() {
         assert_eq!(ours, replies::<Twin>(&c, ran).0);
         let map = Map::default();
         for (o, reply) in c.operations.iter().zip(&ours) {
-            crowded += (reply.code == TOTALS_CROWDED) as u32;
-            posted += (reply.code == TOTALS_POSTED) as u32;
-            overrun += (reply.code == TOTALS_OVERRUN) as u32;
-            if reply.code != TOTALS_CROWDED {
-                assert_eq!((reply.code, reply.total), map.operate(*o));
+            let rows = map.rows();
+            let full = neighbours(&rows, o.account, c.depth) == c.capacity;
+            let makes = o.kind == KIND_INSERT || o.kind == KIND_POST;
+            if full && makes && rows.iter().all(|row| row.0 != o.account) {
+                assert_eq!((reply.code, reply.total), (TOTALS_CROWDED, 0));
+                crowded += 1;
+                continue;
             }
+            assert_eq!((reply.code, reply.total), map.operate(*o));
+            amid[reply.code as usize] += full as u32;
         }
         assert_eq!(proved.rows(), map.rows());
     }
-    assert!(
-        crowded > 1000 && posted > 1000 && overrun > 1000,
-        "{crowded} updates were crowded, {posted} posted, {overrun} an overrun"
-    );
+    assert!(crowded > 1000, "{crowded} updates were crowded");
+    for code in [
+        TOTALS_REPLACED,
+        TOTALS_REMOVED,
+        TOTALS_ABSENT,
+        TOTALS_POSTED,
+        TOTALS_OVERRUN,
+    ] {
+        assert!(amid[code as usize] > 100, "{code}: {amid:?}");
+    }
 }
 
 // A call, a step or a run of one worker.

@@ -67,6 +67,11 @@ impl Bucket {
         }
     }
 
+    // To be split; until then it holds updates back.
+    pub fn full_below(&self, greatest: u32, capacity: usize) -> bool {
+        self.count >= capacity && self.depth < greatest
+    }
+
     // Where the account stands, or where it belongs.
     fn search(&self, account: u32) -> Result<usize, usize> {
         let place = self.accounts[..self.count]
@@ -103,8 +108,7 @@ impl Bucket {
         }
     }
 
-    fn insert(&mut self, account: u32, total: i64) -> Answer {
-        let place = self.search(account);
+    fn insert(&mut self, place: Result<usize, usize>, account: u32, total: i64) -> Answer {
         self.put(place, account, total);
         match place {
             Ok(_) => Answer::Replaced,
@@ -112,8 +116,7 @@ impl Bucket {
         }
     }
 
-    fn post(&mut self, account: u32, amount: i64) -> Answer {
-        let place = self.search(account);
+    fn post(&mut self, place: Result<usize, usize>, account: u32, amount: i64) -> Answer {
         let total = place.map_or(0, |i| self.totals[i]);
         let Some(sum) = total.checked_add(amount) else {
             return Answer::Overrun;
@@ -122,8 +125,8 @@ impl Bucket {
         Answer::Posted(sum)
     }
 
-    fn delete(&mut self, account: u32) -> Answer {
-        match self.search(account) {
+    fn delete(&mut self, place: Result<usize, usize>) -> Answer {
+        match place {
             Ok(i) => {
                 self.accounts.copy_within(i + 1..self.count, i);
                 self.totals.copy_within(i + 1..self.count, i);
@@ -134,12 +137,14 @@ impl Bucket {
         }
     }
 
-    // Worker j's update carried out and settled.
-    pub fn carry(&mut self, j: usize, update: &Update) {
+    // Worker j's update carried out and settled; a new account in a full bucket is settled as crowded.
+    pub fn carry(&mut self, j: usize, update: &Update, capacity: usize) {
+        let place = self.search(update.account);
         let answer = match update.kind {
-            Kind::Insert => self.insert(update.account, update.total),
-            Kind::Post => self.post(update.account, update.total),
-            Kind::Delete | Kind::Lookup => self.delete(update.account),
+            Kind::Delete | Kind::Lookup => self.delete(place),
+            _ if place.is_err() && self.count >= capacity => Answer::Crowded,
+            Kind::Insert => self.insert(place, update.account, update.total),
+            Kind::Post => self.post(place, update.account, update.total),
         };
         self.settled[j] = update.ticket;
         self.answers[j] = answer;

@@ -1,5 +1,6 @@
-// Document 01's method written by hand in Rust: a directory, buckets with state, toggle, applied bits and settled
-// tickets, slots, two passes, step by step. A twin of the table for comparison, with no use of its sources.
+// Document 01's method, with document 02's posts and rule of crowding, written by hand in Rust: a directory, buckets
+// with state, toggle, applied bits and settled tickets, slots, two passes, step by step. A twin of the table for
+// comparison, with no use of its sources.
 mod bucket;
 mod phase;
 
@@ -197,11 +198,13 @@ impl Twin {
         }
         let changed = worker.toggle ^ bucket.applied;
         for (j, slot) in worker.slots[..self.n].iter().enumerate() {
-            if changed >> j & 1 == 0 || bucket.count >= self.capacity {
+            if changed >> j & 1 == 0 || bucket.full_below(self.greatest, self.capacity) {
                 continue;
             }
             match slot {
-                Some(update) if update.ticket > bucket.settled[j] => bucket.carry(j, update),
+                Some(update) if update.ticket > bucket.settled[j] => {
+                    bucket.carry(j, update, self.capacity)
+                }
                 _ => {}
             }
         }
@@ -211,11 +214,7 @@ impl Twin {
 
     fn check(&self, w: usize, update: &Update) -> Option<Answer> {
         let bucket = &self.buckets[self.workers[w].bucket];
-        if bucket.settled[w] >= update.ticket {
-            return Some(bucket.answers[w]);
-        }
-        let crowded = bucket.count >= self.capacity && bucket.depth >= self.greatest;
-        crowded.then_some(Answer::Crowded)
+        (bucket.settled[w] >= update.ticket).then_some(bucket.answers[w])
     }
 
     // Marks worker j's bucket if it is full below the greatest depth, the update is unsettled there, and no mark of
@@ -227,10 +226,7 @@ impl Twin {
         };
         let i = self.bucket_of(update.account);
         let bucket = &self.buckets[i];
-        if bucket.count < self.capacity
-            || bucket.depth >= self.greatest
-            || bucket.settled[j] >= update.ticket
-        {
+        if !bucket.full_below(self.greatest, self.capacity) || bucket.settled[j] >= update.ticket {
             return;
         }
         let marked = |x: &usize| worker.marked >> x & 1 == 1;
@@ -256,7 +252,7 @@ impl Twin {
         self.directory_version += 1;
     }
 
-    // Every unsettled update that belongs to the bucket is taken in worker order.
+    // Every unsettled update that belongs to the bucket is carried out in worker order, after the splits that it needs.
     fn resolve(&mut self, i: usize, slots: &[Option<Update>; GREATEST_WORKERS]) {
         let bucket = &self.buckets[i];
         let (depth, prefix, settled) = (bucket.depth, bucket.prefix, bucket.settled);
@@ -267,16 +263,14 @@ impl Twin {
             }
             self.split_while_full(update.account);
             let to = self.bucket_of(update.account);
-            if self.buckets[to].count < self.capacity {
-                self.buckets[to].carry(j, update);
-            }
+            self.buckets[to].carry(j, update, self.capacity);
         }
     }
 
     fn split_while_full(&mut self, account: u32) {
         loop {
             let bucket = &self.buckets[self.bucket_of(account)];
-            if bucket.count < self.capacity || bucket.depth >= self.greatest {
+            if !bucket.full_below(self.greatest, self.capacity) {
                 return;
             }
             let halves = [bucket.half(0), bucket.half(1)];
