@@ -1,36 +1,26 @@
-// A worker's own update carried out on the words of a bucket's record. What for: the head of crate own.
+// What a state's methods do, on the words of a bucket's record: search, total, settle, put and delete. What for: the
+// head of crate own.
 ghost use mathlib.Core.Path.{_≡_};
 ghost use mathlib.Core.Logic.{_≢_};
 ghost use Prim.Native.Nat.{_<_};
 ghost use Rattle.interface.specs.Numbers.{kindInsert, kindPost};
 ghost use Rattle.bucket.specs.State.{searchOf, totalIn, settleOf};
 ghost use Rattle.record.specs.Bucket.{bucketAt};
-ghost use Rattle.inplace.specs.InPlace.{Counted, RoomAt, Searched, recordAs, putAt, changedAt, ownAt};
+ghost use Rattle.inplace.specs.InPlace.{Counted, RoomAt, Searched, recordAs, putAt, changedAt};
 use arrays::Position;
 use arrays::scan;
 use fields::RECORD_ACCOUNTS;
 use interface::ANSWER_ABSENT;
-use interface::ANSWER_ADDED;
-use interface::ANSWER_CROWDED;
-use interface::ANSWER_OVERRUN;
-use interface::ANSWER_POSTED;
 use interface::ANSWER_REMOVED;
-use interface::ANSWER_REPLACED;
-use interface::KIND_INSERT;
-use interface::KIND_POST;
 use interface::Settings;
 use rules::Descriptor;
-use rules::answer_number;
-use rules::crowded;
-use sums::Sum;
-use sums::sum_of;
 use writes::lower_in;
 use writes::put_first;
 use writes::raise_in;
 use writes::settle;
 
 // The account's position in the record at q, which has c accounts.
-fn search_own(words: &[u64], g: Settings, q: usize, c: usize, account: u64) -> Position
+pub fn search_own(words: &[u64], g: Settings, q: usize, c: usize, account: u64) -> Position
     requires { ⌜ Counted (now words) g q c ⌝ }
     ensures { λ r. ⌜ r ≡ searchOf (bucketAt (now (words .entry)) g q) account ⌝ }
 {
@@ -40,7 +30,7 @@ fn search_own(words: &[u64], g: Settings, q: usize, c: usize, account: u64) -> P
 }
 
 // The total at the position that a search gave; 0 where the account is missing.
-fn total_own(words: &[u64], g: Settings, q: usize, c: usize, account: u64, p: Position) -> u64
+pub fn total_own(words: &[u64], g: Settings, q: usize, c: usize, account: u64, p: Position) -> u64
     requires { ⌜ Counted (now words) g q c × (p ≡ searchOf (bucketAt (now words) g q) account) ⌝ }
     ensures { λ r. ⌜ r ≡ totalIn (bucketAt (now (words .entry)) g q) p ⌝ }
 {
@@ -56,7 +46,7 @@ fn total_own(words: &[u64], g: Settings, q: usize, c: usize, account: u64, p: Po
 }
 
 // Worker j's ticket settled with an answer that has no total, and no account changed.
-fn settle_own(
+pub fn settle_own(
     words: &mut [u64],
     g: Settings,
     q: usize,
@@ -76,7 +66,7 @@ fn settle_own(
 
 // The update's total set at the position that a search gave, a new account with it where it is missing, and worker j's
 // ticket settled with an answer's number and total.
-fn put_own(
+pub fn put_own(
     words: &mut [u64],
     g: Settings,
     q: usize,
@@ -109,36 +99,8 @@ fn put_own(
     }
 }
 
-// Worker j's post carried out at the position that a search gave, where there is room for it.
-fn post_own(
-    words: &mut [u64],
-    g: Settings,
-    q: usize,
-    c: usize,
-    toggle: u64,
-    j: usize,
-    p: Position,
-    u: Descriptor,
-)
-    requires { ⌜ Searched (now words) g q c j p u × (RoomAt g c p × (u .kind ≡ kindPost)) ⌝ }
-    ensures { λ _. ⌜ now (words .exit) ≡ changedAt (now (words .entry)) g q toggle j p u ⌝ }
-{
-    match sum_of(total_own(words, g, q, c, u.account, p), u.total) {
-        Sum::Within(total) => {
-            let v = Descriptor {
-                kind: u.kind,
-                account: u.account,
-                total,
-                ticket: u.ticket,
-            };
-            put_own(words, g, q, c, toggle, j, p, v, ANSWER_POSTED, total);
-        }
-        Sum::Outside => settle_own(words, g, q, c, toggle, j, u.ticket, ANSWER_OVERRUN),
-    }
-}
-
 // Worker j's delete carried out at the position that a search gave.
-fn delete_own(
+pub fn delete_own(
     words: &mut [u64],
     g: Settings,
     q: usize,
@@ -163,34 +125,4 @@ fn delete_own(
         }
         Position::Before(_) => settle_own(words, g, q, c, toggle, j, u.ticket, ANSWER_ABSENT),
     }
-}
-
-// Worker j's update carried out in the record at q, which has c accounts.
-pub fn carry_own(
-    words: &mut [u64],
-    g: Settings,
-    q: usize,
-    c: usize,
-    toggle: u64,
-    j: usize,
-    u: Descriptor,
-)
-    requires { ⌜ Counted (now words) g q c × (j < g .workers) ⌝ }
-    ensures { λ _. ⌜ now (words .exit) ≡ ownAt (now (words .entry)) g q toggle j u ⌝ }
-{
-    let p = search_own(words, g, q, c, u.account);
-    if crowded(g, c as u64, u.kind, p) {
-        settle_own(words, g, q, c, toggle, j, u.ticket, ANSWER_CROWDED);
-        return;
-    }
-    if u.kind == KIND_INSERT {
-        let answer = answer_number(p, ANSWER_REPLACED, ANSWER_ADDED);
-        put_own(words, g, q, c, toggle, j, p, u, answer, 0);
-        return;
-    }
-    if u.kind == KIND_POST {
-        post_own(words, g, q, c, toggle, j, p, u);
-        return;
-    }
-    delete_own(words, g, q, c, toggle, j, p, u);
 }

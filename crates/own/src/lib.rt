@@ -1,14 +1,14 @@
 // A worker's own update, carried out on the words of a bucket's record, where it is all that a round has to carry
 // out. Written twice for speed, beside `carry` of crate rounds, whose search and loops it shares: no state is loaded,
 // copied and stored. This source compiled as Rust takes 2,035 instructions for an insert at n 1 by single steps and
-// 1,540 by `run`; without crates own, inplace and writes 2,586 and 2,091 (docs/DECISIONS.md, 43).
+// 1,540 by `run`; without crates own, carrying, inplace and writes 2,586 and 2,091 (docs/DECISIONS.md, 43).
 ghost use mathlib.Core.Path.{_≡_};
 ghost use Rattle.fields.specs.Regions.{workerAt};
 ghost use Rattle.inplace.specs.InPlace.{roundAt};
 ghost use Rattle.own.specs.Alone.{OwnAlone};
+use carrying::carry_own;
 use fields::RECORD_COUNT;
 use fields::RECORD_DEPTH;
-use inplace::carry_own;
 use interface::Settings;
 use layout::addresses::slot_read;
 use memory::least;

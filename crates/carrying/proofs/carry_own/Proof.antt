@@ -9,10 +9,10 @@ use Rattle.rules.specs.Rules.{crowdedBy, insertAnswer}
 use Rattle.record.specs.Bucket.{bucketAt}
 use Rattle.rounds.specs.Rounds.{changedOf, carryOf}
 use Rattle.rounds.proofs.Laws.{change-insert, carry-crowded, carry-changed}
 use Rattle.inplace.specs.InPlace.{RoomAt, Searched, recordAs, putAt, changedAt, ownAt}
 use Rattle.inplace.proofs.OwnUpdate.{start, room-at}
-use Rattle.inplace.proofs.carry_own.Statement.{statement}
-use Rattle.inplace.proofs.carry_own.Tie as tie
+use Rattle.carrying.proofs.carry_own.Statement.{statement}
+use Rattle.carrying.proofs.carry_own.Tie as tie
 
 -- the position that was found is where the update belongs
 found :

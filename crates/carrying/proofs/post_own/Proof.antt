@@ -7,9 +7,9 @@ use Rattle.sums.specs.Sums.{sumOf}
 use Rattle.bucket.specs.State.{totalIn}
 use Rattle.record.specs.Bucket.{bucketAt}
 use Rattle.rounds.proofs.Laws.{change-posted, change-overrun}
 use Rattle.inplace.specs.InPlace.{recordAs, putAt, changedAt}
-use Rattle.inplace.proofs.post_own.Statement.{statement}
-use Rattle.inplace.proofs.post_own.Tie as tie
+use Rattle.carrying.proofs.post_own.Statement.{statement}
+use Rattle.carrying.proofs.post_own.Tie as tie
 
 total-own-requires : tie.Need-total-own-requires
 total-own-requires c κs = let known = c .before .before .pre .0 in (known .0, known .1 .1)
