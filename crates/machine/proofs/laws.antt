@@ -3,6 +3,7 @@ pub mod Base
 pub mod Bits
 pub mod Cells
 pub mod Tables
+pub mod Crowding
 pub mod Copies
 pub mod Splitting
 pub mod Resolve
