@@ -4,15 +4,15 @@
 # without code; then, two at a time, the program and the interfaces for C and Rust against the model, foreign memory,
 # and the compiled libraries against their source as Rust.
 # What runs beside something else is shown when it has ended. rt proves and tries edits in batches of RT_JOBS and waits
-# for each batch: unless it is set, two for each processor and eight at least, so that few processors idle at a batch's
-# end (62 edits on 2 processors: 252 s in batches of four, 230 s of eight). A check takes up to 1 GB of memory.
+# for each batch: unless it is set, two for each processor, so that few of them idle at a batch's end. A check takes up
+# to 1 GB of memory.
 # The last line is 'N passed, M failed'; the exit status is 0 only if M is 0.
 set -u
 cd "$(dirname "$0")" || exit 2
 . tests/scratch.sh
 logs=$(mktemp -d) || exit 2
 trap 'kill $(jobs -p) 2>/dev/null; rm -rf "$logs"' EXIT
-export RT_JOBS=${RT_JOBS:-$(($(nproc) > 4 ? $(nproc) * 2 : 8))}
+export RT_JOBS=${RT_JOBS:-$(($(nproc) * 2))}
 passed=0
 failed=0
 
