@@ -7,6 +7,7 @@ use mathlib.Core.Option.{Option, none, some}
 use lib.IntN.{pos, negℤ}
 use Rattle.interface.specs.declared.Answer.{Answer}
 use Rattle.interface.specs.declared.Answer.the-variants.{Added, Replaced, Removed, Absent, Found, None, Crowded}
+use Rattle.machine.specs.Sequential.{accountAt}
 use Rattle.machine.specs.Computing.{computing}
 use Rattle.machine.specs.Script.{Line, O, I, D, L, P, S, T, Reply, ok, refused, moved, answered, listed}
 use Rattle.machine.specs.Script.{Memory, zeros, holding, Lent, driver, run, memoryAfter}
@@ -63,12 +64,18 @@ infix 66 _gets_at_
 abbrev pub _gets_at_ : Line → Answer → ℕ → List Exchange
 l gets a at k = l ⟶ ok ∷ S (workerOf l) 99 ⟶ answered a k ∷ []
 
+-- "the splitting cases of 01 are run with the accounts whose places are the numbers given there" (02, No. 8): ⟨ 5 ⟩ is the account
+-- whose place is 5
+infix 80 ⟨_⟩
+abbrev pub ⟨_⟩ : ℕ → ℕ
+⟨ p ⟩ = accountAt p
+
 -- "What a case holds at its start was inserted by worker 0, each insert answered." One worker, or two; b 2, M 1.
 abbrev pub one-holding-5-6 : List Exchange
-one-holding-5-6 = O 1 2 1 ⟶ ok ∷ [] ++ I 0 5 (pos 50) gets Added at 13 ++ I 0 6 (pos 60) gets Added at 13
+one-holding-5-6 = O 1 2 1 ⟶ ok ∷ [] ++ I 0 ⟨ 5 ⟩ (pos 50) gets Added at 13 ++ I 0 ⟨ 6 ⟩ (pos 60) gets Added at 13
 
 abbrev pub two-holding-5-6 : List Exchange
-two-holding-5-6 = O 2 2 1 ⟶ ok ∷ [] ++ I 0 5 (pos 50) gets Added at 15 ++ I 0 6 (pos 60) gets Added at 15
+two-holding-5-6 = O 2 2 1 ⟶ ok ∷ [] ++ I 0 ⟨ 5 ⟩ (pos 50) gets Added at 15 ++ I 0 ⟨ 6 ⟩ (pos 60) gets Added at 15
 
 -- ---- "Tried by hand; P is to be proved": the cases marked P, in their order
 
@@ -110,21 +117,23 @@ unfoldable pub split-then-crowded : Case
 unfolding computing
 split-then-crowded =
     driverCase (
-    one-holding-5-6 ++ I 0 2_147_483_648 (pos 1) gets Added at 23 ++ I 0 7 (pos 70) gets Crowded at 13 ++ D 0 5 gets Removed at 13
-    ++ T ⟶ listed ((6, pos 60) ∷ (2_147_483_648, pos 1) ∷ []) ∷ [])
+    one-holding-5-6 ++ I 0 ⟨ 2_147_483_648 ⟩ (pos 1) gets Added at 23 ++ I 0 ⟨ 7 ⟩ (pos 70) gets Crowded at 13
+    ++ D 0 ⟨ 5 ⟩ gets Removed at 13
+    ++ T ⟶ listed ((⟨ 6 ⟩, pos 60) ∷ (⟨ 2_147_483_648 ⟩, pos 1) ∷ []) ∷ [])
     refl
 
 -- "P: same, but insert 7 straight after 5 and 6: crowded in 23, and the split stays": the next insert into the other half takes 13
 -- steps. "9 ends the operation: the worker is idle again and the accounts are as before."
 abbrev pub straight-after : List Exchange
-straight-after = one-holding-5-6 ++ I 0 7 (pos 70) gets Crowded at 23
+straight-after = one-holding-5-6 ++ I 0 ⟨ 7 ⟩ (pos 70) gets Crowded at 23
 
 unfoldable pub crowded-straight-after : Case
 unfolding computing
 crowded-straight-after =
     driverCase (
-    straight-after ++ S 0 1 ⟶ refused 5 ∷ T ⟶ listed ((5, pos 50) ∷ (6, pos 60) ∷ []) ∷ [] ++ I 0 2_147_483_648 (pos 1) gets Added at 13
-    ++ T ⟶ listed ((5, pos 50) ∷ (6, pos 60) ∷ (2_147_483_648, pos 1) ∷ []) ∷ [])
+    straight-after ++ S 0 1 ⟶ refused 5 ∷ T ⟶ listed ((⟨ 5 ⟩, pos 50) ∷ (⟨ 6 ⟩, pos 60) ∷ []) ∷ []
+    ++ I 0 ⟨ 2_147_483_648 ⟩ (pos 1) gets Added at 13
+    ++ T ⟶ listed ((⟨ 5 ⟩, pos 50) ∷ (⟨ 6 ⟩, pos 60) ∷ (⟨ 2_147_483_648 ⟩, pos 1) ∷ []) ∷ [])
     refl
 
 -- "P: call to a busy worker 4; step of an idle one 5; worker n 3." What is refused changes nothing: the update goes on.
@@ -163,9 +172,9 @@ unfoldable pub second-pass : Case
 unfolding computing
 second-pass =
     driverCase (
-    two-holding-5-6 ++ I 0 2_147_483_648 (pos 1) ⟶ ok ∷ S 0 20 ⟶ moved 20 ∷ I 1 2_147_483_649 (pos 2) ⟶ ok ∷ S 1 13 ⟶ moved 13
+    two-holding-5-6 ++ I 0 ⟨ 2_147_483_648 ⟩ (pos 1) ⟶ ok ∷ S 0 20 ⟶ moved 20 ∷ I 1 ⟨ 2_147_483_649 ⟩ (pos 2) ⟶ ok ∷ S 1 13 ⟶ moved 13
     ∷ S 0 99 ⟶ answered Added 29 ∷ S 1 99 ⟶ answered Added 43
-    ∷ T ⟶ listed ((5, pos 50) ∷ (6, pos 60) ∷ (2_147_483_648, pos 1) ∷ (2_147_483_649, pos 2) ∷ []) ∷ [])
+    ∷ T ⟶ listed ((⟨ 5 ⟩, pos 50) ∷ (⟨ 6 ⟩, pos 60) ∷ (⟨ 2_147_483_648 ⟩, pos 1) ∷ (⟨ 2_147_483_649 ⟩, pos 2) ∷ []) ∷ [])
     refl
 
 -- ---- numbers and lists. 6, kind, cannot come up in a script: its lines have no other kinds.
@@ -260,8 +269,8 @@ unfoldable pub effect-at-directory-swap : Case
 unfolding computing
 effect-at-directory-swap =
     driverCase (
-    one-holding-5-6 ++ I 0 2_147_483_648 (pos 1) ⟶ ok ∷ S 0 16 ⟶ moved 16 ∷ T ⟶ listed ((5, pos 50) ∷ (6, pos 60) ∷ [])
-    ∷ S 0 1 ⟶ moved 1 ∷ T ⟶ listed ((5, pos 50) ∷ (6, pos 60) ∷ (2_147_483_648, pos 1) ∷ []) ∷ S 0 99 ⟶ answered Added 23 ∷ [])
+    one-holding-5-6 ++ I 0 ⟨ 2_147_483_648 ⟩ (pos 1) ⟶ ok ∷ S 0 16 ⟶ moved 16 ∷ T ⟶ listed ((⟨ 5 ⟩, pos 50) ∷ (⟨ 6 ⟩, pos 60) ∷ [])
+    ∷ S 0 1 ⟶ moved 1 ∷ T ⟶ listed ((⟨ 5 ⟩, pos 50) ∷ (⟨ 6 ⟩, pos 60) ∷ (⟨ 2_147_483_648 ⟩, pos 1) ∷ []) ∷ S 0 99 ⟶ answered Added 23 ∷ [])
     refl
 
 -- A lookup answers from the bucket that stood in the directory it read, also if that was split and the account deleted since.
@@ -270,9 +279,9 @@ unfoldable pub superseded-lookup : Case
 unfolding computing
 superseded-lookup =
     driverCase (
-    O 2 2 1 ⟶ ok ∷ [] ++ I 0 5 (pos 50) gets Added at 15 ++ I 0 2_147_483_648 (pos 1) gets Added at 15
-    ++ L 1 2_147_483_648 ⟶ ok ∷ S 1 1 ⟶ moved 1 ∷ [] ++ I 0 6 (pos 60) gets Added at 29 ++ D 0 2_147_483_648 gets Removed at 15
-    ++ S 1 1 ⟶ answered (Found (pos 1)) 2 ∷ [] ++ L 1 2_147_483_648 gets None at 2)
+    O 2 2 1 ⟶ ok ∷ [] ++ I 0 ⟨ 5 ⟩ (pos 50) gets Added at 15 ++ I 0 ⟨ 2_147_483_648 ⟩ (pos 1) gets Added at 15
+    ++ L 1 ⟨ 2_147_483_648 ⟩ ⟶ ok ∷ S 1 1 ⟶ moved 1 ∷ [] ++ I 0 ⟨ 6 ⟩ (pos 60) gets Added at 29 ++ D 0 ⟨ 2_147_483_648 ⟩ gets Removed at 15
+    ++ S 1 1 ⟶ answered (Found (pos 1)) 2 ∷ [] ++ L 1 ⟨ 2_147_483_648 ⟩ gets None at 2)
     refl
 
 -- ---- wrong machines: each row says what one would do instead
@@ -282,8 +291,9 @@ unfoldable pub full-on-the-copy : Case
 unfolding computing
 full-on-the-copy =
     driverCase (
-    O 2 2 0 ⟶ ok ∷ [] ++ I 0 5 (pos 50) gets Added at 15 ++ I 1 9 (pos 90) ⟶ ok ∷ S 1 3 ⟶ moved 3 ∷ [] ++ I 0 6 (pos 60) gets Added at 15
-    ++ T ⟶ listed ((5, pos 50) ∷ (6, pos 60) ∷ []) ∷ S 1 99 ⟶ answered Crowded 15 ∷ [])
+    O 2 2 0 ⟶ ok ∷ [] ++ I 0 ⟨ 5 ⟩ (pos 50) gets Added at 15 ++ I 1 ⟨ 9 ⟩ (pos 90) ⟶ ok ∷ S 1 3 ⟶ moved 3 ∷ []
+    ++ I 0 ⟨ 6 ⟩ (pos 60) gets Added at 15
+    ++ T ⟶ listed ((⟨ 5 ⟩, pos 50) ∷ (⟨ 6 ⟩, pos 60) ∷ []) ∷ S 1 99 ⟶ answered Crowded 15 ∷ [])
     refl
 
 -- Updates helped in another order than that of the workers: 5 would end with the total 1.
@@ -301,9 +311,10 @@ unfoldable pub not-flipped : Case
 unfolding computing
 not-flipped =
     driverCase (
-    two-holding-5-6 ++ I 0 2_147_483_648 (pos 1) gets Added at 29 ++ I 0 7 (pos 70) ⟶ ok ∷ S 0 1 ⟶ moved 1 ∷ []
-    ++ I 1 2_147_483_649 (pos 2) gets Added at 15
-    ++ T ⟶ listed ((5, pos 50) ∷ (6, pos 60) ∷ (2_147_483_648, pos 1) ∷ (2_147_483_649, pos 2) ∷ []) ∷ S 0 99 ⟶ answered Crowded 15 ∷ [])
+    two-holding-5-6 ++ I 0 ⟨ 2_147_483_648 ⟩ (pos 1) gets Added at 29 ++ I 0 ⟨ 7 ⟩ (pos 70) ⟶ ok ∷ S 0 1 ⟶ moved 1 ∷ []
+    ++ I 1 ⟨ 2_147_483_649 ⟩ (pos 2) gets Added at 15
+    ++ T ⟶ listed ((⟨ 5 ⟩, pos 50) ∷ (⟨ 6 ⟩, pos 60) ∷ (⟨ 2_147_483_648 ⟩, pos 1) ∷ (⟨ 2_147_483_649 ⟩, pos 2) ∷ [])
+    ∷ S 0 99 ⟶ answered Crowded 15 ∷ [])
     refl
 
 -- A bucket swap that succeeds late: worker 0 would take worker 1's 9 out again.
@@ -348,9 +359,9 @@ unfoldable pub delete-held-back : Case
 unfolding computing
 delete-held-back =
     driverCase (
-    O 2 2 1 ⟶ ok ∷ [] ++ I 0 5 (pos 50) gets Added at 15 ++ I 0 2_147_483_648 (pos 1) gets Added at 15
-    ++ I 1 6 (pos 60) ⟶ ok ∷ S 1 20 ⟶ moved 20 ∷ [] ++ D 0 2_147_483_648 gets Removed at 29
-    ++ S 1 1 ⟶ moved 1 ∷ T ⟶ listed ((5, pos 50) ∷ (6, pos 60) ∷ []) ∷ S 1 99 ⟶ answered Added 29 ∷ [])
+    O 2 2 1 ⟶ ok ∷ [] ++ I 0 ⟨ 5 ⟩ (pos 50) gets Added at 15 ++ I 0 ⟨ 2_147_483_648 ⟩ (pos 1) gets Added at 15
+    ++ I 1 ⟨ 6 ⟩ (pos 60) ⟶ ok ∷ S 1 20 ⟶ moved 20 ∷ [] ++ D 0 ⟨ 2_147_483_648 ⟩ gets Removed at 29
+    ++ S 1 1 ⟶ moved 1 ∷ T ⟶ listed ((⟨ 5 ⟩, pos 50) ∷ (⟨ 6 ⟩, pos 60) ∷ []) ∷ S 1 99 ⟶ answered Added 29 ∷ [])
     refl
 
 -- A directory swap that succeeds late: worker 0 would take worker 1's 2147483649 out again.
@@ -358,9 +369,10 @@ unfoldable pub late-directory-swap : Case
 unfolding computing
 late-directory-swap =
     driverCase (
-    two-holding-5-6 ++ I 0 2_147_483_648 (pos 1) ⟶ ok ∷ S 0 20 ⟶ moved 20 ∷ [] ++ I 1 7 (pos 70) gets Crowded at 29
-    ++ I 1 2_147_483_649 (pos 2) gets Added at 15 ++ S 0 1 ⟶ moved 1
-    ∷ T ⟶ listed ((5, pos 50) ∷ (6, pos 60) ∷ (2_147_483_648, pos 1) ∷ (2_147_483_649, pos 2) ∷ []) ∷ S 0 99 ⟶ answered Added 29 ∷ [])
+    two-holding-5-6 ++ I 0 ⟨ 2_147_483_648 ⟩ (pos 1) ⟶ ok ∷ S 0 20 ⟶ moved 20 ∷ [] ++ I 1 ⟨ 7 ⟩ (pos 70) gets Crowded at 29
+    ++ I 1 ⟨ 2_147_483_649 ⟩ (pos 2) gets Added at 15 ++ S 0 1 ⟶ moved 1
+    ∷ T ⟶ listed ((⟨ 5 ⟩, pos 50) ∷ (⟨ 6 ⟩, pos 60) ∷ (⟨ 2_147_483_648 ⟩, pos 1) ∷ (⟨ 2_147_483_649 ⟩, pos 2) ∷ [])
+    ∷ S 0 99 ⟶ answered Added 29 ∷ [])
     refl
 
 -- "changed or not": worker 0's second swap changes nothing, and yet worker 1's, which would split, fails after it.
@@ -368,10 +380,12 @@ unfoldable pub unchanged-swap : Case
 unfolding computing
 unchanged-swap =
     driverCase (
-    O 2 2 2 ⟶ ok ∷ [] ++ I 0 5 (pos 50) gets Added at 15 ++ I 0 2_147_483_648 (pos 1) gets Added at 15
-    ++ I 0 6 (pos 60) ⟶ ok ∷ S 0 26 ⟶ moved 26 ∷ I 1 1_073_741_824 (pos 2) ⟶ ok ∷ S 1 20 ⟶ moved 20 ∷ S 0 1 ⟶ moved 1 ∷ S 1 1 ⟶ moved 1
-    ∷ T ⟶ listed ((5, pos 50) ∷ (6, pos 60) ∷ (2_147_483_648, pos 1) ∷ []) ∷ S 0 99 ⟶ answered Added 29 ∷ S 1 99 ⟶ answered Added 29
-    ∷ T ⟶ listed ((5, pos 50) ∷ (6, pos 60) ∷ (1_073_741_824, pos 2) ∷ (2_147_483_648, pos 1) ∷ []) ∷ [])
+    O 2 2 2 ⟶ ok ∷ [] ++ I 0 ⟨ 5 ⟩ (pos 50) gets Added at 15 ++ I 0 ⟨ 2_147_483_648 ⟩ (pos 1) gets Added at 15
+    ++ I 0 ⟨ 6 ⟩ (pos 60) ⟶ ok ∷ S 0 26 ⟶ moved 26 ∷ I 1 ⟨ 1_073_741_824 ⟩ (pos 2) ⟶ ok ∷ S 1 20 ⟶ moved 20 ∷ S 0 1 ⟶ moved 1
+    ∷ S 1 1 ⟶ moved 1
+    ∷ T ⟶ listed ((⟨ 5 ⟩, pos 50) ∷ (⟨ 6 ⟩, pos 60) ∷ (⟨ 2_147_483_648 ⟩, pos 1) ∷ []) ∷ S 0 99 ⟶ answered Added 29
+    ∷ S 1 99 ⟶ answered Added 29
+    ∷ T ⟶ listed ((⟨ 1_073_741_824 ⟩, pos 2) ∷ (⟨ 5 ⟩, pos 50) ∷ (⟨ 6 ⟩, pos 60) ∷ (⟨ 2_147_483_648 ⟩, pos 1) ∷ []) ∷ [])
     refl
 
 -- A state step of the directory pass that takes only its own worker's update, or takes them in another order: worker 1's
@@ -380,8 +394,8 @@ unfoldable pub every-update-of-the-bucket : Case
 unfolding computing
 every-update-of-the-bucket =
     driverCase (
-    two-holding-5-6 ++ I 1 2_147_483_648 (pos 2) ⟶ ok ∷ S 1 1 ⟶ moved 1 ∷ [] ++ I 0 2_147_483_648 (pos 1) gets Added at 29
-    ++ T ⟶ listed ((5, pos 50) ∷ (6, pos 60) ∷ (2_147_483_648, pos 2) ∷ []) ∷ S 1 99 ⟶ answered Replaced 15 ∷ [])
+    two-holding-5-6 ++ I 1 ⟨ 2_147_483_648 ⟩ (pos 2) ⟶ ok ∷ S 1 1 ⟶ moved 1 ∷ [] ++ I 0 ⟨ 2_147_483_648 ⟩ (pos 1) gets Added at 29
+    ++ T ⟶ listed ((⟨ 5 ⟩, pos 50) ∷ (⟨ 6 ⟩, pos 60) ∷ (⟨ 2_147_483_648 ⟩, pos 2) ∷ []) ∷ S 1 99 ⟶ answered Replaced 15 ∷ [])
     refl
 
 -- A directory pass that works from the slots of the bucket pass: worker 1's insert, announced in between, would be missing.
@@ -389,8 +403,9 @@ unfoldable pub slots-read-again : Case
 unfolding computing
 slots-read-again =
     driverCase (
-    two-holding-5-6 ++ I 0 2_147_483_648 (pos 1) ⟶ ok ∷ S 0 15 ⟶ moved 15 ∷ I 1 2_147_483_649 (pos 2) ⟶ ok ∷ S 1 1 ⟶ moved 1
-    ∷ S 0 99 ⟶ answered Added 29 ∷ T ⟶ listed ((5, pos 50) ∷ (6, pos 60) ∷ (2_147_483_648, pos 1) ∷ (2_147_483_649, pos 2) ∷ [])
+    two-holding-5-6 ++ I 0 ⟨ 2_147_483_648 ⟩ (pos 1) ⟶ ok ∷ S 0 15 ⟶ moved 15 ∷ I 1 ⟨ 2_147_483_649 ⟩ (pos 2) ⟶ ok ∷ S 1 1 ⟶ moved 1
+    ∷ S 0 99 ⟶ answered Added 29 ∷ T ⟶ listed ((⟨ 5 ⟩, pos 50) ∷ (⟨ 6 ⟩, pos 60) ∷ (⟨ 2_147_483_648 ⟩, pos 1)
+    ∷ (⟨ 2_147_483_649 ⟩, pos 2) ∷ [])
     ∷ S 1 99 ⟶ answered Added 15 ∷ [])
     refl
 
@@ -401,24 +416,25 @@ unfoldable pub slots-in-worker-order : Case
 unfolding computing
 slots-in-worker-order =
     driverCase (
-    two-holding-5-6 ++ I 0 2_147_483_648 (pos 1) ⟶ ok ∷ S 0 17 ⟶ moved 17 ∷ I 1 2_147_483_649 (pos 2) ⟶ ok ∷ S 1 1 ⟶ moved 1
-    ∷ S 0 4 ⟶ moved 4 ∷ T ⟶ listed ((5, pos 50) ∷ (6, pos 60) ∷ (2_147_483_648, pos 1) ∷ (2_147_483_649, pos 2) ∷ []) ∷ [])
+    two-holding-5-6 ++ I 0 ⟨ 2_147_483_648 ⟩ (pos 1) ⟶ ok ∷ S 0 17 ⟶ moved 17 ∷ I 1 ⟨ 2_147_483_649 ⟩ (pos 2) ⟶ ok ∷ S 1 1 ⟶ moved 1
+    ∷ S 0 4 ⟶ moved 4 ∷ T ⟶ listed ((⟨ 5 ⟩, pos 50) ∷ (⟨ 6 ⟩, pos 60) ∷ (⟨ 2_147_483_648 ⟩, pos 1) ∷ (⟨ 2_147_483_649 ⟩, pos 2) ∷ []) ∷ [])
     refl
 
 -- A directory pass that has a state step for its own worker only: worker 1's bucket would not be split.
 abbrev pub two-splits : List Exchange
 two-splits =
-    O 2 2 2 ⟶ ok ∷ [] ++ I 0 5 (pos 50) gets Added at 15 ++ I 0 2_147_483_648 (pos 1) gets Added at 15 ++ I 0 6 (pos 60) gets Added at 29
-    ++ I 0 2_147_483_649 (pos 2) gets Added at 15 ++ I 1 3_221_225_472 (pos 3) ⟶ ok ∷ S 1 1 ⟶ moved 1 ∷ []
-    ++ I 0 1_073_741_824 (pos 4) gets Added at 29
+    O 2 2 2 ⟶ ok ∷ [] ++ I 0 ⟨ 5 ⟩ (pos 50) gets Added at 15 ++ I 0 ⟨ 2_147_483_648 ⟩ (pos 1) gets Added at 15
+    ++ I 0 ⟨ 6 ⟩ (pos 60) gets Added at 29
+    ++ I 0 ⟨ 2_147_483_649 ⟩ (pos 2) gets Added at 15 ++ I 1 ⟨ 3_221_225_472 ⟩ (pos 3) ⟶ ok ∷ S 1 1 ⟶ moved 1 ∷ []
+    ++ I 0 ⟨ 1_073_741_824 ⟩ (pos 4) gets Added at 29
 
 unfoldable pub a-step-per-worker : Case
 unfolding computing
 a-step-per-worker =
     driverCase (
     two-splits
-    ++ T ⟶ listed ((5, pos 50) ∷ (6, pos 60) ∷ (1_073_741_824, pos 4) ∷ (2_147_483_648, pos 1) ∷ (2_147_483_649, pos 2)
-    ∷ (3_221_225_472, pos 3) ∷ [])
+    ++ T ⟶ listed ((⟨ 1_073_741_824 ⟩, pos 4) ∷ (⟨ 5 ⟩, pos 50) ∷ (⟨ 6 ⟩, pos 60) ∷ (⟨ 2_147_483_648 ⟩, pos 1)
+    ∷ (⟨ 2_147_483_649 ⟩, pos 2) ∷ (⟨ 3_221_225_472 ⟩, pos 3) ∷ [])
     ∷ S 1 99 ⟶ answered Added 15 ∷ [])
     refl
 
@@ -427,11 +443,12 @@ unfoldable pub shallow-half : Case
 unfolding computing
 shallow-half =
     driverCase (
-    O 2 2 2 ⟶ ok ∷ [] ++ I 0 5 (pos 50) gets Added at 15 ++ I 0 6 (pos 60) gets Added at 15
-    ++ I 1 2_147_483_648 (pos 2) ⟶ ok ∷ S 1 1 ⟶ moved 1 ∷ []
-    ++ I 0 1_073_741_824 (pos 1) gets Added at 29
-    ++ T ⟶ listed ((5, pos 50) ∷ (6, pos 60) ∷ (1_073_741_824, pos 1) ∷ (2_147_483_648, pos 2) ∷ [])
-    ∷ [] ++ I 0 3_221_225_472 (pos 3) gets Added at 15 ++ L 0 2_147_483_648 gets Found (pos 2) at 2 ++ S 1 99 ⟶ answered Added 15 ∷ [])
+    O 2 2 2 ⟶ ok ∷ [] ++ I 0 ⟨ 5 ⟩ (pos 50) gets Added at 15 ++ I 0 ⟨ 6 ⟩ (pos 60) gets Added at 15
+    ++ I 1 ⟨ 2_147_483_648 ⟩ (pos 2) ⟶ ok ∷ S 1 1 ⟶ moved 1 ∷ []
+    ++ I 0 ⟨ 1_073_741_824 ⟩ (pos 1) gets Added at 29
+    ++ T ⟶ listed ((⟨ 1_073_741_824 ⟩, pos 1) ∷ (⟨ 5 ⟩, pos 50) ∷ (⟨ 6 ⟩, pos 60) ∷ (⟨ 2_147_483_648 ⟩, pos 2) ∷ [])
+    ∷ [] ++ I 0 ⟨ 3_221_225_472 ⟩ (pos 3) gets Added at 15 ++ L 0 ⟨ 2_147_483_648 ⟩ gets Found (pos 2) at 2 ++ S 1 99 ⟶ answered Added 15
+    ∷ [])
     refl
 
 -- Settled tickets not copied to one half: worker 1 would insert 2147483648 again, or worker 2 be crowded.
@@ -439,9 +456,9 @@ unfoldable pub settled-in-both-halves : Case
 unfolding computing
 settled-in-both-halves =
     driverCase (
-    O 3 2 1 ⟶ ok ∷ I 1 2_147_483_648 (pos 1) ⟶ ok ∷ S 1 3 ⟶ moved 3 ∷ I 2 5 (pos 50) ⟶ ok ∷ S 2 3 ⟶ moved 3 ∷ []
-    ++ D 0 9 gets Absent at 17 ++ I 0 6 (pos 60) gets Added at 35 ++ D 0 2_147_483_648 gets Removed at 17
-    ++ S 1 99 ⟶ answered Added 17 ∷ S 2 99 ⟶ answered Added 17 ∷ T ⟶ listed ((5, pos 50) ∷ (6, pos 60) ∷ []) ∷ [])
+    O 3 2 1 ⟶ ok ∷ I 1 ⟨ 2_147_483_648 ⟩ (pos 1) ⟶ ok ∷ S 1 3 ⟶ moved 3 ∷ I 2 ⟨ 5 ⟩ (pos 50) ⟶ ok ∷ S 2 3 ⟶ moved 3 ∷ []
+    ++ D 0 ⟨ 9 ⟩ gets Absent at 17 ++ I 0 ⟨ 6 ⟩ (pos 60) gets Added at 35 ++ D 0 ⟨ 2_147_483_648 ⟩ gets Removed at 17
+    ++ S 1 99 ⟶ answered Added 17 ∷ S 2 99 ⟶ answered Added 17 ∷ T ⟶ listed ((⟨ 5 ⟩, pos 50) ∷ (⟨ 6 ⟩, pos 60) ∷ []) ∷ [])
     refl
 
 -- A state step that does not ask whether the ticket is settled: it would make the upper bucket anew, though nothing is to be carried
@@ -450,10 +467,11 @@ unfoldable pub settled-makes-nothing : Case
 unfolding computing
 settled-makes-nothing =
     driverCase (
-    O 3 3 2 ⟶ ok ∷ [] ++ I 0 5 (pos 50) gets Added at 17 ++ I 0 6 (pos 60) gets Added at 17 ++ I 0 2_147_483_648 (pos 1) gets Added at 17
-    ++ I 0 7 (pos 70) gets Added at 35 ++ I 1 2_147_483_649 (pos 2) ⟶ ok ∷ S 1 8 ⟶ moved 8 ∷ []
-    ++ I 2 3_221_225_472 (pos 3) gets Added at 17
-    ++ I 0 1_073_741_824 (pos 4) gets Added at 35 ++ S 1 1 ⟶ moved 1 ∷ L 0 3_221_225_472 ⟶ ok ∷ S 0 99 ⟶ answered (Found (pos 3)) 2
+    O 3 3 2 ⟶ ok ∷ [] ++ I 0 ⟨ 5 ⟩ (pos 50) gets Added at 17 ++ I 0 ⟨ 6 ⟩ (pos 60) gets Added at 17
+    ++ I 0 ⟨ 2_147_483_648 ⟩ (pos 1) gets Added at 17
+    ++ I 0 ⟨ 7 ⟩ (pos 70) gets Added at 35 ++ I 1 ⟨ 2_147_483_649 ⟩ (pos 2) ⟶ ok ∷ S 1 8 ⟶ moved 8 ∷ []
+    ++ I 2 ⟨ 3_221_225_472 ⟩ (pos 3) gets Added at 17
+    ++ I 0 ⟨ 1_073_741_824 ⟩ (pos 4) gets Added at 35 ++ S 1 1 ⟶ moved 1 ∷ L 0 ⟨ 3_221_225_472 ⟩ ⟶ ok ∷ S 0 99 ⟶ answered (Found (pos 3)) 2
     ∷ S 1 99 ⟶ answered Added 17 ∷ [])
     refl
 
@@ -463,11 +481,14 @@ unfoldable pub settled-by-a-later-ticket : Case
 unfolding computing
 settled-by-a-later-ticket =
     driverCase (
-    O 2 2 2 ⟶ ok ∷ [] ++ I 0 5 (pos 50) gets Added at 15 ++ I 0 6 (pos 60) gets Added at 15 ++ I 0 2_147_483_648 (pos 1) gets Added at 29
-    ++ I 1 2_147_483_648 (pos 2) ⟶ ok ∷ S 1 1 ⟶ moved 1 ∷ I 0 1_073_741_824 (pos 5) ⟶ ok ∷ S 0 18 ⟶ moved 18 ∷ S 1 99 ⟶ answered Replaced 15
+    O 2 2 2 ⟶ ok ∷ [] ++ I 0 ⟨ 5 ⟩ (pos 50) gets Added at 15 ++ I 0 ⟨ 6 ⟩ (pos 60) gets Added at 15
+    ++ I 0 ⟨ 2_147_483_648 ⟩ (pos 1) gets Added at 29
+    ++ I 1 ⟨ 2_147_483_648 ⟩ (pos 2) ⟶ ok ∷ S 1 1 ⟶ moved 1 ∷ I 0 ⟨ 1_073_741_824 ⟩ (pos 5) ⟶ ok ∷ S 0 18 ⟶ moved 18
+    ∷ S 1 99 ⟶ answered Replaced 15
     ∷ []
-    ++ I 1 2_147_483_648 (pos 3) gets Replaced at 15 ++ I 1 3_221_225_472 (pos 4) gets Added at 15 ++ S 0 99 ⟶ answered Added 29
-    ∷ T ⟶ listed ((5, pos 50) ∷ (6, pos 60) ∷ (1_073_741_824, pos 5) ∷ (2_147_483_648, pos 3) ∷ (3_221_225_472, pos 4) ∷ []) ∷ [])
+    ++ I 1 ⟨ 2_147_483_648 ⟩ (pos 3) gets Replaced at 15 ++ I 1 ⟨ 3_221_225_472 ⟩ (pos 4) gets Added at 15 ++ S 0 99 ⟶ answered Added 29
+    ∷ T ⟶ listed ((⟨ 1_073_741_824 ⟩, pos 5) ∷ (⟨ 5 ⟩, pos 50) ∷ (⟨ 6 ⟩, pos 60) ∷ (⟨ 2_147_483_648 ⟩, pos 3)
+    ∷ (⟨ 3_221_225_472 ⟩, pos 4) ∷ []) ∷ [])
     refl
 
 -- "its bucket is split while full and below depth M": one split would not do
@@ -475,9 +496,10 @@ unfoldable pub split-while-full : Case
 unfolding computing
 split-while-full =
     driverCase (
-    O 1 2 3 ⟶ ok ∷ [] ++ I 0 5 (pos 50) gets Added at 13 ++ I 0 6 (pos 60) gets Added at 13 ++ I 0 536_870_912 (pos 1) gets Added at 23
-    ++ I 0 7 (pos 70) gets Crowded at 13 ++ L 0 5 gets Found (pos 50) at 2
-    ++ T ⟶ listed ((5, pos 50) ∷ (6, pos 60) ∷ (536_870_912, pos 1) ∷ []) ∷ [])
+    O 1 2 3 ⟶ ok ∷ [] ++ I 0 ⟨ 5 ⟩ (pos 50) gets Added at 13 ++ I 0 ⟨ 6 ⟩ (pos 60) gets Added at 13
+    ++ I 0 ⟨ 536_870_912 ⟩ (pos 1) gets Added at 23
+    ++ I 0 ⟨ 7 ⟩ (pos 70) gets Crowded at 13 ++ L 0 ⟨ 5 ⟩ gets Found (pos 50) at 2
+    ++ T ⟶ listed ((⟨ 536_870_912 ⟩, pos 1) ∷ (⟨ 5 ⟩, pos 50) ∷ (⟨ 6 ⟩, pos 60) ∷ []) ∷ [])
     refl
 
 -- A directory of depth 1 doubled without moving its entries: the other half would be lost.
@@ -485,21 +507,23 @@ unfoldable pub doubled-directory : Case
 unfolding computing
 doubled-directory =
     driverCase (
-    O 1 2 2 ⟶ ok ∷ [] ++ I 0 5 (pos 50) gets Added at 13 ++ I 0 2_147_483_648 (pos 1) gets Added at 13 ++ I 0 6 (pos 60) gets Added at 23
-    ++ I 0 2_147_483_648 (pos 3) gets Replaced at 13 ++ I 0 1_073_741_824 (pos 2) gets Added at 23
-    ++ L 0 2_147_483_648 gets Found (pos 3) at 2
-    ++ T ⟶ listed ((5, pos 50) ∷ (6, pos 60) ∷ (1_073_741_824, pos 2) ∷ (2_147_483_648, pos 3) ∷ []) ∷ [])
+    O 1 2 2 ⟶ ok ∷ [] ++ I 0 ⟨ 5 ⟩ (pos 50) gets Added at 13 ++ I 0 ⟨ 2_147_483_648 ⟩ (pos 1) gets Added at 13
+    ++ I 0 ⟨ 6 ⟩ (pos 60) gets Added at 23
+    ++ I 0 ⟨ 2_147_483_648 ⟩ (pos 3) gets Replaced at 13 ++ I 0 ⟨ 1_073_741_824 ⟩ (pos 2) gets Added at 23
+    ++ L 0 ⟨ 2_147_483_648 ⟩ gets Found (pos 3) at 2
+    ++ T ⟶ listed ((⟨ 1_073_741_824 ⟩, pos 2) ∷ (⟨ 5 ⟩, pos 50) ∷ (⟨ 6 ⟩, pos 60) ∷ (⟨ 2_147_483_648 ⟩, pos 3) ∷ []) ∷ [])
     refl
 
--- One round in the directory pass: worker 0 is answered at the fourth check, and there only because of the second round.
+-- One round in the directory pass: worker 0 is answered at the fourth check, and there only because of the second round. On a machine
+-- that places by number it would be added at its third.
 unfoldable pub fourth-check : Case
 unfolding computing
 fourth-check =
     driverCase (
-    O 3 2 2 ⟶ ok ∷ [] ++ I 2 0 (pos 7) gets Added at 17 ++ I 2 2_147_483_648 (pos 7) gets Added at 17
-    ++ I 2 2_214_592_512 (pos 7) ⟶ ok ∷ S 2 24 ⟶ moved 24 ∷ I 0 67_108_864 (pos 7) ⟶ ok ∷ S 0 2 ⟶ moved 2
-    ∷ I 1 3_355_443_200 (pos 7) ⟶ ok ∷ S 1 2 ⟶ moved 2 ∷ S 2 1 ⟶ moved 1 ∷ S 1 15 ⟶ moved 15 ∷ S 0 33 ⟶ moved 33 ∷ S 1 7 ⟶ moved 7
-    ∷ S 2 99 ⟶ answered Added 35 ∷ [] ++ I 2 134_217_728 (pos 7) gets Added at 17
+    O 3 2 2 ⟶ ok ∷ [] ++ I 2 ⟨ 0 ⟩ (pos 7) gets Added at 17 ++ I 2 ⟨ 2_147_483_648 ⟩ (pos 7) gets Added at 17
+    ++ I 2 ⟨ 2_214_592_512 ⟩ (pos 7) ⟶ ok ∷ S 2 24 ⟶ moved 24 ∷ I 0 ⟨ 67_108_864 ⟩ (pos 7) ⟶ ok ∷ S 0 2 ⟶ moved 2
+    ∷ I 1 ⟨ 3_355_443_200 ⟩ (pos 7) ⟶ ok ∷ S 1 2 ⟶ moved 2 ∷ S 2 1 ⟶ moved 1 ∷ S 1 15 ⟶ moved 15 ∷ S 0 33 ⟶ moved 33 ∷ S 1 7 ⟶ moved 7
+    ∷ S 2 99 ⟶ answered Added 35 ∷ [] ++ I 2 ⟨ 134_217_728 ⟩ (pos 7) gets Added at 17
     ++ S 0 17 ⟶ moved 17 ∷ S 1 1 ⟶ moved 1 ∷ S 0 99 ⟶ answered Crowded 69 ∷ [])
     refl
 

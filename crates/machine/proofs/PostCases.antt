@@ -6,7 +6,7 @@ use lib.IntN.{pos, negℤ}
 use Rattle.interface.specs.declared.Answer.the-variants.{Added, Replaced, Removed, Absent, Found, Posted, Crowded, Overrun}
 use Rattle.machine.specs.Computing.{computing}
 use Rattle.machine.specs.Script.{O, I, D, L, P, S, T, ok, moved, answered, listed}
-use Rattle.machine.proofs.Cases.{Case, Row, Right, _⟶_, driverCase, caseRows, AllRows, all-right}
+use Rattle.machine.proofs.Cases.{Case, Row, Right, ⟨_⟩, _⟶_, driverCase, caseRows, AllRows, all-right}
 
 -- "the amount is added to the account's total, an account not there starts from 0 and is made, also by an amount of 0, and the answer
 -- is posted with the new total"
@@ -52,9 +52,9 @@ unfoldable pub crowded-before-overrun : Case
 unfolding computing
 crowded-before-overrun =
     driverCase (
-    O 1 2 0 ⟶ ok ∷ I 0 5 (pos 9_223_372_036_854_775_807) ⟶ ok ∷ S 0 13 ⟶ answered Added 13 ∷ I 0 6 (pos 60) ⟶ ok
-    ∷ S 0 13 ⟶ answered Added 13 ∷ P 0 5 (pos 1) ⟶ ok ∷ S 0 13 ⟶ answered Overrun 13
-    ∷ P 0 7 (pos 9_223_372_036_854_775_808) ⟶ ok ∷ S 0 13 ⟶ answered Crowded 13 ∷ [])
+    O 1 2 0 ⟶ ok ∷ I 0 ⟨ 5 ⟩ (pos 9_223_372_036_854_775_807) ⟶ ok ∷ S 0 13 ⟶ answered Added 13 ∷ I 0 ⟨ 6 ⟩ (pos 60) ⟶ ok
+    ∷ S 0 13 ⟶ answered Added 13 ∷ P 0 ⟨ 5 ⟩ (pos 1) ⟶ ok ∷ S 0 13 ⟶ answered Overrun 13
+    ∷ P 0 ⟨ 7 ⟩ (pos 9_223_372_036_854_775_808) ⟶ ok ∷ S 0 13 ⟶ answered Crowded 13 ∷ [])
     refl
 
 -- Three workers post to one account at once, and one carries out all three: none is lost, and each is told the total of its own moment.
@@ -63,14 +63,15 @@ unfoldable pub posts-at-once : Case
 unfolding computing
 posts-at-once =
     driverCase (
-    O 3 3 1 ⟶ ok ∷ P 0 5 (pos 1) ⟶ ok ∷ S 0 3 ⟶ moved 3 ∷ P 1 5 (pos 20) ⟶ ok ∷ S 1 3 ⟶ moved 3 ∷ P 2 5 (pos 300) ⟶ ok ∷ S 2 3 ⟶ moved 3
-    ∷ S 1 6 ⟶ moved 6 ∷ T ⟶ listed ((5, pos 321) ∷ []) ∷ S 0 99 ⟶ answered (Posted (pos 1)) 17 ∷ S 2 99 ⟶ answered (Posted (pos 321)) 17
-    ∷ S 1 99 ⟶ answered (Posted (pos 21)) 17 ∷ I 0 6 (pos 60) ⟶ ok ∷ S 0 99 ⟶ answered Added 17 ∷ I 0 7 (pos 70) ⟶ ok
-    ∷ S 0 99 ⟶ answered Added 17 ∷ P 2 2_147_483_648 (pos 4_000) ⟶ ok ∷ S 2 1 ⟶ moved 1 ∷ P 0 2_147_483_648 (pos 50_000) ⟶ ok
+    O 3 3 1 ⟶ ok ∷ P 0 ⟨ 5 ⟩ (pos 1) ⟶ ok ∷ S 0 3 ⟶ moved 3 ∷ P 1 ⟨ 5 ⟩ (pos 20) ⟶ ok ∷ S 1 3 ⟶ moved 3 ∷ P 2 ⟨ 5 ⟩ (pos 300) ⟶ ok
+    ∷ S 2 3 ⟶ moved 3
+    ∷ S 1 6 ⟶ moved 6 ∷ T ⟶ listed ((⟨ 5 ⟩, pos 321) ∷ []) ∷ S 0 99 ⟶ answered (Posted (pos 1)) 17 ∷ S 2 99 ⟶ answered (Posted (pos 321)) 17
+    ∷ S 1 99 ⟶ answered (Posted (pos 21)) 17 ∷ I 0 ⟨ 6 ⟩ (pos 60) ⟶ ok ∷ S 0 99 ⟶ answered Added 17 ∷ I 0 ⟨ 7 ⟩ (pos 70) ⟶ ok
+    ∷ S 0 99 ⟶ answered Added 17 ∷ P 2 ⟨ 2_147_483_648 ⟩ (pos 4_000) ⟶ ok ∷ S 2 1 ⟶ moved 1 ∷ P 0 ⟨ 2_147_483_648 ⟩ (pos 50_000) ⟶ ok
     ∷ S 0 99 ⟶ answered (Posted (pos 50_000)) 35
-    ∷ T ⟶ listed ((5, pos 321) ∷ (6, pos 60) ∷ (7, pos 70) ∷ (2_147_483_648, pos 54_000) ∷ [])
+    ∷ T ⟶ listed ((⟨ 5 ⟩, pos 321) ∷ (⟨ 6 ⟩, pos 60) ∷ (⟨ 7 ⟩, pos 70) ∷ (⟨ 2_147_483_648 ⟩, pos 54_000) ∷ [])
     ∷ S 2 99 ⟶ answered (Posted (pos 54_000)) 17
-    ∷ T ⟶ listed ((5, pos 321) ∷ (6, pos 60) ∷ (7, pos 70) ∷ (2_147_483_648, pos 54_000) ∷ []) ∷ [])
+    ∷ T ⟶ listed ((⟨ 5 ⟩, pos 321) ∷ (⟨ 6 ⟩, pos 60) ∷ (⟨ 7 ⟩, pos 70) ∷ (⟨ 2_147_483_648 ⟩, pos 54_000) ∷ []) ∷ [])
     refl
 
 -- A post that another worker's split has carried out is not carried out again by its own worker.
@@ -78,9 +79,9 @@ unfoldable pub posted-not-twice : Case
 unfolding computing
 posted-not-twice =
     driverCase (
-    O 2 2 1 ⟶ ok ∷ I 0 5 (pos 50) ⟶ ok ∷ S 0 15 ⟶ answered Added 15 ∷ I 0 6 (pos 60) ⟶ ok ∷ S 0 15 ⟶ answered Added 15
-    ∷ P 1 2_147_483_648 (pos 7) ⟶ ok ∷ S 1 1 ⟶ moved 1 ∷ D 0 2_147_483_649 ⟶ ok ∷ S 0 29 ⟶ answered Absent 29
-    ∷ S 1 14 ⟶ answered (Posted (pos 7)) 15 ∷ T ⟶ listed ((5, pos 50) ∷ (6, pos 60) ∷ (2_147_483_648, pos 7) ∷ []) ∷ [])
+    O 2 2 1 ⟶ ok ∷ I 0 ⟨ 5 ⟩ (pos 50) ⟶ ok ∷ S 0 15 ⟶ answered Added 15 ∷ I 0 ⟨ 6 ⟩ (pos 60) ⟶ ok ∷ S 0 15 ⟶ answered Added 15
+    ∷ P 1 ⟨ 2_147_483_648 ⟩ (pos 7) ⟶ ok ∷ S 1 1 ⟶ moved 1 ∷ D 0 ⟨ 2_147_483_649 ⟩ ⟶ ok ∷ S 0 29 ⟶ answered Absent 29
+    ∷ S 1 14 ⟶ answered (Posted (pos 7)) 15 ∷ T ⟶ listed ((⟨ 5 ⟩, pos 50) ∷ (⟨ 6 ⟩, pos 60) ∷ (⟨ 2_147_483_648 ⟩, pos 7) ∷ []) ∷ [])
     refl
 
 -- "The settled answer in a bucket state gets a total, copied wherever the answer is": to both halves of a split
@@ -88,8 +89,8 @@ unfoldable pub posted-total-in-both-halves : Case
 unfolding computing
 posted-total-in-both-halves =
     driverCase (
-    O 2 2 1 ⟶ ok ∷ P 1 2_147_483_648 (pos 80) ⟶ ok ∷ S 1 8 ⟶ moved 8 ∷ I 0 5 (pos 50) ⟶ ok ∷ S 0 15 ⟶ answered Added 15
-    ∷ I 0 6 (pos 60) ⟶ ok ∷ S 0 29 ⟶ answered Added 29 ∷ S 1 7 ⟶ answered (Posted (pos 80)) 15 ∷ [])
+    O 2 2 1 ⟶ ok ∷ P 1 ⟨ 2_147_483_648 ⟩ (pos 80) ⟶ ok ∷ S 1 8 ⟶ moved 8 ∷ I 0 ⟨ 5 ⟩ (pos 50) ⟶ ok ∷ S 0 15 ⟶ answered Added 15
+    ∷ I 0 ⟨ 6 ⟩ (pos 60) ⟶ ok ∷ S 0 29 ⟶ answered Added 29 ∷ S 1 7 ⟶ answered (Posted (pos 80)) 15 ∷ [])
     refl
 
 -- "settled with its ticket": an overrun that was answered is not tried again when the sum would fit
@@ -97,10 +98,10 @@ unfoldable pub overrun-settled : Case
 unfolding computing
 overrun-settled =
     driverCase (
-    O 2 2 1 ⟶ ok ∷ I 0 5 (pos 9_223_372_036_854_775_807) ⟶ ok ∷ S 0 15 ⟶ answered Added 15 ∷ P 1 5 (pos 1) ⟶ ok
-    ∷ S 1 15 ⟶ answered Overrun 15 ∷ I 0 5 (pos 0) ⟶ ok ∷ S 0 15 ⟶ answered Replaced 15 ∷ I 0 2_147_483_648 (pos 80) ⟶ ok
-    ∷ S 0 15 ⟶ answered Added 15 ∷ D 0 2_147_483_649 ⟶ ok ∷ S 0 29 ⟶ answered Absent 29
-    ∷ T ⟶ listed ((5, pos 0) ∷ (2_147_483_648, pos 80) ∷ []) ∷ [])
+    O 2 2 1 ⟶ ok ∷ I 0 ⟨ 5 ⟩ (pos 9_223_372_036_854_775_807) ⟶ ok ∷ S 0 15 ⟶ answered Added 15 ∷ P 1 ⟨ 5 ⟩ (pos 1) ⟶ ok
+    ∷ S 1 15 ⟶ answered Overrun 15 ∷ I 0 ⟨ 5 ⟩ (pos 0) ⟶ ok ∷ S 0 15 ⟶ answered Replaced 15 ∷ I 0 ⟨ 2_147_483_648 ⟩ (pos 80) ⟶ ok
+    ∷ S 0 15 ⟶ answered Added 15 ∷ D 0 ⟨ 2_147_483_649 ⟩ ⟶ ok ∷ S 0 29 ⟶ answered Absent 29
+    ∷ T ⟶ listed ((⟨ 5 ⟩, pos 0) ∷ (⟨ 2_147_483_648 ⟩, pos 80) ∷ []) ∷ [])
     refl
 
 -- ---- the table

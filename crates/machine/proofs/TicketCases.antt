@@ -11,7 +11,7 @@ use Rattle.machine.specs.Records.{bucketOf, opened}
 use Rattle.machine.specs.Calls.{settings}
 use Rattle.machine.specs.Script.{I, D, L, S, T, ok, refused, moved, answered, listed}
 use Rattle.machine.specs.Script.{Memory, zeros, holding, driver, runFrom, memoryAfter}
-use Rattle.machine.proofs.Cases.{Exchange, _⟶_, _gets_at_, lines, repliesOf}
+use Rattle.machine.proofs.Cases.{Exchange, ⟨_⟩, _⟶_, _gets_at_, lines, repliesOf}
 
 -- n 2, b 2, M 1, just opened, but that the last tickets of workers 0 and 1 are these
 abbrev pub lastTicket : ℕ → ℕ → ℕ → ℕ
@@ -54,14 +54,14 @@ last-number-settled = refl
 -- signed numbers.
 abbrev pub far-apart : List Exchange
 far-apart =
-    I 1 9 (pos 90) ⟶ ok ∷ S 1 3 ⟶ moved 3 ∷ [] ++ I 0 5 (pos 50) gets Added at 15
-    ++ T ⟶ listed ((5, pos 50) ∷ (9, pos 90) ∷ []) ∷ S 1 99 ⟶ answered Added 15 ∷ []
+    I 1 ⟨ 9 ⟩ (pos 90) ⟶ ok ∷ S 1 3 ⟶ moved 3 ∷ [] ++ I 0 ⟨ 5 ⟩ (pos 50) gets Added at 15
+    ++ T ⟶ listed ((⟨ 5 ⟩, pos 50) ∷ (⟨ 9 ⟩, pos 90) ∷ []) ∷ S 1 99 ⟶ answered Added 15 ∷ []
 
 -- then 2^63+1 by a split, which copies both settled tickets to both halves, and 2 in the half that it fills
 abbrev pub far-apart-split : List Exchange
 far-apart-split =
-    far-apart ++ I 1 2_147_483_648 (pos 1) gets Added at 29 ++ I 0 2_147_483_649 (pos 2) gets Added at 15
-    ++ T ⟶ listed ((5, pos 50) ∷ (9, pos 90) ∷ (2_147_483_648, pos 1) ∷ (2_147_483_649, pos 2) ∷ []) ∷ []
+    far-apart ++ I 1 ⟨ 2_147_483_648 ⟩ (pos 1) gets Added at 29 ++ I 0 ⟨ 2_147_483_649 ⟩ (pos 2) gets Added at 15
+    ++ T ⟶ listed ((⟨ 5 ⟩, pos 50) ∷ (⟨ 2_147_483_648 ⟩, pos 1) ∷ (⟨ 9 ⟩, pos 90) ∷ (⟨ 2_147_483_649 ⟩, pos 2) ∷ []) ∷ []
 
 abbrev pub from-2-to-63 : Memory
 from-2-to-63 = numbersUsed 0 9_223_372_036_854_775_807

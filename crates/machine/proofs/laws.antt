@@ -1,5 +1,6 @@
--- Laws of the definitions of specs/: of bits and tests, tables, cells, working copies and rounds.
+-- Laws of the definitions of specs/: of places, bits and tests, tables, cells, working copies and rounds.
 pub mod Base
+pub mod Places
 pub mod Bits
 pub mod Cells
 pub mod Tables

@@ -2,7 +2,7 @@
 use mathlib.Core.Bool.{xor}
 use Rattle.interface.specs.Limits.{within, inRange, built}
 use Rattle.machine.specs.Choice.{if_then_else_, _and_, assign}
-use Rattle.machine.specs.Sequential.{place, firstBits, find, put, remove, having, present, totalOr0, isTotal, sum, result, changed, looked, creates, tried, crowds, serve}
+use Rattle.machine.specs.Sequential.{place, accountAt, firstBits, find, put, remove, having, present, totalOr0, isTotal, sum, result, changed, looked, creates, tried, crowds, serve}
 use Rattle.machine.specs.Records.{same, bucketOf, newBucket, firstDirectory, firstCells, noReads, opened}
 use Rattle.machine.specs.BucketPass.{full, splittable, holdsBack, settledAt, carryOut, pending, help, helped, nextState, checked}
 use Rattle.machine.specs.DirectoryPass.{copyOf, leafOf, replaceLeaf, doubled, deepened, child, half, replaceHalf, split, splitLeaf, splitWhile, carryLeaf, takeUpdate, takeSlot, takeSlots, resize, directoryOf, bodyMade}
@@ -13,7 +13,7 @@ use Rattle.machine.specs.Calls.{openingOf, opening, operationOf, spent, 
 use Rattle.machine.specs.Script.{openingResponse, callResponse, listingResponse, steps, responseTo, runFrom, run, memoryAfter}
 
 unfoldable pub computing : Unit {0}
-unfolding xor within inRange built if_then_else_ _and_ assign place firstBits find put remove having present totalOr0
+unfolding xor within inRange built if_then_else_ _and_ assign place accountAt firstBits find put remove having present totalOr0
     isTotal sum result changed looked creates tried crowds serve same bucketOf newBucket firstDirectory firstCells
     noReads opened full splittable holdsBack settledAt carryOut pending help helped nextState checked copyOf leafOf
     replaceLeaf doubled deepened child half replaceHalf split splitLeaf splitWhile carryLeaf takeUpdate takeSlot

@@ -1,6 +1,6 @@
--- The sequential specification: document 01's plain table, with document 02's posts and its rule of crowding. Rests on
--- the enum of answers alone.
-use Prim.Native.Nat.{ℕ, _-_, _/_, _%_, _^_, _<_}
+-- The sequential specification: document 01's plain table, with document 02's posts, rule of crowding and places of
+-- accounts. Rests on the enum of answers alone.
+use Prim.Native.Nat.{ℕ, _-_, _*_, _/_, _%_, _^_, _<_}
 use mathlib.Core.Bool.{Bool, true, false, _&&_}
 use mathlib.Core.List.{List, [], _∷_}
 use mathlib.Core.Option.{Option, none, some}
@@ -31,15 +31,20 @@ account (insert a v) = a
 account (delete a) = a
 account (post a v) = a
 
--- ---- the bits of an account
+-- ---- the place of an account and its bits
 
--- The number whose bits place an account in the directory: the account itself.
+-- "Place an account by its number times 2,654,435,761 modulo 4,294,967,296" (02, No. 8): the field's multiplicative
+-- hash, whose first bits are the account's.
 unfoldable pub place : ℕ → ℕ
-place a = a
+place a = a * 2_654_435_761 % 2 ^ 32
 
--- "the account's first d bits, most significant first", of 32
+-- "The way back from place to number": the product of the two factors is 1 modulo 2 ^ 32.
+unfoldable pub accountAt : ℕ → ℕ
+accountAt p = p * 244_002_641 % 2 ^ 32
+
+-- "the place's first bits choose the bucket": "the account's first d bits, most significant first", of 32
 unfoldable pub firstBits : ℕ → ℕ → ℕ
-firstBits d a = place a % 2 ^ 32 / 2 ^ (32 - d)
+firstBits d a = place a / 2 ^ (32 - d)
 
 -- ---- tables
 
