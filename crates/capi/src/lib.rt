@@ -3,6 +3,7 @@
 // contract equals a definition of specs/Flat. include/totals.h declares them.
 ghost use mathlib.Core.Path.{_≡_};
 ghost use Rattle.interface.specs.Limits.{built};
+ghost use Rattle.machine.specs.Sequential.{place, accountAt};
 ghost use Rattle.opening.specs.Opening.{neededFor, openWords};
 ghost use Rattle.calls.specs.Calls.{callWords};
 ghost use Rattle.numbers.specs.Returned.{neededNumber, openedNumber, calledNumber};
@@ -87,4 +88,20 @@ pub extern "C" fn totals_list(
 {
     let answer = table::listing(words, accounts, totals);
     listed_number(report, answer)
+}
+
+// The place of an account: those whose places agree in the first bits share a bucket.
+#[no_mangle]
+pub extern "C" fn totals_place(account: u32) -> u32
+    ensures { λ r. ⌜ r ≡ place account ⌝ }
+{
+    table::place(account)
+}
+
+// The account at a place: the way back, exact in either order.
+#[no_mangle]
+pub extern "C" fn totals_account_at(place: u32) -> u32
+    ensures { λ r. ⌜ r ≡ accountAt place ⌝ }
+{
+    table::account_at(place)
 }

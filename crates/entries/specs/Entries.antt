@@ -1,8 +1,6 @@
--- The rows of one entry of the directory, for any words, and lists with rows in them. Rests on the regions of the lent
--- words.
+-- The rows of one entry of the directory, for any words. Rests on the regions of the lent words.
 use Prim.Native.Nat.{ℕ, zero, suc, _+_, _%_, _^_}
-use mathlib.Core.Path.{_≡_}
-use mathlib.Core.List.{List, [], _∷_, map}
+use mathlib.Core.List.{List, [], _∷_}
 use lib.Dec.{eqb}
 use lib.IntN.{ℤ}
 use mir.Syntax.{w64}
@@ -12,7 +10,6 @@ use Rattle.fields.specs.Fields.{recordCount, accountsFrom, totalsFrom}
 use Rattle.fields.specs.Regions.{directoryStart}
 use Rattle.machine.specs.Choice.{if_then_else_}
 use Rattle.machine.specs.Sequential.{firstBits}
-use Rattle.lists.specs.Parts.{overlay}
 use Rattle.memory.specs.Words.{least}
 use Rattle.layout.specs.Shape.{word}
 use Rattle.layout.specs.Addresses.{recordIn}
@@ -36,15 +33,3 @@ rowsIn l s e q i (suc c) =
 -- the rows of entry e: at most b accounts are looked at
 unfoldable pub rowsOf : List ℕ → Settings → ℕ → List (ℕ × ℤ)
 rowsOf l s e = rowsIn l s e (entryRecord l s e) 0 (least (word l (entryRecord l s e + recordCount)) (s .capacity))
-
--- a list of accounts and one of totals with the rows from position k on
-abbrev pub accountsWith : List ℕ → ℕ → List (ℕ × ℤ) → List ℕ
-accountsWith accounts k r = overlay accounts k (map (λ x. x .0) r)
-
-abbrev pub totalsWith : List ℤ → ℕ → List (ℕ × ℤ) → List ℤ
-totalsWith totals k r = overlay totals k (map (λ x. x .1) r)
-
--- what both lists are with the rows from position k on
-abbrev pub RowsWritten : List ℕ → List ℤ → ℕ → List (ℕ × ℤ) → List ℕ → List ℤ → Type 0
-RowsWritten accounts totals k r accountsAfter totalsAfter =
-    (accountsAfter ≡ accountsWith accounts k r) × (totalsAfter ≡ totalsWith totals k r)

@@ -45,7 +45,7 @@ abbrev pub markUnit : ℕ
 markUnit = depthUnit * (deepest + 1)
 
 abbrev pub mark : ℕ
-mark = 6_004_514_765
+mark = 6_004_514_766
 
 -- the least and the greatest first word with the mark and a depth that settings have
 abbrev pub leastFirst : ℕ

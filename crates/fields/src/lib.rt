@@ -25,7 +25,7 @@ pub const DEEPEST: u64 = 15;
 
 pub const MARK_UNIT: u64 = DEPTH_UNIT * (DEEPEST + 1);
 
-pub const MARK: u64 = 6004514765;
+pub const MARK: u64 = 6004514766;
 
 pub const LEAST_FIRST: u64 = MARK * MARK_UNIT;
 

@@ -1,19 +1,20 @@
 -- Bounds of the words of workers, slots and bucket records in words that fit. Rests on the regions of the lent words.
-use Prim.Native.Nat.{ℕ, suc, _+_, _-_, _*_, _%_, _^_, _≤_, _<_}
-use native.Mathlib.Nat.{suc-mul, mul-le-mul, mul-le-mul-right, mod-lt, lt-of-lt-of-le}
+use Prim.Native.Nat.{ℕ, suc, _+_, _*_, _^_, _≤_, _<_}
+use native.Mathlib.Nat.{suc-mul, mul-le-mul, mul-le-mul-right, lt-of-lt-of-le}
 use native.Mathlib.Omega.{arith}
-use mathlib.Core.Path.{_≡_, subst}
+use mathlib.Core.Path.{_≡_}
 use mathlib.Core.List.{List}
 use lib.Dec.{leb}
 use lib.ListN.{length}
-use lib.Pow.{pow-pos, pow-mono, shr-lt}
+use lib.Pow.{pow-mono}
 use borrow.Author.Tests.{leb-true}
 use Rattle.interface.specs.Limits.{greatestWorkers, greatestCapacity}
 use Rattle.interface.specs.declared.Settings.{Settings}
 use Rattle.fields.specs.Fields.{deepest, workerSize, widestRecord}
 use Rattle.fields.specs.Regions.{slotAt, workerAt, directoryStart}
-use Rattle.machine.specs.Sequential.{place, firstBits}
+use Rattle.machine.specs.Sequential.{firstBits}
 use Rattle.machine.proofs.laws.Base.{if-elim}
+use Rattle.machine.proofs.laws.Bits.{bits-below}
 use Rattle.memory.specs.Words.{least}
 use Rattle.memory.proofs.Lesser.{least-bound}
 use Rattle.layout.specs.Shape.{Fits, settingsOf}
@@ -88,14 +89,8 @@ pub held-inside : {l : List ℕ} {s : Settings} → Fits l s → (p : ℕ) → h
 unfolding heldBy
 held-inside {l} f p = record-in-inside l _ (long f)
 
-pub bits-below : (a m : ℕ) → m ≤ 32 → firstBits m a < 2 ^ m
-unfolding firstBits place
-bits-below a m h =
-    let e : 32 ≡ m + (32 - m) = omega arith in
-    shr-lt m (32 - m) (subst (λ (k : ℕ). a % 2 ^ 32 < 2 ^ k) e (mod-lt a (pow-pos 32)))
-
 pub bits-small : (a m : ℕ) → m ≤ deepest → firstBits m a < 2 ^ deepest
-bits-small a m h = lt-of-lt-of-le (bits-below a m (omega arith)) (pow-mono h)
+bits-small a m h = lt-of-lt-of-le (bits-below m a (omega arith)) (pow-mono h)
 
 -- ---- the accounts of a record that are looked at
 

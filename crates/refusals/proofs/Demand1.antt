@@ -34,7 +34,7 @@ use Rattle.lists.specs.Parts.{overlay}
 use Rattle.lists.proofs.PartLaws.{length-overlay}
 use Rattle.layout.specs.Shape.{word, strange, shapeOf}
 use Rattle.layout.proofs.Checks.{or-parts, zeros-strange}
-use Rattle.entries.specs.Entries.{accountsWith, totalsWith}
+use Rattle.sorting.specs.RowLists.{accountsWith, totalsWith}
 use Rattle.calls.specs.Calls.{callIn, callWords, endedAt}
 use Rattle.lookups.specs.Lookups.{lookupAt}
 use Rattle.updates.specs.Updates.{checkAt, updateAt, operationAt}

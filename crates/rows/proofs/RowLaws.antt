@@ -20,10 +20,14 @@ use Rattle.machine.proofs.laws.Base.{if-true, if-false}
 use Rattle.lists.specs.Parts.{overlay}
 use Rattle.layout.specs.Shape.{strange, shapeOf, Fits}
 use Rattle.layout.proofs.Checks.{fits-of, depth-of}
-use Rattle.rows.specs.Rows.{rowsFrom, rows, shown, listingWords}
+use Rattle.sorting.specs.Sorting.{sorted}
+use Rattle.sorting.specs.RowLists.{RowsWritten, firstRows}
+use Rattle.sorting.proofs.Insertion.{sorted-length}
+use Rattle.sorting.proofs.Rows.{written-over, first-rows-written}
+use Rattle.rows.specs.Rows.{rowsFrom, unsorted, rows, shown, listingWords}
 use Rattle.entries.specs.Entries.{rowsOf}
 use Rattle.entries.proofs.EntryLaws.{entry-limit, span-limit}
-use Rattle.lists.proofs.PartLaws.{overlay-join}
+use Rattle.lists.proofs.PartLaws.{overlay-join, length-overlay}
 
 -- ---- the entries
 
@@ -53,8 +57,8 @@ module _ (l : List ℕ) (s : Settings) where
   counted-entry e = ap length (entries-more e) ∙ length-append (rowsFrom l s 0 e) (rowsOf l s e)
 
   -- there is room for the rows of one entry more
-  pub entry-room : (e n : ℕ) → e < 2 ^ s .depth → length (rows l s) ≤ n → length (rowsFrom l s 0 e) + length (rowsOf l s e) ≤ n
-  unfolding rows
+  pub entry-room : (e n : ℕ) → e < 2 ^ s .depth → length (unsorted l s) ≤ n → length (rowsFrom l s 0 e) + length (rowsOf l s e) ≤ n
+  unfolding unsorted
   entry-room e n h m =
       let k : e + 1 + (2 ^ s .depth - (e + 1)) ≡ 2 ^ s .depth = omega arith in
       let x = counted-entry e in
@@ -71,11 +75,11 @@ module _ (l : List ℕ) (s : Settings) where
 
 -- words that pass 8 have no more rows than 256 buckets of 16
 pub rows-few : (l : List ℕ) → strange l ≡ false → length (rows l (shapeOf l)) ≤ 4_096
-unfolding rows
+unfolding rows unsorted
 rows-few l e =
     let n : 2 ^ shapeOf l .depth ≤ 256 = pow-mono (depth-of l e) in
     let h = entries-limit l (shapeOf l) (fits-of l e) 0 (2 ^ shapeOf l .depth) in
-    omega arith
+    omega (arith, sorted-length (unsorted l (shapeOf l)))
 
 -- rows written behind rows
 pub written-behind :
@@ -85,6 +89,29 @@ pub written-behind :
 written-behind f a w v k xs ys zs e n h g =
     let m : k ≡ 0 + length (map f xs) = simp length-map (omega arith) in
     h ∙ rw (e, m, g, map-append) (overlay-join a 0 (map f xs) (map f ys) (omega arith))
+
+as-many : {A : Type 0} (f : ℕ × ℤ → A) (r : List (ℕ × ℤ)) → length (map f r) ≡ length (map f (sorted r))
+as-many f r = length-map r f ∙ sym (sorted-length r) ∙ sym (length-map (sorted r) f)
+
+-- there is room for the written rows to be sorted, and sorted they are as if written so
+module _ (l : List ℕ) (s : Settings) (k : ℕ) (count : k ≡ length (unsorted l s)) (accounts : List ℕ) (totals : List ℤ) (a : List ℕ)
+    (t : List ℤ) (written : RowsWritten accounts totals 0 (unsorted l s) a t) where
+  abbrev r : List (ℕ × ℤ)
+  r = unsorted l s
+
+  pub sort-room : k ≤ length accounts → k ≤ length totals → (k ≤ length a) × (k ≤ length t)
+  sort-room h n = (
+    rw (written .0, length-overlay accounts 0 (map (λ x. x .0) r) (simp length-map (omega arith))) h,
+    rw (written .1, length-overlay totals 0 (map (λ x. x .1) r) (simp length-map (omega arith))) n,
+  )
+
+  pub sorted-written :
+      (b : List ℕ) (u : List ℤ) → RowsWritten a t 0 (sorted (firstRows a t k)) b u → RowsWritten accounts totals 0 (sorted r) b u
+  sorted-written b u after =
+      let first : firstRows a t k ≡ r = rw count (first-rows-written accounts totals r a t written) in (
+        after .0 ∙ rw (first, written .0) (written-over accounts _ (map (λ x. x .0) (sorted r)) (as-many (λ x. x .0) r)),
+        after .1 ∙ rw (first, written .1) (written-over totals _ (map (λ x. x .1) (sorted r)) (as-many (λ x. x .1) r)),
+      )
 
 -- the entries of the directory at depth d, as the code computes their number
 pub span-is : (d : ℕ) → d ≤ 15 → 1 * 2 ^ d % 18_446_744_073_709_551_616 ≡ 2 ^ d
@@ -100,7 +127,11 @@ module _ (l a : List ℕ) (t : List ℤ) (x : Bool) (tested : x ≡ strange l) w
   unfolding listingWords
   listing-strange e = sym (if-true _ _ (sym tested ∙ e))
 
-  module _ (g : Settings) (k : ℕ) (passed : x ≡ false) (read : g ≡ shapeOf l) (count : k ≡ length (rows l g)) where
+  module _ (g : Settings) (k : ℕ) (passed : x ≡ false) (read : g ≡ shapeOf l) (counted : k ≡ length (unsorted l g)) where
+    count : k ≡ length (rows l g)
+    unfolding rows
+    count = counted ∙ sym (sorted-length (unsorted l g))
+
     listing-shown : shown a t (rows l g) ≡ listingWords l a t
     unfolding listingWords
     listing-shown = rw read (sym (if-false _ _ (sym tested ∙ passed)))
@@ -112,12 +143,11 @@ module _ (l a : List ℕ) (t : List ℤ) (x : Bool) (tested : x ≡ strange l) w
         ⊎-elim (λ n. rw (lt-ltb _ _ (rw count at n))) (λ n. rw (lt-ltb _ _ (rw count at n), or-true)) h ∙ listing-shown
 
     pub listing-all :
-        (b : List ℕ) (u : List ℤ) → k ≤ length a → k ≤ length t → b ≡ overlay a 0 (map (λ z. z .0) (rows l g))
-        → u ≡ overlay t 0 (map (λ z. z .1) (rows l g))
+        (b : List ℕ) (u : List ℤ) → k ≤ length a → k ≤ length t → RowsWritten a t 0 (sorted (unsorted l g)) b u
         → record { accounts = b; totals = u; listed = Listed.Count k } ≡ listingWords l a t
-    unfolding shown if_then_else_
-    listing-all b u n m e f =
-        rw (e, f, count) ((rw (
+    unfolding rows shown if_then_else_
+    listing-all b u n m w =
+        rw (w .0, w .1, count) ((rw (
           le-ltb (length a) (length (rows l g)) (rw count at n),
           le-ltb (length t) (length (rows l g))
               (rw count at m),

@@ -1,5 +1,5 @@
--- The listing on the words, for any words: for each entry of the directory at depth M in order, those accounts of its
--- bucket whose first M bits are the entry. Rests on the rows of one entry.
+-- The listing on the words, for any words: for each entry of the directory at depth M, those accounts of its bucket
+-- whose first M bits are the entry; all of them by account, ascending. Rests on the rows of one entry, and on sorting.
 use Prim.Native.Nat.{ℕ, zero, suc, _^_}
 use mathlib.Core.Bool.{_||_}
 use mathlib.Core.List.{List, [], _++_}
@@ -11,15 +11,21 @@ use Rattle.interface.specs.declared.Refusal.{Refusal}
 use Rattle.interface.specs.declared.Listed.{Listed}
 use Rattle.machine.specs.Choice.{if_then_else_}
 use Rattle.layout.specs.Shape.{strange, shapeOf}
-use Rattle.entries.specs.Entries.{rowsOf, accountsWith, totalsWith}
+use Rattle.sorting.specs.Sorting.{sorted}
+use Rattle.sorting.specs.RowLists.{accountsWith, totalsWith}
+use Rattle.entries.specs.Entries.{rowsOf}
 
--- the rows of k entries from e on
+-- the rows of k entries from e on, in the directory's order
 unfoldable pub rowsFrom : List ℕ → Settings → ℕ → ℕ → List (ℕ × ℤ)
 rowsFrom l s e zero = []
 rowsFrom l s e (suc k) = rowsOf l s e ++ rowsFrom l s (suc e) k
 
+unfoldable pub unsorted : List ℕ → Settings → List (ℕ × ℤ)
+unsorted l s = rowsFrom l s 0 (2 ^ s .depth)
+
+-- "it writes accounts ascending with their totals": by number, whatever their places are
 unfoldable pub rows : List ℕ → Settings → List (ℕ × ℤ)
-rows l s = rowsFrom l s 0 (2 ^ s .depth)
+rows l s = sorted (unsorted l s)
 
 -- the two lists and the answer
 pub record Shown : Type 0 where

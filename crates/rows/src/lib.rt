@@ -1,11 +1,11 @@
-// The listing: for each entry of the directory at depth M in order, those accounts of its bucket whose first M bits
-// are the entry.
+// The listing: for each entry of the directory at depth M, those accounts of its bucket whose first M bits are the
+// entry, all of them then sorted by account.
 ghost use mathlib.Core.Path.{_≡_};
 ghost use Prim.Native.Nat.{_≤_};
 ghost use lib.ListN.{length};
 ghost use Rattle.layout.specs.Shape.{Fits};
-ghost use Rattle.entries.specs.Entries.{RowsWritten};
-ghost use Rattle.rows.specs.Rows.{rows, listingWords};
+ghost use Rattle.sorting.specs.RowLists.{RowsWritten};
+ghost use Rattle.rows.specs.Rows.{unsorted, listingWords};
 use entries::count_in;
 use entries::write_in;
 use fields::HEADER_SETTINGS;
@@ -18,7 +18,7 @@ use layout::shape::strange_words;
 // How many rows there are.
 fn count(words: &[u64], g: Settings) -> usize
     requires { ⌜ Fits (now words) g ⌝ }
-    ensures { λ r. ⌜ r ≡ length (rows (now (words .entry)) g) ⌝ }
+    ensures { λ r. ⌜ r ≡ length (unsorted (now (words .entry)) g) ⌝ }
 {
     let span: usize = 1 << g.depth;
     let mut k: usize = 0;
@@ -30,11 +30,11 @@ fn count(words: &[u64], g: Settings) -> usize
     k
 }
 
-// All rows written.
+// All rows written, in the directory's order.
 fn write(words: &[u64], g: Settings, accounts: &mut [u32], totals: &mut [i64])
-    requires { ⌜ Fits (now words) g × ((length (rows (now words) g) ≤ length (now accounts))
-        × (length (rows (now words) g) ≤ length (now totals))) ⌝ }
-    ensures { λ _. ⌜ RowsWritten (now (accounts .entry)) (now (totals .entry)) 0 (rows (now (words .entry)) g)
+    requires { ⌜ Fits (now words) g × ((length (unsorted (now words) g) ≤ length (now accounts))
+        × (length (unsorted (now words) g) ≤ length (now totals))) ⌝ }
+    ensures { λ _. ⌜ RowsWritten (now (accounts .entry)) (now (totals .entry)) 0 (unsorted (now (words .entry)) g)
         (now (accounts .exit)) (now (totals .exit)) ⌝ }
 {
     let span: usize = 1 << g.depth;
@@ -63,5 +63,6 @@ pub fn listing(words: &[u64], accounts: &mut [u32], totals: &mut [i64]) -> Liste
         return Listed::Refused(Refusal::Narrow);
     }
     write(words, g, accounts, totals);
+    sorting::sort(accounts, totals, k);
     Listed::Count(k as u64)
 }

@@ -5,7 +5,7 @@ ghost use mathlib.Core.Path.{_≡_};
 ghost use Prim.Native.Nat.{_+_, _≤_, _<_};
 ghost use lib.ListN.{length};
 ghost use Rattle.fields.specs.Fields.{slotSize};
-ghost use Rattle.machine.specs.Sequential.{place, firstBits};
+ghost use Rattle.machine.specs.Sequential.{firstBits};
 ghost use Rattle.rules.specs.Rules.{fullBy, holdsBackBy, splittableBy, descriptorIn, createsBy, crowdedBy, answerBy, flipBit, pendingBy};
 use arrays::Position;
 use fields::SLOT_ACCOUNT;
@@ -26,19 +26,12 @@ pub struct Descriptor {
 
 // ---- the bits of an account
 
-// The number whose bits place an account in the directory.
-pub fn place(account: u64) -> u64
-    ensures { λ r. ⌜ r ≡ place account ⌝ }
-{
-    account
-}
-
-// The first d bits of an account, of 32.
+// The first d bits of an account: those of its place, of 32.
 pub fn first_bits(d: u64, account: u64) -> u64
     ensures { λ r. ⌜ r ≡ firstBits d account ⌝ }
 {
     let rest: u64 = if d < 32 { 32 - d } else { 0 };
-    (place(account) % 4294967296) >> rest
+    places::place_in(account) >> rest
 }
 
 // ---- full buckets: by the settings, the bucket's depth and how many accounts it has

@@ -1,26 +1,26 @@
 -- The listing on words that mean a machine is the machine's: each entry's rows are the accounts of the plain table with its first bits, and
--- all entries together are the whole. Rests on what a bucket record's words mean and on the laws of tables.
+-- all entries together, sorted, are the whole. Rests on what a bucket record's words mean and on the laws of tables.
 use Prim.Native.Nat.{ℕ, zero, suc, _+_, _-_, _^_, _≤_, _<_}
 use native.Mathlib.Omega.{arith}
 use native.Mathlib.Nat.{add-zero, zero-add, mod-eq-of-lt}
 use native.Mathlib.Decide.{ℕ-discrete, decLt}
-use lib.Pow.{shr-mono}
 use mathlib.Core.Path.{_≡_, refl, ap, sym, _∙_, subst, subst⁻¹}
-use mathlib.Core.Bool.{true}
+use mathlib.Core.Bool.{true, false}
 use mathlib.Core.List.{List, [], _∷_, _++_}
 use lib.Dec.{leb, eqb}
+use lib.IntN.{ℤ}
 use lib.ListN.{length, getD, take}
 use lib.Seq.{length-take-le, getD-take}
-use borrow.Author.Tests.{le-leb, lt-leb, eq-eqb, ne-eqb}
+use borrow.Author.Tests.{le-leb, lt-leb, eq-eqb, ne-eqb, lt-ltb, le-ltb}
 use Rattle.interface.specs.Limits.{inRange, Range}
 use Rattle.interface.proofs.Laws.{range-of}
 use Rattle.interface.specs.declared.Settings.{Settings}
 use Rattle.machine.specs.Choice.{if_then_else_}
-use Rattle.machine.specs.Sequential.{Table, place, firstBits, having, AccountsAbove, Ascending}
+use Rattle.machine.specs.Sequential.{Table, firstBits, having, AccountsAbove, Ascending}
 use Rattle.machine.specs.Records.{Name, Leaf, Machine}
 use Rattle.machine.specs.DirectoryPass.{copyOf, nameOf}
 use Rattle.machine.specs.Calls.{contents}
-use Rattle.machine.proofs.laws.Base.{if-elim, if-false, if-eq, if-ne}
+use Rattle.machine.proofs.laws.Base.{if-elim, if-true, if-false}
 use Rattle.machine.proofs.laws.Bits.{bits-below, representative, bits-representative}
 use Rattle.machine.proofs.laws.Tables.{having-having}
 use Rattle.machine.proofs.laws.Copies.{Coherent, depthAt-le, leafOf-copyOf, partition-name, partition-of}
@@ -40,16 +40,43 @@ use Rattle.record.proofs.Runs.{getD-copied}
 use Rattle.layout.specs.Shape.{word}
 use Rattle.layout.specs.Addresses.{recordIn, recordOf}
 use Rattle.entries.specs.Entries.{entryRecord, rowAt, rowsIn, rowsOf}
-use Rattle.rows.specs.Rows.{rowsFrom, rows}
+use Rattle.sorting.specs.Sorting.{notAfter, insertRow, sorted}
+use Rattle.rows.specs.Rows.{rowsFrom, unsorted, rows}
 use Rattle.simulation.specs.Meaning.{at, current, Meaning}
 use Rattle.simulation.proofs.frames.Entering.{directed-record}
 
 -- ---- a table by the first bits of its accounts
 
--- every account has 32 bits
-abbrev Narrow : Table → Type 0
-Narrow [] = Unit {0}
-Narrow (x ∷ t) = (x .0 < 2 ^ 32) × Narrow t
+-- a row below another is not after it, and the other is after it
+module _ (x y : ℕ × ℤ) (below : x .0 < y .0) where
+  before-it : notAfter x y ≡ true
+  unfolding notAfter
+  before-it = rw (lt-ltb (x .0) (y .0) below)
+
+  after-it : notAfter y x ≡ false
+  unfolding notAfter
+  after-it = rw (le-ltb (y .0) (x .0) (omega arith), ne-eqb (y .0) (x .0) (λ e. omega arith))
+
+-- rows put one by one into sorted rows, the last one first
+unfoldable insertRows : Table → Table → Table
+insertRows [] r = r
+insertRows (x ∷ p) r = insertRow x (insertRows p r)
+
+sorted-append : (p r : Table) → sorted (p ++ r) ≡ insertRows p (sorted r)
+unfolding sorted insertRows
+sorted-append [] r = refl
+sorted-append (x ∷ p) r = ap (insertRow x) (sorted-append p r)
+
+-- a row below all of a table stays the first
+insert-first : (x : ℕ × ℤ) (t : Table) → AccountsAbove (x .0) t → insertRow x t ≡ x ∷ t
+unfolding insertRow
+insert-first x [] h = refl
+insert-first x (y ∷ t) h = if-true _ _ (before-it x y (h .0))
+
+first-stays : (x : ℕ × ℤ) (p r : Table) → AccountsAbove (x .0) p → insertRows p (x ∷ r) ≡ x ∷ insertRows p r
+unfolding insertRows insertRow
+first-stays x [] r h = refl
+first-stays x (y ∷ p) r h = ap (insertRow y) (first-stays x p r (h .1)) ∙ if-false _ _ (after-it x y (h .0))
 
 -- the accounts whose first d bits are e or more
 unfoldable from : ℕ → ℕ → Table → Table
@@ -57,36 +84,37 @@ from d e [] = []
 from d e (x ∷ t) = if leb e (firstBits d (x .0)) then x ∷ from d e t else from d e t
 
 module _ (d : ℕ) where
-  bits-rise : (a c : ℕ) → a ≤ c → a < 2 ^ 32 → c < 2 ^ 32 → firstBits d a ≤ firstBits d c
-  unfolding firstBits place
-  bits-rise a c h k g = rw (mod-eq-of-lt k, mod-eq-of-lt g) (shr-mono (32 - d) h)
-
-  -- past an account with more
-  none-left : (e x : ℕ) (t : Table) → AccountsAbove x t → Narrow t → x < 2 ^ 32 → e < firstBits d x → having d e t ≡ []
+  above-having : (e x : ℕ) (t : Table) → AccountsAbove x t → AccountsAbove x (having d e t)
   unfolding having
-  none-left e x [] h k g b = refl
-  none-left e x (y ∷ t) h k g b =
-      let r = bits-rise x (y .0) (omega (arith, h .0)) g (k .0) in
-      if-ne (firstBits d (y .0)) e _ _ (λ z. omega arith) ∙ none-left e x t (h .1) (k .1) g b
+  above-having e x [] h = tt
+  above-having e x (y ∷ t) h =
+      if-elim (AccountsAbove x) _ _ _ (λ q. (h .0, above-having e x t (h .1))) (λ q. above-having e x t (h .1))
 
-  -- those with e stand before those with more
-  from-split : (e : ℕ) (t : Table) → Ascending t → Narrow t → from d e t ≡ having d e t ++ from d (suc e) t
-  unfolding from having if_then_else_
-  from-split e [] h k = refl
-  from-split e (x ∷ t) h k = go (from-split e t (h .1) (k .1)) (decLt b e) (ℕ-discrete b e)
+  above-from : (e x : ℕ) (t : Table) → AccountsAbove x t → AccountsAbove x (from d e t)
+  unfolding from
+  above-from e x [] h = tt
+  above-from e x (y ∷ t) h =
+      if-elim (AccountsAbove x) _ _ _ (λ q. (h .0, above-from e x t (h .1))) (λ q. above-from e x t (h .1))
+
+  -- those with e put into those with more
+  from-join : (e : ℕ) (t : Table) → Ascending t → insertRows (having d e t) (from d (suc e) t) ≡ from d e t
+  unfolding from having insertRows if_then_else_
+  from-join e [] h = refl
+  from-join e (x ∷ t) h = go (from-join e t (h .1)) (decLt b e) (ℕ-discrete b e)
     where
       b : ℕ
       b = firstBits d (x .0)
 
       go :
-          from d e t ≡ having d e t ++ from d (suc e) t → Dec (b < e) → Dec (b ≡ e)
-          → from d e (x ∷ t) ≡ having d e (x ∷ t) ++ from d (suc e) (x ∷ t)
+          insertRows (having d e t) (from d (suc e) t) ≡ from d e t → Dec (b < e) → Dec (b ≡ e)
+          → insertRows (having d e (x ∷ t)) (from d (suc e) (x ∷ t)) ≡ from d e (x ∷ t)
       go again (yes less) q = rw (lt-leb e b less, ne-eqb b e (λ z. omega arith), lt-leb (suc e) b (omega arith)) again
       go again (no more) (yes same) =
-          rw (le-leb e b (omega arith), eq-eqb b e same, lt-leb (suc e) b (omega arith)) (ap (λ (y : Table). x ∷ y) again)
+          rw (le-leb e b (omega arith), eq-eqb b e same, lt-leb (suc e) b (omega arith))
+          (ap (insertRow x) again ∙ insert-first x (from d e t) (above-from e (x .0) t (h .0)))
       go again (no more) (no other) =
-          let empty = none-left e (x .0) t (h .0) (k .1) (k .0) (omega arith) in
-          rw (le-leb e b (omega arith), ne-eqb b e other, le-leb (suc e) b (omega arith), again, empty)
+          rw (le-leb e b (omega arith), ne-eqb b e other, le-leb (suc e) b (omega arith))
+          (first-stays x (having d e t) (from d (suc e) t) (above-having e (x .0) t (h .0)) ∙ ap (λ (y : Table). x ∷ y) again)
 
   from-zero : (t : Table) → from d 0 t ≡ t
   unfolding from if_then_else_
@@ -97,27 +125,6 @@ module _ (d : ℕ) where
   unfolding from
   from-end small [] = refl
   from-end small (x ∷ t) = if-false _ _ (lt-leb (2 ^ d) (firstBits d (x .0)) (bits-below d (x .0) small)) ∙ from-end small t
-
--- a table whose parts are narrow is narrow
-narrow-parts : (t : Table) (f : ℕ → ℕ) → ((a : ℕ) → Narrow (having (f a) (firstBits (f a) a) t)) → Narrow t
-unfolding having
-narrow-parts [] f h = tt
-narrow-parts (x ∷ t) f h = (
-  rw (if-eq (firstBits (f (x .0)) (x .0)) _ _ _ refl) at (h (x .0)) .0,
-  narrow-parts t f (λ a. rest a (firstBits (f a) (x .0)) (h a)),
-)
-  where
-    part : ℕ → Table
-    part a = having (f a) (firstBits (f a) a) t
-
-    rest : (a b : ℕ) → Narrow (if eqb b (firstBits (f a) a) then x ∷ part a else part a) → Narrow (part a)
-    rest a b = if-elim (λ (y : Table). Narrow y → Narrow (part a)) (eqb b (firstBits (f a) a)) _ _ (λ z k. k .1) (λ z k. k)
-
-narrow-pairs : (xs vs : List ℕ) → Below (2 ^ 32) xs → Narrow (pairs xs vs)
-unfolding pairs
-narrow-pairs [] vs h = tt
-narrow-pairs (a ∷ xs) [] h = tt
-narrow-pairs (a ∷ xs) (v ∷ vs) h = (h .0, narrow-pairs xs vs (h .1))
 
 items-are : (x : BucketState) → Sound x → itemsOf x ≡ pairs (take (x .count) (x .accounts)) (take (x .count) (x .totals))
 unfolding itemsOf
@@ -179,12 +186,6 @@ module _ (s : Settings) (range : inRange (s .workers) (s .capacity) (s .depth) �
         state = rw (x .2) at (k .state);
       }
 
-  narrow : Narrow t
-  narrow = narrow-parts t (λ a. leaf (m .cells) a .depth) (λ a. rw (← parts .part a) (items a (recorded a)))
-    where
-      items : (a : ℕ) → RecordOf a → Narrow (leafBody (m .cells) a .items)
-      items a p = rw (← p .state .items, items-are _ (p .state .sound)) (narrow-pairs _ _ (p .state .sound .narrow))
-
   -- the rows that a record's words are
   record-rows :
       (e a : ℕ) (p : RecordOf a)
@@ -235,16 +236,17 @@ module _ (s : Settings) (range : inRange (s .workers) (s .capacity) (s .depth) �
       (record-rows e a p ∙ subst (λ (x : ℕ). having (s .depth) x (leafBody (m .cells) a .items) ≡ having (s .depth) x t) bits
       (ap (having (s .depth) (firstBits (s .depth) a)) (parts .part a) ∙ part))
 
-  rows-from : (e k : ℕ) → e + k ≡ 2 ^ s .depth → rowsFrom l s e k ≡ from (s .depth) e t
-  unfolding rowsFrom
+  rows-from : (e k : ℕ) → e + k ≡ 2 ^ s .depth → sorted (rowsFrom l s e k) ≡ from (s .depth) e t
+  unfolding rowsFrom sorted
   rows-from e zero h =
       let k : e ≡ 2 ^ s .depth = omega arith in
       sym (rw k (from-end (s .depth) (omega (arith, limits .greatest-depth)) t))
   rows-from e (suc k) h =
-      rw (entry-rows e (omega arith), rows-from (suc e) k (omega arith)) (sym (from-split (s .depth) e t (parts .ascending) narrow))
+      sorted-append (rowsOf l s e) (rowsFrom l s (suc e) k)
+      ∙ rw (entry-rows e (omega arith), rows-from (suc e) k (omega arith)) (from-join (s .depth) e t (parts .ascending))
 
   pub rows-table : rows l s ≡ t
-  unfolding rows
+  unfolding rows unsorted
   rows-table = rows-from 0 (2 ^ s .depth) (omega arith) ∙ from-zero (s .depth) t
 
   pub rows-are : rows l s ≡ contents m

@@ -22,7 +22,9 @@ use Rattle.machine.specs.Sequential.{Table}
 use Rattle.machine.proofs.laws.Base.{if-elim, if-true}
 use Rattle.layout.specs.Shape.{strange, shapeOf, word}
 use Rattle.entries.specs.Entries.{rowAt, rowsIn, rowsOf}
-use Rattle.rows.specs.Rows.{rowsFrom, rows, Shown, shown, listingWords}
+use Rattle.sorting.specs.Sorting.{insertRow, sorted}
+use Rattle.sorting.proofs.Insertion.{sorted-length}
+use Rattle.rows.specs.Rows.{rowsFrom, unsorted, rows, Shown, shown, listingWords}
 use Rattle.commands.specs.declared.Command.{Command}
 use Rattle.replies.specs.declared.Reply.{Reply}
 use Rattle.lists.specs.Parts.{overlay}
@@ -127,9 +129,33 @@ unfolding rowsFrom rowsOf printedRows
 short-from l s e zero = record { size = omega arith }
 short-from l s e (suc k) = short-append _ _ (short-in l s e _ 0 _) (short-from l s (suc e) k)
 
+-- sorted rows are printed as long
+printed-inserted :
+    (x : ℕ × ℤ) (r : Table) → length (printedRows (insertRow x r)) ≡ length (printedRow (x .0) (x .1)) + length (printedRows r)
+unfolding insertRow printedRows
+printed-inserted x [] = length-append (printedRow (x .0) (x .1)) []
+printed-inserted x (y ∷ r) =
+    if-elim (λ (z : Table). length (printedRows z) ≡ length (printedRow (x .0) (x .1)) + length (printedRows (y ∷ r))) _ _ _
+    (λ e. length-append (printedRow (x .0) (x .1)) (printedRows (y ∷ r)))
+    (λ e. omega (
+      arith,
+      printed-inserted x r,
+      length-append (printedRow (y .0) (y .1)) (printedRows (insertRow x r)),
+      length-append (printedRow (y .0) (y .1)) (printedRows r),
+    ))
+
+printed-sorted : (r : Table) → length (printedRows (sorted r)) ≡ length (printedRows r)
+unfolding sorted printedRows
+printed-sorted [] = refl
+printed-sorted (x ∷ r) =
+    printed-inserted x (sorted r) ∙ rw (printed-sorted r) (sym (length-append (printedRow (x .0) (x .1)) (printedRows r)))
+
 short-rows : (l : List ℕ) → Short (rows l (shapeOf l))
-unfolding rows
-short-rows l = short-from l (shapeOf l) 0 _
+unfolding rows unsorted
+short-rows l =
+    let r = unsorted l (shapeOf l) in
+    let h = short-from l (shapeOf l) 0 (2 ^ shapeOf l .depth) .size in
+    record { size = rw (printed-sorted r, sorted-length r) h }
 
 -- ---- the lists that a listing leaves
 

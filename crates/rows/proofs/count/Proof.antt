@@ -5,7 +5,7 @@ use native.Mathlib.Nat.{le-antisymm}
 use native.Mathlib.Omega.{arith}
 use mathlib.Core.Path.{_≡_, refl, _∙_, ap}
 use lib.ListN.{length}
-use Rattle.rows.specs.Rows.{rowsFrom, rows}
+use Rattle.rows.specs.Rows.{rowsFrom, unsorted}
 use Rattle.rows.proofs.RowLaws.{span-is, counted-entry}
 use Rattle.entries.proofs.EntryLaws.{span-limit, entry-limit}
 use borrow.Author.Needs.{needs}
@@ -46,7 +46,7 @@ loop-again c =
     (l .inv .0, (omega arith, (omega arith, omega arith)))
 
 returns : tie.Need-returns Inv-loop μ-loop
-unfolding rows
+unfolding unsorted
 returns c =
     let s = c .before .before .before .args in
     let l = c .before .loop in

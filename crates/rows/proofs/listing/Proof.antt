@@ -1,9 +1,9 @@
--- `listing` refuses, or writes every row, as `listingWords` says: a case for each `return`.
+-- `listing` refuses, or writes every row and sorts them, as `listingWords` says: a case for each `return`.
 -- Rests on the laws of the listing.
 use native.Mathlib.Omega.{arith}
 use mathlib.Core.Logic.{inl, inr}
 use mathlib.Core.Path.{sym, _∙_}
-use Rattle.rows.proofs.RowLaws.{listing-strange, listing-narrow, listing-all}
+use Rattle.rows.proofs.RowLaws.{sort-room, sorted-written, listing-strange, listing-narrow, listing-all}
 use Rattle.layout.proofs.Checks.{fits-of, fits-read}
 use borrow.Author.Needs.{needs}
 use Rattle.rows.proofs.listing.Statement.{statement}
@@ -43,9 +43,18 @@ write-requires c κs =
     let f = fits-read _ _ _ (strange-words .strange-words .ensures) (test .if1 .left) (settings-of .settings-of .ensures) in
     (f, (omega (arith, count .count .ensures), omega (arith, count .count .ensures)))
 
+sort-requires : tie.Need-sort-requires
+sort-requires c κs =
+    let write = c .before .before .before .before .before in
+    let test3 = write .before .before .before in
+    let test2 = test3 .before in
+    let count = test2 .before in
+    sort-room _ _ _ (count .count .ensures) _ _ _ _ (write .write .ensures) (test2 .if2 .left) (test3 .if3 .left)
+
 returns-4 : tie.Need-returns-4
 returns-4 c =
-    let write = c .before .before .before in
+    let sort = c .before .before .before in
+    let write = sort .before .before .before .before .before .before in
     let test3 = write .before .before .before in
     let test2 = test3 .before in
     let count = test2 .before in
@@ -53,9 +62,10 @@ returns-4 c =
     let test = settings-of .before .before in
     let strange-words = test .before in
     listing-all _ _ _ _ (strange-words .strange-words .ensures) _ _ (test .if1 .left) (settings-of .settings-of .ensures)
-    (count .count .ensures) _ _ (test2 .if2 .left) (test3 .if3 .left) (write .write .ensures .0) (write .write .ensures .1)
+    (count .count .ensures) _ _ (test2 .if2 .left) (test3 .if3 .left)
+    (sorted-written _ _ _ (count .count .ensures) _ _ _ _ (write .write .ensures) _ _ (sort .sort .ensures))
 
 pub listing-spec : {M : Type 1} → statement M
 listing-spec =
     tie.close (tie.spec (λ c κs. search needs) returns shared-slice-read-settings-of (λ c κs. search needs)
-    count-requires returns-2 returns-3 write-requires (λ c. search needs) (λ c. search needs) returns-4)
+    count-requires returns-2 returns-3 write-requires sort-requires (λ c. search needs) (λ c. search needs) returns-4)

@@ -9,7 +9,7 @@ use mathlib.Core.List.{map}
 use lib.ListN.{length}
 use Rattle.lists.specs.Parts.{overlay}
 use Rattle.entries.specs.Entries.{rowsOf}
-use Rattle.rows.specs.Rows.{rowsFrom, rows}
+use Rattle.rows.specs.Rows.{rowsFrom, unsorted}
 use Rattle.lists.proofs.PartLaws.{overlay-nil}
 use Rattle.rows.proofs.RowLaws.{span-is, entries-more, counted-entry, entry-room, written-behind}
 use borrow.Author.Needs.{needs}
@@ -78,7 +78,7 @@ loop-again c =
     )
 
 returns : tie.Need-returns Inv-loop μ-loop
-unfolding rows
+unfolding unsorted
 returns c =
     let s = c .before .before .before .before .args in
     let l = c .before .loop in

@@ -1,14 +1,13 @@
 -- Words of regions after a store, and what a change inside one region keeps of the meaning. Rests on the laws of regions.
 use Prim.Native.Nat.{ℕ, _+_, _*_, _-_, _%_, _^_, _≤_, _<_}
 use native.Mathlib.Omega.{arith}
-use native.Mathlib.Nat.{add-assoc, zero-add, mod-lt, div-le-self, pow-le-pow-right}
+use native.Mathlib.Nat.{add-assoc, zero-add, div-le-self, pow-le-pow-right}
 use native.Mathlib.Decide.{ℕ-discrete, decLt}
 use mathlib.Core.Path.{_≡_, refl, ap, sym, _∙_, subst⁻¹}
 use mathlib.Core.Logic.{_≢_, _⊎_, inl, inr, ⊎-elim, by-cases}
 use mathlib.Core.List.{List}
 use lib.ListN.{length, getD, set, length-set}
 use lib.Seq.{getD-set-same, getD-set-other}
-use lib.Pow.{pow-pos}
 use Rattle.interface.specs.declared.Settings.{Settings}
 use Rattle.machine.specs.Choice.{assign}
 use Rattle.machine.specs.Records.{Bucket, Worker, Machine}
@@ -16,6 +15,7 @@ use Rattle.fields.specs.Fields.{headerSettings, headerNeeded, headerDepth, head
 use Rattle.fields.specs.Regions.{slotRead, readAt, poolSize, wordsNeeded, Region, record′, startOf, regionSize, Within, header, slot, worker, entry}
 use Rattle.machine.specs.Sequential.{place, firstBits}
 use Rattle.machine.proofs.laws.Base.{assign-other}
+use Rattle.machine.proofs.laws.Places.{place-below}
 use Rattle.machine.proofs.laws.Bits.{bits-below}
 use Rattle.machine.specs.Passed.{HoldsBucket}
 use Rattle.machine.specs.Counter.{PC, inB}
@@ -87,10 +87,9 @@ entry-within s a = by-cases (decLt (s .depth) 33) (λ h. bits-below (s .depth) a
   where
     deep : 32 ≤ s .depth → firstBits (s .depth) a < 2 ^ s .depth
     deep h =
-        let small : place a % 2 ^ 32 < 2 ^ 32 = mod-lt (place a) (pow-pos 32) in
-        let less = div-le-self (place a % 2 ^ 32) (2 ^ (32 - s .depth)) in
+        let less = div-le-self (place a) (2 ^ (32 - s .depth)) in
         let wide : 2 ^ 32 ≤ 2 ^ s .depth = pow-le-pow-right (omega arith) h in
-        omega arith
+        omega (arith, place-below a)
 
 -- ---- a region whose words are the same
 
