@@ -1,6 +1,7 @@
 #!/usr/bin/env bash
 # Random input, answered by the compiled program and by the second model: every byte has to agree, and every sort of
-# answer has to occur.
+# answer has to occur. About half of the calls go to accounts drawn as places that agree in their first M bits, most of
+# the others to accounts from 1000 up (model/README.md).
 # compare.sh [--crowded] [SEED LINES]...: without arguments, fixed seeds of 500,000 lines in all, the first 100,000
 # crowded, and each wrong machine of the model has to be told from the program by the last of them. With --crowded every
 # table has b 2 and M 0 to 2, and buckets that are full most of the time.

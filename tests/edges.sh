@@ -42,11 +42,16 @@ blocks() {
   answers "a line feed as the last byte of the last block"
 }
 
-# the most accounts that fit the lent words: 10 in each of 256 buckets; the longest rows
+# the most accounts that fit the lent words: 10 in each of 256 buckets, those at the first places of each; the longest
+# rows. An account is its place times 244,002,641 modulo 2^32, here in two halves of 16 bits, each product exact
 listings() {
   awk 'BEGIN {
-    for (p = 0; p < 256; p++) for (i = 1; i <= 10; i++) printf "%.0f -9223372036854775808\n", p * 16777216 + i
-  }' >"$run/rows"
+    back = 244002641
+    for (p = 0; p < 256; p++) for (i = 1; i <= 10; i++) {
+      account = (p * 256 * back % 65536 * 65536 + i * back) % 4294967296
+      printf "%.0f -9223372036854775808\n", account
+    }
+  }' | sort -n >"$run/rows"
   { echo 'O 1 10 8' && sed 's/.*/I 0 &\nS 0 9999/' "$run/rows"; } >"$run/fill"
   echo 'end 2560' >>"$run/rows"
   { cat "$run/fill" && repeat 50 $'T\n' && printf 'I 0 0 1\nS 0 9999\nT'; } >"$run/input"

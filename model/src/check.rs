@@ -4,7 +4,8 @@
 use crate::invariants::Ledger;
 use crate::machine::{Machine, Report, Stepped};
 use crate::moments::{Moment, Moments};
-use crate::records::{prefix_of, Answer, Kind, Update};
+use crate::plain::Plain;
+use crate::records::{Answer, Kind, Update};
 use crate::spent::{Called, Numbers};
 use crate::tariff::{is_last_made, Meter};
 use crate::task::StepKind;
@@ -25,7 +26,7 @@ pub struct Counts {
     pub crowded: u64,
     pub posted: u64,
     pub overruns: u64,
-    /// Updates that took effect where b accounts agreed with their own in the first M bits.
+    /// Updates that took effect where b accounts' places agreed with their own in the first M bits.
     pub amid_full: AmidFull,
     /// Posts that took effect at a step of another worker.
     pub helped_posts: u64,
@@ -64,11 +65,11 @@ impl AmidFull {
     }
 
     /// Counts the moments of one step of worker w.
-    fn count(&mut self, w: usize, depth: u32, moments: &[Moment]) {
-        for (place, moment) in moments.iter().enumerate().filter(|(_, m)| m.amid_full) {
-            let prefix = |m: &Moment| prefix_of(m.operation.account, depth);
-            let same = |m: &&Moment| prefix(m) == prefix(moment);
-            let mut later = moments[place..].iter().filter(same);
+    fn count(&mut self, w: usize, plain: &Plain, moments: &[Moment]) {
+        for (index, moment) in moments.iter().enumerate().filter(|(_, m)| m.amid_full) {
+            let account = moment.operation.account;
+            let same = |m: &&Moment| plain.agree(m.operation.account, account);
+            let mut later = moments[index..].iter().filter(same);
             match moment.answer {
                 Answer::Crowded => self.crowded += 1,
                 Answer::Replaced => self.replaced += 1,
@@ -208,7 +209,6 @@ impl Checker {
         };
         counts.overtaken_lookups += by_another(Kind::Lookup);
         counts.helped_posts += by_another(Kind::Post);
-        let depth = self.machine.settings.greatest_depth;
-        counts.amid_full.count(w, depth, moments);
+        counts.amid_full.count(w, &self.moments.plain, moments);
     }
 }

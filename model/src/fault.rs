@@ -2,6 +2,7 @@
 
 use crate::off_tariff::OffTariff;
 use crate::wrong_crowding::WrongCrowding;
+use crate::wrong_places::WrongPlace;
 use crate::wrong_posts::WrongPost;
 use crate::wrong_tickets::WrongTicket;
 
@@ -48,6 +49,8 @@ pub enum Fault {
     AlwaysAdded,
     /// Another rule of crowding at depth M (`wrong_crowding.rs`).
     Crowding(WrongCrowding),
+    /// Another rule of places (`wrong_places.rs`).
+    Place(WrongPlace),
     /// Another rule of posts (`wrong_posts.rs`).
     Post(WrongPost),
     /// Another check or another step than the tariff has (`off_tariff.rs`).
@@ -58,7 +61,7 @@ pub enum Fault {
 
 impl Fault {
     /// All faults, without `None`, those off the tariff and those on tickets.
-    pub const ALL: [Fault; 39] = [
+    pub const ALL: [Fault; 45] = [
         Fault::OnePass,
         Fault::OneBucketRound,
         Fault::OneDirectoryRound,
@@ -89,6 +92,12 @@ impl Fault {
         Fault::Crowding(WrongCrowding::HeldBackAfterSplits),
         Fault::Crowding(WrongCrowding::TriedAgain),
         Fault::Crowding(WrongCrowding::TriedAfterAnswer),
+        Fault::Place(WrongPlace::ByNumber),
+        Fault::Place(WrongPlace::Backwards),
+        Fault::Place(WrongPlace::SplitByNumber),
+        Fault::Place(WrongPlace::CrowdedByNumber),
+        Fault::Place(WrongPlace::ListedByPlace),
+        Fault::Place(WrongPlace::FilteredByNumber),
         Fault::Post(WrongPost::Replaces),
         Fault::Post(WrongPost::OverrunWraps),
         Fault::Post(WrongPost::OverrunSaturates),
@@ -138,6 +147,7 @@ impl Fault {
             Fault::AlwaysCrowded => "always-crowded",
             Fault::AlwaysAdded => "always-added",
             Fault::Crowding(fault) => fault.name(),
+            Fault::Place(fault) => fault.name(),
             Fault::Post(fault) => fault.name(),
             Fault::OffTariff(fault) => fault.name(),
             Fault::Ticket(fault) => fault.name(),

@@ -1,14 +1,21 @@
-//! Random input for `totals`, all a function of the seed: lists for every setting that fits the lent
-//! words, with lines that are refused or cannot be read in between.
+//! Random input for `totals`, all a function of the seed: lists for every setting that fits the
+//! lent words, with lines that are refused or cannot be read in between. About half of the calls go
+//! to accounts drawn as places that agree in their first M bits, and of the others most to accounts
+//! from 1000 up.
 
 use crate::amounts::ends_or;
 use crate::lines::Line;
+use crate::pools::Pool;
 use crate::prng::Prng;
 use crate::random::Generator;
 use crate::records::Kind;
 use crate::settings::Settings;
 use crate::spoil::spoiled;
 use crate::totals::{Driver, LENT};
+
+/// Calls in a hundred to accounts drawn as places, for half of all calls: a few go to an edge or
+/// anywhere, and some accounts drawn so have no other near.
+const SHARE: u64 = 54;
 
 /// How many steps a line asks for.
 #[derive(Clone, Copy)]
@@ -32,9 +39,7 @@ pub struct Input {
     pace: Pace,
     /// Per worker how many lines it is parked for.
     parked: Vec<u64>,
-    /// The accounts: one of these prefixes above a number below the range, or anything.
-    prefixes: Vec<u32>,
-    range: u64,
+    pool: Pool,
     deletes: u64,
     lookups: u64,
     posts: u64,
@@ -45,20 +50,21 @@ pub struct Input {
 
 impl Input {
     pub fn new(seed: u64) -> Input {
+        let mut prng = Prng::new(seed);
+        let settings = Settings {
+            workers: 1,
+            bucket_size: Settings::LEAST_BUCKET_SIZE as usize,
+            greatest_depth: 0,
+        };
         Input {
-            prng: Prng::new(seed),
+            pool: Pool::neighbours(&mut prng, &settings, SHARE),
+            prng,
             driver: Driver::default(),
             left: 10,
             orders: None,
-            settings: Settings {
-                workers: 1,
-                bucket_size: 2,
-                greatest_depth: 0,
-            },
+            settings,
             pace: Pace::Single,
             parked: vec![0],
-            prefixes: vec![0],
-            range: 1,
             deletes: 0,
             lookups: 0,
             posts: 0,
@@ -108,23 +114,16 @@ impl Input {
             true => self.prng.between(2_000, 8_000),
             false => self.prng.between(20, 500),
         };
-        let orders = Generator::new(self.prng.draw(), false);
         self.listings = if filling { 1 } else { self.prng.between(2, 30) };
+        let share = match filling {
+            true => SHARE,
+            false => self.prng.one_of(&[0, SHARE, 100]),
+        };
         if !filling && !self.crowded && self.prng.percent(50) {
-            let opening = orders.opening();
-            self.settings = orders.settings;
-            self.orders = Some(orders);
-            return opening;
+            return self.begin_orders(share);
         }
         self.orders = None;
-        self.settings = match self.crowded {
-            true => small(&mut self.prng),
-            false => fitting(&mut self.prng),
-        };
-        match self.crowded {
-            true => self.draw_neighbours(),
-            false => self.draw_accounts(filling),
-        }
+        self.draw_accounts(filling, share);
         self.parked = vec![0; self.settings.workers];
         self.pace = match self.prng.below(4) {
             _ if filling => Pace::Whole,
@@ -139,43 +138,26 @@ impl Input {
         opening(&self.settings)
     }
 
-    /// Few prefixes and a small range fill buckets, split them and crowd them.
-    fn draw_accounts(&mut self, filling: bool) {
-        let depth = self.settings.greatest_depth;
-        let bits = (depth + self.prng.below(3) as u32).max(1);
-        let most = if filling { 256 } else { 6 };
-        let count = self.prng.between(if filling { 64 } else { 1 }, most);
-        let prng = &mut self.prng;
-        self.prefixes = (0..count)
-            .map(|_| (prng.draw() as u32) >> (32 - bits) << (32 - bits))
-            .collect();
-        let size = self.settings.bucket_size as u64;
-        self.range = match prng.percent(70) {
-            true => prng.between(1, size - 1),
-            false => prng.between(size, size * 2),
-        };
+    /// A list whose lines are orders as `search` tries them.
+    fn begin_orders(&mut self, share: u64) -> Line {
+        let orders = Generator::sharing(Prng::new(self.prng.draw()), false, share);
+        let opening = orders.opening();
+        self.settings = orders.settings;
+        self.pool = orders.pool.clone();
+        self.orders = Some(orders);
+        opening
     }
 
-    /// Two to six accounts in each of a few prefixes, of as many bits as a bucket can have.
-    fn draw_neighbours(&mut self) {
-        let bits = self.settings.greatest_depth.max(1);
-        let count = self.prng.between(1, 3);
+    /// Draws settings, and accounts for them.
+    fn draw_accounts(&mut self, filling: bool, share: u64) {
         let prng = &mut self.prng;
-        self.prefixes = (0..count)
-            .map(|_| (prng.draw() as u32) >> (32 - bits) << (32 - bits))
-            .collect();
-        self.range = prng.between(2, 6);
-    }
-
-    fn account(&mut self) -> u32 {
-        if self.prng.below(100) == 0 {
-            let ends = [0, 1, u32::MAX, 1 << 31, (1 << 31) - 1];
-            return self.prng.pick(&ends).unwrap_or(0);
+        if self.crowded {
+            self.settings = small(prng);
+            self.pool = Pool::neighbours(prng, &self.settings, share);
+        } else {
+            self.settings = fitting(prng);
+            self.pool = Pool::listed(prng, &self.settings, filling, share);
         }
-        if self.prng.below(50) == 0 {
-            return self.prng.draw() as u32;
-        }
-        self.prng.pick(&self.prefixes).unwrap_or(0) | self.prng.below(self.range) as u32
     }
 
     fn total(&mut self) -> i64 {
@@ -224,7 +206,7 @@ impl Input {
         Line::Call {
             kind,
             worker,
-            account: self.account(),
+            account: self.pool.pick(&mut self.prng),
             total,
         }
     }

@@ -148,17 +148,11 @@ impl Machine {
         Ok(items)
     }
 
-    /// What the current directory's buckets hold, ascending.
+    /// What the current directory's buckets hold, ascending by account.
     pub fn items(&self) -> Vec<(u32, i64)> {
-        let mut items = Vec::new();
-        let mut last: Option<&Rc<Bucket>> = None;
-        for bucket in &self.directory.entries {
-            if !last.is_some_and(|before| Rc::ptr_eq(before, bucket)) {
-                items.extend_from_slice(&bucket.state.borrow().items);
-            }
-            last = Some(bucket);
-        }
-        items.sort_unstable();
+        let steps = self.fault.machine();
+        let mut items = steps.held(&self.directory);
+        steps.sort(&mut items);
         items
     }
 }

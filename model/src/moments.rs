@@ -15,7 +15,7 @@ pub struct Moment {
     pub worker: usize,
     pub operation: Update,
     pub answer: Answer,
-    /// Before it, b accounts agreed with its own in the first M bits.
+    /// Before it, b accounts' places agreed with its own in the first M bits.
     pub amid_full: bool,
 }
 

@@ -2,6 +2,7 @@
 
 use crate::amounts::ends_or;
 use crate::lines::{read_lines, Line};
+use crate::places::{account_at, place};
 use crate::prng::Prng;
 use crate::records::Kind;
 
@@ -33,34 +34,34 @@ pub fn variation(prng: &mut Prng) -> Vec<Line> {
 }
 
 fn change(prng: &mut Prng, lines: &mut Vec<Line>) {
-    let place = prng.between(1, lines.len() as u64 - 1) as usize;
-    let line = lines[place];
+    let index = prng.between(1, lines.len() as u64 - 1) as usize;
+    let line = lines[index];
     match prng.below(8) {
-        0 if place > 1 => lines.swap(place, place - 1),
-        1 => lines.insert(place, line),
+        0 if index > 1 => lines.swap(index, index - 1),
+        1 => lines.insert(index, line),
         2 if lines.len() > 3 => {
-            lines.remove(place);
+            lines.remove(index);
         }
-        3 => split_steps(prng, lines, place),
-        _ => lines[place] = changed(prng, line),
+        3 => split_steps(prng, lines, index),
+        _ => lines[index] = changed(prng, line),
     }
 }
 
 /// Two lines of steps for one, the second a little later.
-fn split_steps(prng: &mut Prng, lines: &mut Vec<Line>, place: usize) {
-    if let Line::Step { worker, count } = lines[place] {
+fn split_steps(prng: &mut Prng, lines: &mut Vec<Line>, index: usize) {
+    if let Line::Step { worker, count } = lines[index] {
         let first = prng.between(1, count);
-        lines[place] = Line::Step {
+        lines[index] = Line::Step {
             worker,
             count: first,
         };
         let count = (count - first).max(1);
-        let later = (place + 1 + prng.below(3) as usize).min(lines.len());
+        let later = (index + 1 + prng.below(3) as usize).min(lines.len());
         lines.insert(later, Line::Step { worker, count });
     }
 }
 
-/// Other settings, another account nearby, a post in place of a call, or a few steps more or less.
+/// Other settings, an account at a place nearby, a post for a call, or a few steps more or less.
 fn changed(prng: &mut Prng, line: Line) -> Line {
     match line {
         Line::Open { n, b, m } => Line::Open { n, b, m: m + 1 },
@@ -80,7 +81,7 @@ fn changed(prng: &mut Prng, line: Line) -> Line {
         } => Line::Call {
             kind,
             worker,
-            account: account ^ bit(prng),
+            account: account_at(place(account) ^ bit(prng)),
             total,
         },
         Line::Step { worker, count } => {
@@ -91,7 +92,7 @@ fn changed(prng: &mut Prng, line: Line) -> Line {
     }
 }
 
-/// Mostly one of the first four bits of an account.
+/// Mostly one of the first four bits of a place.
 fn bit(prng: &mut Prng) -> u32 {
     match prng.percent(70) {
         true => 1 << (31 - prng.below(4)),

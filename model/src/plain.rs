@@ -1,6 +1,7 @@
-//! The plain table: the sequential specification, with the crowding rule.
+//! The plain table: the sequential specification, with the crowding rule. Places are compared by
+//! division, apart from the machine.
 
-use crate::records::{prefix_of, Answer, Kind};
+use crate::records::{Answer, Kind};
 use crate::settings::Settings;
 use std::collections::BTreeMap;
 
@@ -21,13 +22,24 @@ impl Plain {
         }
     }
 
-    /// Whether b accounts agree with this one in the first M bits, its own counted if it is there.
+    /// Which of the 2^M equal parts of all places an account's place is in: its first M bits.
+    fn part(&self, account: u32) -> u64 {
+        let place = u64::from(account) * 2_654_435_761 % 4_294_967_296;
+        place / (4_294_967_296 >> self.greatest_depth)
+    }
+
+    /// Whether the places of two accounts agree in the first M bits.
+    pub fn agree(&self, one: u32, other: u32) -> bool {
+        self.part(one) == self.part(other)
+    }
+
+    /// Whether b accounts' places agree with this one's in the first M bits, its own counted if it
+    /// is there.
     pub fn is_full_around(&self, account: u32) -> bool {
-        let depth = self.greatest_depth;
-        let rest = u32::MAX.checked_shr(depth).unwrap_or(0);
-        let range = (account & !rest)..=(account | rest);
-        let same = |other: &u32| prefix_of(*other, depth) == prefix_of(account, depth);
-        let agreeing = self.accounts.range(range).filter(|item| same(item.0));
+        let agreeing = self
+            .accounts
+            .keys()
+            .filter(|other| self.agree(**other, account));
         agreeing.count() >= self.bucket_size
     }
 
@@ -39,8 +51,8 @@ impl Plain {
     }
 
     /// Feeds one operation; the total counts for an insert, and for a post, whose amount it is.
-    /// Crowded is exactly a new account where b others agree with it in the first M bits: what is
-    /// there can be replaced, posted to and removed, however many neighbours it has.
+    /// Crowded is exactly a new account where b others agree with it in their places' first M bits:
+    /// what is there can be replaced, posted to and removed, however many neighbours it has.
     pub fn apply(&mut self, kind: Kind, account: u32, total: i64) -> Answer {
         match kind {
             Kind::Lookup => match self.accounts.get(&account) {

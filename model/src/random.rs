@@ -4,6 +4,7 @@ use crate::amounts::ends_or;
 use crate::lines::Line;
 use crate::machine::Machine;
 use crate::overtake;
+use crate::pools::Pool;
 use crate::prng::Prng;
 use crate::records::Kind;
 use crate::settings::Settings;
@@ -29,7 +30,7 @@ enum Style {
 pub struct Generator {
     prng: Prng,
     pub settings: Settings,
-    pool: Vec<u32>,
+    pub pool: Pool,
     style: Style,
     /// Per worker the tick until which it is parked.
     parked: Vec<u64>,
@@ -48,16 +49,19 @@ impl Generator {
     /// `small` keeps n at most 4, for the external search.
     pub fn new(seed: u64, small: bool) -> Generator {
         let mut prng = Prng::new(seed);
+        let share = prng.one_of(&[0, 50, 100, 100, 100]);
+        Generator::sharing(prng, small, share)
+    }
+
+    /// The same, with so many calls in a hundred to accounts drawn as places that agree in their
+    /// first bits.
+    pub fn sharing(mut prng: Prng, small: bool, share: u64) -> Generator {
         let style = draw_style(&mut prng);
         let crowding = style == Style::Crowding;
-        let settings = match style {
-            Style::Crowding => crowding_settings(&mut prng, small),
-            Style::Overtaking if prng.percent(80) => splitting_settings(&mut prng, small),
-            _ => draw_settings(&mut prng, small),
-        };
+        let settings = settings_for(&mut prng, style, small);
         let mut pool = match crowding {
-            true => crowding_pool(&mut prng, &settings),
-            false => draw_pool(&mut prng, &settings),
+            true => Pool::crowding(&mut prng, &settings, share),
+            false => Pool::splitting(&mut prng, &settings, share),
         };
         let posts = prng.one_of(&[0, 30, 60, 95]);
         // So few accounts that all workers post to the same ones.
@@ -146,7 +150,7 @@ impl Generator {
             _ => Line::Call {
                 kind: Kind::Lookup,
                 worker,
-                account: self.pool[0],
+                account: self.pool.pick(&mut self.prng),
                 total: 0,
             },
         }
@@ -156,7 +160,7 @@ impl Generator {
         let (mut kind, mut awaited) = (self.kind(), None);
         let near = self.prng.percent(80) && self.style == Style::Overtaking;
         if self.style == Style::Crowding && self.prng.percent(60) {
-            if let Some((wanted, accounts)) = overtake::awaited(machine, &self.pool) {
+            if let Some((wanted, accounts)) = overtake::awaited(machine, self.pool.accounts()) {
                 awaited = self.prng.pick(&accounts);
                 kind = awaited.map_or(kind, |_| wanted);
             }
@@ -198,8 +202,7 @@ impl Generator {
     }
 
     fn any_account(&mut self) -> u32 {
-        let place = self.prng.below(self.pool.len() as u64);
-        self.pool[place as usize]
+        self.pool.pick(&mut self.prng)
     }
 
     /// The account of an update under way, so that two work on one account at once.
@@ -220,12 +223,8 @@ impl Generator {
             return self.any_account();
         };
         let leaf = machine.directory.bucket(account);
-        let same: Vec<u32> = self
-            .pool
-            .iter()
-            .copied()
-            .filter(|other| leaf.covers(*other))
-            .collect();
+        let all = self.pool.accounts().iter().copied();
+        let same: Vec<u32> = all.filter(|other| leaf.covers(*other)).collect();
         self.prng.pick(&same).unwrap_or(account)
     }
 
@@ -276,6 +275,14 @@ fn updated_accounts(machine: &Machine) -> Vec<u32> {
     updates.map(|task| task.operation.account).collect()
 }
 
+fn settings_for(prng: &mut Prng, style: Style, small: bool) -> Settings {
+    match style {
+        Style::Crowding => crowding_settings(prng, small),
+        Style::Overtaking if prng.percent(80) => splitting_settings(prng, small),
+        _ => draw_settings(prng, small),
+    }
+}
+
 /// Settings that produce many splits: small buckets, some depth.
 fn splitting_settings(prng: &mut Prng, small: bool) -> Settings {
     let most_workers = if small { 4 } else { 5 };
@@ -294,18 +301,6 @@ fn crowding_settings(prng: &mut Prng, small: bool) -> Settings {
         bucket_size: prng.between(2, 3) as usize,
         greatest_depth: prng.one_of(&[0, 1, 1, 2]),
     }
-}
-
-/// One or two prefixes of M bits, with one to three accounts each that have no room beside b others.
-fn crowding_pool(prng: &mut Prng, settings: &Settings) -> Vec<u32> {
-    let rest = u32::MAX >> settings.greatest_depth;
-    let each = settings.bucket_size as u64 + prng.between(1, 3);
-    let prefixes: Vec<u32> = (0..prng.between(1, 2))
-        .map(|_| prng.draw() as u32 & !rest)
-        .collect();
-    let accounts = |prefix: &u32| (0..each as u32).map(move |low| *prefix | low).collect();
-    let pools: Vec<Vec<u32>> = prefixes.iter().map(accounts).collect();
-    pools.concat()
 }
 
 fn draw_settings(prng: &mut Prng, small: bool) -> Settings {
@@ -330,34 +325,4 @@ fn draw_settings(prng: &mut Prng, small: bool) -> Settings {
             _ => {}
         }
     }
-}
-
-/// Accounts that produce splitting and crowding.
-fn draw_pool(prng: &mut Prng, settings: &Settings) -> Vec<u32> {
-    let depth = settings.greatest_depth + prng.below(2) as u32;
-    let shift = 32 - depth;
-    let base = prng.draw() as u32;
-    let most = 24 + (1 << settings.greatest_depth.min(6));
-    let count = prng.between(settings.bucket_size as u64 + 1, most);
-    let style = prng.below(4);
-    let mut draw = || -> u32 {
-        let high = match style {
-            // Any prefix.
-            0 => prng.draw() as u32,
-            // One prefix and those that differ from it in one bit.
-            1 if depth > 0 => base ^ (prng.below(2) as u32) << (31 - prng.below(u64::from(depth))),
-            // One prefix mostly.
-            2 if prng.percent(60) => base,
-            // On both sides of a boundary.
-            _ => (prng.draw() as u32 & !u32::MAX.checked_shr(depth).unwrap_or(0))
-                .wrapping_sub(prng.below(2) as u32),
-        };
-        let top = (u64::from(high) >> shift << shift) as u32;
-        if style == 3 {
-            high
-        } else {
-            top | prng.below(4) as u32
-        }
-    };
-    (0..count).map(|_| draw()).collect()
 }

@@ -1,6 +1,7 @@
 //! The records of the table: announced updates, bucket states, buckets and directories.
 //! Records are shared by reference, and identity is the identity of the reference.
 
+use crate::places::{first_bits, place};
 use crate::settings::Settings;
 use std::cell::RefCell;
 use std::rc::Rc;
@@ -99,15 +100,6 @@ pub struct Directory {
     pub entries: Vec<Rc<Bucket>>,
 }
 
-/// The first `depth` bits of an account, most significant first.
-pub fn prefix_of(account: u32, depth: u32) -> u32 {
-    if depth == 0 {
-        0
-    } else {
-        account >> (32 - depth)
-    }
-}
-
 impl State {
     /// No accounts, bits 0, ticket numbers 0.
     pub fn empty(workers: usize) -> State {
@@ -154,8 +146,8 @@ impl State {
 
     /// Changes the accounts as an update has it, and gives its answer.
     pub fn change(&mut self, update: &Update) -> Answer {
-        let place = self.items.iter().position(|item| item.0 == update.account);
-        match (update.kind, place) {
+        let index = self.items.iter().position(|item| item.0 == update.account);
+        match (update.kind, index) {
             (Kind::Insert, Some(at)) => {
                 self.items[at].1 = update.total;
                 Answer::Replaced
@@ -209,14 +201,25 @@ impl Bucket {
         Rc::clone(&self.state.borrow())
     }
 
+    /// The place's first bits are the prefix.
+    pub fn has_place(&self, place: u32) -> bool {
+        first_bits(place, self.depth) == self.prefix
+    }
+
+    /// The account belongs here.
     pub fn covers(&self, account: u32) -> bool {
-        prefix_of(account, self.depth) == self.prefix
+        self.has_place(place(account))
     }
 }
 
 impl Directory {
+    /// The bucket at the entry that a place's first bits choose.
+    pub fn at(&self, place: u32) -> &Rc<Bucket> {
+        &self.entries[first_bits(place, self.depth) as usize]
+    }
+
     /// The bucket that the account belongs to.
     pub fn bucket(&self, account: u32) -> &Rc<Bucket> {
-        &self.entries[prefix_of(account, self.depth) as usize]
+        self.at(place(account))
     }
 }

@@ -1,6 +1,7 @@
 //! Shrinks a failing order: shorter lists of lines, smaller step counts, smaller settings.
 
 use crate::lines::Line;
+use crate::places::{account_at, place};
 
 /// The shortest failing order that is found from this one, which must fail.
 pub fn shrink(order: &[Line], fails: &dyn Fn(&[Line]) -> bool) -> Vec<Line> {
@@ -25,10 +26,22 @@ fn size(order: &[Line]) -> (usize, u64, u64) {
     });
     let weight = order.iter().map(|line| match line {
         Line::Open { n, b, m } => n + b + m,
-        Line::Call { account, total, .. } => u64::from(account.count_ones()) + heft(*total),
+        Line::Call { account, total, .. } => bits(*account) + heft(*total),
         _ => 0,
     });
     (order.len(), steps.sum(), weight.sum())
+}
+
+/// How many bits an account has, or its place, where that has fewer.
+fn bits(account: u32) -> u64 {
+    let fewer = account.count_ones().min(place(account).count_ones());
+    u64::from(fewer)
+}
+
+/// The account without this bit, and the one whose place is without it.
+fn without_bit(account: u32, bit: u32) -> [u32; 2] {
+    let others = !(1u32 << bit);
+    [account & others, account_at(place(account) & others)]
 }
 
 /// An end of the range is simpler than its neighbours.
@@ -92,10 +105,10 @@ fn at_every_line(
     fails: &dyn Fn(&[Line]) -> bool,
     changes: &dyn Fn(&Line) -> Vec<Line>,
 ) -> Vec<Line> {
-    for place in 0..order.len() {
-        for change in changes(&order[place]) {
+    for index in 0..order.len() {
+        for change in changes(&order[index]) {
             let mut changed = order.clone();
-            changed[place] = change;
+            changed[index] = change;
             if size(&changed) < size(&order) && fails(&changed) {
                 order = changed;
             }
@@ -146,7 +159,7 @@ fn join_steps(mut order: Vec<Line>, fails: &dyn Fn(&[Line]) -> bool) -> Vec<Line
     order
 }
 
-/// Settings, accounts and totals become simpler.
+/// Settings, accounts or their places, and totals become simpler.
 fn simplify(order: Vec<Line>, fails: &dyn Fn(&[Line]) -> bool) -> Vec<Line> {
     at_every_line(order, fails, &|line| match *line {
         Line::Open { n, b, m } => {
@@ -169,8 +182,8 @@ fn simplify(order: Vec<Line>, fails: &dyn Fn(&[Line]) -> bool) -> Vec<Line> {
                 account,
                 total,
             };
-            let bits = (0..32).map(|bit| account & !(1u32 << bit));
-            let mut simpler: Vec<Line> = bits.map(|account| call(account, total)).collect();
+            let accounts = (0..32).flat_map(|bit| without_bit(account, bit));
+            let mut simpler: Vec<Line> = accounts.map(|account| call(account, total)).collect();
             simpler.extend([i64::MAX, i64::MIN, 2, 1, 0].map(|total| call(account, total)));
             simpler
         }

@@ -1,9 +1,11 @@
 //! The steps as document 01 has them. Each touches at most one shared cell; private work goes with
-//! it. The two rules of tickets stand here as well. The true machine takes all of these as they
-//! stand here; a wrong one (`wrong.rs`) has another function in place of one of them.
+//! it. The two rules of tickets, the rule of places and the listing stand here as well. The true
+//! machine takes all of these as they stand here; a wrong one (`wrong.rs`) has another function in
+//! place of one of them.
 
 use crate::machine::Machine;
-use crate::records::{prefix_of, Answer, Bucket, Kind, State, Update};
+use crate::places::{first_bits, place};
+use crate::records::{Answer, Bucket, Directory, Kind, State, Update};
 use crate::settings::Settings;
 use crate::task::{Position, StepKind, Task};
 use crate::working::Working;
@@ -31,6 +33,34 @@ pub trait Steps {
     /// Document 01: "A ticket is settled in a bucket when that number is not below it."
     fn is_settled(&self, state: &State, worker: usize, ticket: u64) -> bool {
         state.is_settled(worker, ticket)
+    }
+
+    /// Document 02: an account's place, whose first bits choose its bucket.
+    fn place(&self, account: u32) -> u32 {
+        place(account)
+    }
+
+    /// What a directory's buckets hold, each bucket once.
+    fn held(&self, directory: &Directory) -> Vec<(u32, i64)> {
+        let mut items = Vec::new();
+        let mut last: Option<&Rc<Bucket>> = None;
+        for bucket in &directory.entries {
+            if !last.is_some_and(|before| Rc::ptr_eq(before, bucket)) {
+                items.extend_from_slice(&bucket.state.borrow().items);
+            }
+            last = Some(bucket);
+        }
+        items
+    }
+
+    /// The listing's order: ascending by account, whatever the places.
+    fn sort(&self, items: &mut [(u32, i64)]) {
+        items.sort_unstable();
+    }
+
+    /// The bucket of the operation's account in the directory read last.
+    fn own_bucket<'a>(&self, task: &'a Task) -> &'a Rc<Bucket> {
+        task.directory().at(self.place(task.operation.account))
     }
 
     /// Performs the step to come of a task that was taken out of its worker.
@@ -63,7 +93,7 @@ pub trait Steps {
     }
 
     fn lookup_state(&self, task: &Task) -> Done {
-        let state = task.own_bucket().current();
+        let state = self.own_bucket(task).current();
         let answer = match state.find(task.operation.account) {
             Some(total) => Answer::Found(total),
             None => Answer::None,
@@ -91,7 +121,7 @@ pub trait Steps {
     }
 
     fn flip(&self, w: usize, task: &mut Task) -> StepKind {
-        let bucket = Rc::clone(task.own_bucket());
+        let bucket = Rc::clone(self.own_bucket(task));
         let bit = &mut bucket.toggle.borrow_mut()[w];
         *bit = !*bit;
         task.bucket = Some(Rc::clone(&bucket));
@@ -206,7 +236,7 @@ pub trait Steps {
 
     /// Settled there: the answer that stands there. Else none, whatever the bucket holds.
     fn check_answer(&self, _: &Settings, w: usize, task: &Task) -> Option<Answer> {
-        let state = task.own_bucket().current();
+        let state = self.own_bucket(task).current();
         let settled = self.is_settled(&state, w, task.operation.ticket);
         state.settled[w].answer.filter(|_| settled)
     }
@@ -225,7 +255,8 @@ pub trait Steps {
     /// The state step for slot j: reads the state of that update's bucket in the working copy.
     fn resize_state(&self, machine: &Machine, task: &mut Task, j: usize) -> StepKind {
         let working = task.working.as_mut().expect("a working copy was made");
-        let bucket = task.slots[j].map(|update| Rc::clone(working.bucket(update.account)));
+        let of = |update: Update| Rc::clone(working.at(self.place(update.account)));
+        let bucket = task.slots[j].map(of);
         let shared = bucket.filter(|bucket| !working.is_made(bucket));
         let splits = match &shared {
             Some(bucket) => self.split_for(&machine.settings, working, &task.slots, j, bucket),
@@ -260,7 +291,7 @@ pub trait Steps {
         let mut splits = 0;
         for (k, slot) in slots.iter().enumerate() {
             let Some(update) = slot else { continue };
-            if bucket.covers(update.account) && unsettled(k, update) {
+            if bucket.has_place(self.place(update.account)) && unsettled(k, update) {
                 splits += self.take(settings, working, k, update);
             }
         }
@@ -270,9 +301,10 @@ pub trait Steps {
     /// Takes one update: its bucket is split while full and below depth M; then the update is
     /// carried out. Answers the number of splits.
     fn take(&self, settings: &Settings, working: &mut Working, k: usize, update: &Update) -> u32 {
+        let place = self.place(update.account);
         let mut splits = 0;
-        while working.is_splittable(settings, update.account) {
-            self.split(working, update.account);
+        while working.is_splittable(settings, place) {
+            self.split(working, place);
             splits += 1;
         }
         self.carry_out_there(settings, working, k, update);
@@ -281,15 +313,16 @@ pub trait Steps {
 
     /// Carries out an update in its bucket of the working copy.
     fn carry_out_there(&self, settings: &Settings, working: &Working, k: usize, update: &Update) {
-        let depth = working.bucket(update.account).depth;
-        working.change(update.account, &|copy| {
+        let place = self.place(update.account);
+        let depth = working.at(place).depth;
+        working.change(place, &|copy| {
             self.carry_out(settings, depth, copy, k, update)
         });
     }
 
-    /// Splits the account's bucket; the directory doubles where it is not deep enough.
-    fn split(&self, working: &mut Working, account: u32) {
-        let bucket = Rc::clone(working.bucket(account));
+    /// Splits the bucket of this place; the directory doubles where it is not deep enough.
+    fn split(&self, working: &mut Working, place: u32) {
+        let bucket = Rc::clone(working.at(place));
         let state = bucket.current();
         let depth = bucket.depth + 1;
         if depth > working.depth {
@@ -309,7 +342,7 @@ pub trait Steps {
 
     /// The state of one half: its accounts, all settled tickets and answers, applied bits 0.
     fn half(&self, state: &State, depth: u32, prefix: u32) -> State {
-        let belongs = |item: &&(u32, i64)| prefix_of(item.0, depth) == prefix;
+        let belongs = |item: &&(u32, i64)| first_bits(self.place(item.0), depth) == prefix;
         let mut half = State::empty(state.applied.len());
         half.items = state.items.iter().filter(belongs).copied().collect();
         half.settled.clone_from(&state.settled);

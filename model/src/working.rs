@@ -1,6 +1,7 @@
 //! The working copy of the directory in a directory pass.
 
-use crate::records::{prefix_of, Bucket, Directory, State};
+use crate::places::{first_bits, place};
+use crate::records::{Bucket, Directory, State};
 use crate::settings::Settings;
 use std::rc::Rc;
 
@@ -24,8 +25,14 @@ impl Working {
         }
     }
 
+    /// The bucket at the entry that a place's first bits choose.
+    pub fn at(&self, place: u32) -> &Rc<Bucket> {
+        &self.entries[first_bits(place, self.depth) as usize]
+    }
+
+    /// The bucket that the account belongs to.
     pub fn bucket(&self, account: u32) -> &Rc<Bucket> {
-        &self.entries[prefix_of(account, self.depth) as usize]
+        self.at(place(account))
     }
 
     pub fn is_made(&self, bucket: &Rc<Bucket>) -> bool {
@@ -39,9 +46,9 @@ impl Working {
         })
     }
 
-    /// The account's bucket is full and below depth M.
-    pub fn is_splittable(&self, settings: &Settings, account: u32) -> bool {
-        let bucket = self.bucket(account);
+    /// The bucket of this place is full and below depth M.
+    pub fn is_splittable(&self, settings: &Settings, place: u32) -> bool {
+        let bucket = self.at(place);
         bucket.current().is_full_below(settings, bucket.depth)
     }
 
@@ -54,10 +61,10 @@ impl Working {
         self.made.push(bucket);
     }
 
-    /// Changes the account's bucket. Only a bucket made in this round is changed: it is still
+    /// Changes the bucket of this place. Only a bucket made in this round is changed: it is still
     /// private.
-    pub fn change(&self, account: u32, change: &dyn Fn(&mut State)) {
-        let bucket = self.bucket(account);
+    pub fn change(&self, place: u32, change: &dyn Fn(&mut State)) {
+        let bucket = self.at(place);
         let mut copy = State::clone(&bucket.current());
         if self.is_made(bucket) {
             change(&mut copy);

@@ -1,6 +1,6 @@
 //! The wrong machines: each is the true one but for one function, or two where it would not end.
-//! Nothing but this, `off_tariff.rs`, `wrong_crowding.rs`, `wrong_posts.rs` and `wrong_tickets.rs`
-//! makes a step or a call wrong.
+//! Nothing but this, `off_tariff.rs`, `wrong_crowding.rs`, `wrong_places.rs`, `wrong_posts.rs` and
+//! `wrong_tickets.rs` makes a step, a call or a listing wrong.
 
 use crate::fault::Fault;
 use crate::machine::Machine;
@@ -35,6 +35,7 @@ impl Fault {
             Fault::AlwaysCrowded => &AlwaysCrowded,
             Fault::AlwaysAdded => &AlwaysAdded,
             Fault::Crowding(fault) => fault.machine(),
+            Fault::Place(fault) => fault.machine(),
             Fault::Post(fault) => fault.machine(),
             Fault::OffTariff(fault) => fault.machine(),
             Fault::Ticket(fault) => fault.machine(),
@@ -192,11 +193,11 @@ impl Steps for DoubledInRow {
 
     /// Stops at a bucket that is not the account's: it would be split without end.
     fn take(&self, settings: &Settings, working: &mut Working, k: usize, update: &Update) -> u32 {
-        let account = update.account;
-        let own = |working: &Working| working.bucket(account).covers(account);
+        let place = self.place(update.account);
+        let own = |working: &Working| working.at(place).has_place(place);
         let mut splits = 0;
-        while own(working) && working.is_splittable(settings, account) {
-            self.split(working, account);
+        while own(working) && working.is_splittable(settings, place) {
+            self.split(working, place);
             splits += 1;
         }
         if own(working) {

@@ -1,9 +1,13 @@
-//! The cases of document 01, as driver lines and whole output, and its refusals.
+//! The cases of document 01, as driver lines and whole output, and its refusals. As document 02 has
+//! it, the splitting ones are run with the accounts whose places are the numbers given there: `@5`
+//! in a line, and `at(5)`, is the account whose place is 5.
 
+mod placed;
 mod session;
 
 use model::fault::Fault;
 use model::machine::{Machine, Stepped};
+use model::places::account_at as at;
 use model::records::{
     Answer, Kind, GREATEST_TICKET, KIND_DELETE, KIND_INSERT, KIND_LOOKUP, KIND_POST,
 };
@@ -105,12 +109,12 @@ fn the_session() {
     );
 }
 
-/// One worker, holding 5 and 6.
+/// One worker, holding the accounts whose places are 5 and 6.
 const HOLDING: [(&str, &str); 5] = [
     ("O 1 2 1", "ok"),
-    ("I 0 5 50", "ok"),
+    ("I 0 @5 50", "ok"),
     ("S 0 99", "answered added 13"),
-    ("I 0 6 60", "ok"),
+    ("I 0 @6 60", "ok"),
     ("S 0 99", "answered added 13"),
 ];
 
@@ -118,17 +122,17 @@ const HOLDING: [(&str, &str); 5] = [
 fn a_split_then_crowded() {
     let mut pairs = HOLDING.to_vec();
     pairs.extend([
-        ("I 0 2147483648 80", "ok"),
+        ("I 0 @2147483648 80", "ok"),
         ("S 0 99", "answered added 23"),
-        ("I 0 7 70", "ok"),
+        ("I 0 @7 70", "ok"),
         ("S 0 99", "answered crowded 13"),
-        ("T", "5 50\n6 60\n2147483648 80\nend 3"),
+        ("T", "@5 50\n@6 60\n@2147483648 80\nend 3"),
         // Document 02: it can be closed, and makes room.
-        ("D 0 5", "ok"),
+        ("D 0 @5", "ok"),
         ("S 0 99", "answered removed 13"),
-        ("I 0 7 70", "ok"),
+        ("I 0 @7 70", "ok"),
         ("S 0 99", "answered added 13"),
-        ("T", "6 60\n7 70\n2147483648 80\nend 3"),
+        ("T", "@6 60\n@7 70\n@2147483648 80\nend 3"),
     ]);
     session(&pairs, &[1, 1, 2, 1, 1, 1]);
 }
@@ -137,12 +141,12 @@ fn a_split_then_crowded() {
 fn crowded_straight_away_and_the_split_stays() {
     let mut pairs = HOLDING.to_vec();
     pairs.extend([
-        ("I 0 7 70", "ok"),
+        ("I 0 @7 70", "ok"),
         ("S 0 99", "answered crowded 23"),
-        ("T", "5 50\n6 60\nend 2"),
-        ("D 0 5", "ok"),
+        ("T", "@5 50\n@6 60\nend 2"),
+        ("D 0 @5", "ok"),
         ("S 0 99", "answered removed 13"),
-        ("T", "6 60\nend 1"),
+        ("T", "@6 60\nend 1"),
     ]);
     session(&pairs, &[1, 1, 2, 1]);
 }
@@ -152,10 +156,10 @@ fn crowded_straight_away_and_the_split_stays() {
 fn a_delete_splits_first() {
     let mut pairs = HOLDING.to_vec();
     pairs.extend([
-        ("D 0 5", "ok"),
+        ("D 0 @5", "ok"),
         ("S 0 22", "moved 22"),
         ("S 0 1", "answered removed 23"),
-        ("T", "6 60\nend 1"),
+        ("T", "@6 60\nend 1"),
     ]);
     session(&pairs, &[1, 1, 2]);
 }
@@ -215,13 +219,13 @@ fn the_second_pass_is_needed() {
     session(
         &[
             ("O 2 2 1", "ok"),
-            ("I 0 5 50", "ok"),
+            ("I 0 @5 50", "ok"),
             ("S 0 99", "answered added 15"),
-            ("I 0 6 60", "ok"),
+            ("I 0 @6 60", "ok"),
             ("S 0 99", "answered added 15"),
-            ("I 0 2147483648 80", "ok"),
+            ("I 0 @2147483648 80", "ok"),
             ("S 0 20", "moved 20"),
-            ("I 1 2147483649 90", "ok"),
+            ("I 1 @2147483649 90", "ok"),
             ("S 1 13", "moved 13"),
             ("S 0 99", "answered added 29"),
             ("S 1 99", "answered added 43"),
@@ -262,21 +266,21 @@ fn a_listing_is_narrow_exactly_below_the_count() {
 fn the_plain_table_answers_as_its_rules_say() {
     let settings = Settings::new(1, 2, 1).expect("in range");
     let mut plain = model::plain::Plain::new(&settings);
-    assert_eq!(plain.apply(Kind::Lookup, 5, 0), Answer::None);
-    assert_eq!(plain.apply(Kind::Delete, 5, 0), Answer::Absent);
-    assert_eq!(plain.apply(Kind::Insert, 5, 1), Answer::Added);
-    assert_eq!(plain.apply(Kind::Insert, 5, 2), Answer::Replaced);
-    assert_eq!(plain.apply(Kind::Lookup, 5, 0), Answer::Found(2));
-    assert_eq!(plain.apply(Kind::Insert, 1 << 31, 3), Answer::Added);
-    assert_eq!(plain.apply(Kind::Insert, 6, 4), Answer::Added);
-    // 5 and 6 leave no room for 7; what is there can be changed.
-    assert_eq!(plain.apply(Kind::Insert, 7, 9), Answer::Crowded);
-    assert_eq!(plain.apply(Kind::Lookup, 7, 0), Answer::None);
-    assert_eq!(plain.apply(Kind::Delete, 7, 0), Answer::Absent);
-    assert_eq!(plain.apply(Kind::Insert, 5, 9), Answer::Replaced);
-    assert_eq!(plain.apply(Kind::Delete, 1 << 31, 0), Answer::Removed);
-    assert!(plain.lists_as(&[(5, 9), (6, 4)]));
-    assert_eq!(plain.apply(Kind::Delete, 6, 0), Answer::Removed);
-    assert_eq!(plain.apply(Kind::Insert, 7, 9), Answer::Added);
-    assert!(plain.lists_as(&[(5, 9), (7, 9)]));
+    assert_eq!(plain.apply(Kind::Lookup, at(5), 0), Answer::None);
+    assert_eq!(plain.apply(Kind::Delete, at(5), 0), Answer::Absent);
+    assert_eq!(plain.apply(Kind::Insert, at(5), 1), Answer::Added);
+    assert_eq!(plain.apply(Kind::Insert, at(5), 2), Answer::Replaced);
+    assert_eq!(plain.apply(Kind::Lookup, at(5), 0), Answer::Found(2));
+    assert_eq!(plain.apply(Kind::Insert, at(1 << 31), 3), Answer::Added);
+    assert_eq!(plain.apply(Kind::Insert, at(6), 4), Answer::Added);
+    // Places 5 and 6 leave no room for 7; what is there can be changed.
+    assert_eq!(plain.apply(Kind::Insert, at(7), 9), Answer::Crowded);
+    assert_eq!(plain.apply(Kind::Lookup, at(7), 0), Answer::None);
+    assert_eq!(plain.apply(Kind::Delete, at(7), 0), Answer::Absent);
+    assert_eq!(plain.apply(Kind::Insert, at(5), 9), Answer::Replaced);
+    assert_eq!(plain.apply(Kind::Delete, at(1 << 31), 0), Answer::Removed);
+    assert!(plain.lists_as(&[(at(5), 9), (at(6), 4)]));
+    assert_eq!(plain.apply(Kind::Delete, at(6), 0), Answer::Removed);
+    assert_eq!(plain.apply(Kind::Insert, at(7), 9), Answer::Added);
+    assert!(plain.lists_as(&[(at(5), 9), (at(7), 9)]));
 }

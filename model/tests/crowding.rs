@@ -7,6 +7,7 @@ use model::fault::Fault;
 use model::judge::{judge, Event, Internal};
 use model::lines::Line;
 use model::machine::{Machine, Stepped};
+use model::places::account_at as at;
 use model::plain::Plain;
 use model::records::{Answer, Kind};
 use model::settings::Settings;
@@ -112,10 +113,11 @@ fn updates(accounts: &[u32]) -> Vec<Update> {
     accounts.iter().flat_map(each).collect()
 }
 
-/// One worker makes every sequence of four updates of three accounts, of which two fill a bucket.
+/// One worker makes every sequence of four updates of three accounts, whose places are 5, 6 and 7;
+/// two fill a bucket.
 #[test]
 fn one_worker_answers_as_the_plain_table_whatever_the_sequence() {
-    let updates = updates(&[5, 6, 7]);
+    let updates = updates(&[5, 6, 7].map(at));
     let each = updates.len();
     for (depth, number) in (0..=1).flat_map(|m| (0..each.pow(4)).map(move |k| (m, k))) {
         let settings = Settings::new(1, 2, depth).expect("in range");

@@ -3,6 +3,7 @@
 use model::explain::Explainer;
 use model::fault::Fault;
 use model::lines::Line;
+use model::places::account_at as at;
 use model::records::{Answer, Kind, Update};
 use model::search::{one_order, verdict, By};
 use model::settings::Settings;
@@ -67,7 +68,7 @@ fn one_update_does_not_take_effect_twice() {
 #[test]
 fn crowded_is_explained_exactly_by_the_crowding_rule() {
     let mut all = fresh();
-    for account in [5, 6] {
+    for account in [5, 6].map(at) {
         all.called(0, operation(Kind::Insert, account, 7));
         assert!(all.answered(0, Answer::Added).is_ok());
     }
@@ -83,10 +84,10 @@ fn crowded_is_explained_exactly_by_the_crowding_rule() {
     ] {
         // An account that is there, a new one beside it, and one in the other half.
         let crowds = kind != Kind::Delete;
-        assert!(explains(kind, 5, there) && !explains(kind, 5, Answer::Crowded));
-        assert_eq!(explains(kind, 7, Answer::Crowded), crowds);
-        assert_eq!(explains(kind, 7, new), !crowds);
-        assert!(explains(kind, 1 << 31, new) && !explains(kind, 1 << 31, Answer::Crowded));
+        assert!(explains(kind, at(5), there) && !explains(kind, at(5), Answer::Crowded));
+        assert_eq!(explains(kind, at(7), Answer::Crowded), crowds);
+        assert_eq!(explains(kind, at(7), new), !crowds);
+        assert!(explains(kind, at(1 << 31), new) && !explains(kind, at(1 << 31), Answer::Crowded));
     }
 }
 
@@ -94,17 +95,17 @@ fn crowded_is_explained_exactly_by_the_crowding_rule() {
 fn crowded_is_explained_by_a_moment_before_room_was_made() {
     for late in [false, true] {
         let mut all = fresh();
-        for account in [5, 6] {
+        for account in [5, 6].map(at) {
             all.called(0, operation(Kind::Insert, account, 7));
             assert!(all.answered(0, Answer::Added).is_ok());
         }
         if !late {
-            all.called(1, operation(Kind::Insert, 7, 7));
+            all.called(1, operation(Kind::Insert, at(7), 7));
         }
-        all.called(0, operation(Kind::Delete, 5, 0));
+        all.called(0, operation(Kind::Delete, at(5), 0));
         assert!(all.answered(0, Answer::Removed).is_ok());
         if late {
-            all.called(1, operation(Kind::Insert, 7, 7));
+            all.called(1, operation(Kind::Insert, at(7), 7));
         }
         assert_eq!(all.answered(1, Answer::Crowded).is_ok(), !late);
     }

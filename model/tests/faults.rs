@@ -2,6 +2,7 @@
 //! stored orders tells apart; each stored order is judged well on the true machine and gives the
 //! stored output.
 
+mod placed;
 mod stored;
 
 use model::explain::UNDECIDED;
@@ -16,7 +17,9 @@ use model::task::StepKind;
 use model::trace::record::record;
 use model::trace::Step;
 use model::wrong_crowding::WrongCrowding;
+use model::wrong_places::WrongPlace;
 use model::wrong_posts::WrongPost;
+use placed::placed;
 use stored::{lines, output, stored};
 
 /// Wrong machines that random search with this seed and budget does not catch by the external
@@ -44,7 +47,7 @@ const BUDGET: u64 = 100_000;
 
 /// Stored orders that are not named after a fault, with the fault whose output they tell apart
 /// from the true machine's.
-const MORE: [(&str, Fault); 13] = [
+const MORE: [(&str, Fault); 15] = [
     ("account-brought-back", Fault::DeleteIntoFull),
     ("crowded-after-anothers-split", Fault::OneDirectoryRound),
     ("crowded-after-own-split", Fault::OneDirectoryRound),
@@ -52,6 +55,8 @@ const MORE: [(&str, Fault); 13] = [
         "crowded-is-settled",
         Fault::Crowding(WrongCrowding::AtCheck),
     ),
+    ("from-1000-fourth-check", Fault::Place(WrongPlace::ByNumber)),
+    ("from-1000-up", Fault::Place(WrongPlace::ByNumber)),
     ("full-takes-changes", Fault::Crowding(WrongCrowding::Delete)),
     (
         "room-in-one-split",
@@ -185,19 +190,21 @@ fn an_announcement_that_applies_changes_two_cells_at_once() {
 fn slots_read_backwards_show_in_a_listing() {
     let fault = Fault::SlotsBackwards;
     // Worker 1 announces between worker 0's two reads of slots, and is taken.
-    assert!(output(fault.name(), Fault::None).ends_with("2147483649 90\nend 4\n"));
+    let taken = placed("@2147483649 90\nend 4\n");
+    assert!(output(fault.name(), Fault::None).ends_with(&taken));
     // Read backwards, its slot comes too early: it is not taken, and has its moment later.
-    assert!(output(fault.name(), fault).ends_with("2147483648 80\nend 3\n"));
+    let missed = placed("@2147483648 80\nend 3\n");
+    assert!(output(fault.name(), fault).ends_with(&missed));
 }
 
 #[test]
 fn a_crowded_update_that_is_tried_again_shows_in_its_answer() {
     let fault = Fault::Crowding(WrongCrowding::TriedAgain);
     // Worker 0's split settles worker 1's insert as crowded, and then worker 0 makes room.
-    let listing = "6 60\n2147483648 80\nend 2\n";
+    let listing = placed("@6 60\n@2147483648 80\nend 2\n");
     let crowded = format!("answered removed 15\nanswered crowded 15\n{listing}");
     assert!(output(fault.name(), Fault::None).ends_with(&crowded));
-    let listing = "6 60\n7 70\n2147483648 80\nend 3\n";
+    let listing = placed("@6 60\n@7 70\n@2147483648 80\nend 3\n");
     let added = format!("answered removed 15\nanswered added 15\n{listing}");
     assert!(output(fault.name(), fault).ends_with(&added));
 }

@@ -1,10 +1,13 @@
 //! Posts as document 02 has them: the sum, the account made, overrun at both ends of the range,
-//! crowded for a new account only, and what a helped worker is told.
+//! crowded for a new account only, and what a helped worker is told. `@5` in a line, and `at(5)`,
+//! is the account whose place is 5.
 
+mod placed;
 mod session;
 
 use model::fault::Fault;
 use model::machine::{Machine, Stepped};
+use model::places::account_at as at;
 use model::plain::Plain;
 use model::records::{Answer, Kind, Settled, KIND_DELETE, KIND_INSERT, KIND_POST};
 use model::settings::Settings;
@@ -18,19 +21,19 @@ fn a_post_takes_the_steps_of_an_insert() {
     session(
         &[
             ("O 1 2 1", "ok"),
-            ("P 0 5 700", "ok"),
-            ("P 0 5 700", "refused 4"),
+            ("P 0 @5 700", "ok"),
+            ("P 0 @5 700", "refused 4"),
             ("S 0 12", "moved 12"),
             ("S 0 9", "answered posted 700 13"),
-            ("P 1 5 1", "refused 3"),
-            ("P 0 5 -701", "ok"),
+            ("P 1 @5 1", "refused 3"),
+            ("P 0 @5 -701", "ok"),
             ("S 0 99", "answered posted -1 13"),
-            ("P 0 6 60", "ok"),
+            ("P 0 @6 60", "ok"),
             ("S 0 99", "answered posted 60 13"),
-            ("P 0 2147483648 80", "ok"),
+            ("P 0 @2147483648 80", "ok"),
             ("S 0 22", "moved 22"),
             ("S 0 1", "answered posted 80 23"),
-            ("T", "5 -1\n6 60\n2147483648 80\nend 3"),
+            ("T", "@5 -1\n@6 60\n@2147483648 80\nend 3"),
         ],
         &[1, 1, 1, 2],
     );
@@ -147,28 +150,28 @@ fn only_a_post_to_a_new_account_is_crowded() {
     session(
         &[
             ("O 1 2 1", "ok"),
-            ("I 0 5 9223372036854775807", "ok"),
+            ("I 0 @5 9223372036854775807", "ok"),
             ("S 0 99", "answered added 13"),
-            ("P 0 6 60", "ok"),
+            ("P 0 @6 60", "ok"),
             ("S 0 99", "answered posted 60 13"),
             // The split comes before the answer.
-            ("P 0 7 1", "ok"),
+            ("P 0 @7 1", "ok"),
             ("S 0 99", "answered crowded 23"),
-            ("P 0 5 1", "ok"),
+            ("P 0 @5 1", "ok"),
             ("S 0 99", "answered overrun 13"),
-            ("P 0 6 -60", "ok"),
+            ("P 0 @6 -60", "ok"),
             ("S 0 99", "answered posted 0 13"),
-            ("P 0 7 0", "ok"),
+            ("P 0 @7 0", "ok"),
             ("S 0 99", "answered crowded 13"),
-            ("P 0 7 -9223372036854775808", "ok"),
+            ("P 0 @7 -9223372036854775808", "ok"),
             ("S 0 99", "answered crowded 13"),
-            ("P 0 2147483648 -9223372036854775808", "ok"),
+            ("P 0 @2147483648 -9223372036854775808", "ok"),
             ("S 0 99", "answered posted -9223372036854775808 13"),
-            ("P 0 2147483648 -1", "ok"),
+            ("P 0 @2147483648 -1", "ok"),
             ("S 0 99", "answered overrun 13"),
             (
                 "T",
-                "5 9223372036854775807\n6 0\n2147483648 -9223372036854775808\nend 3",
+                "@5 9223372036854775807\n@6 0\n@2147483648 -9223372036854775808\nend 3",
             ),
         ],
         &[1, 1, 2, 1, 1, 1, 1, 1, 1],
@@ -181,15 +184,15 @@ fn an_overrun_may_come_after_a_split() {
     session(
         &[
             ("O 1 2 1", "ok"),
-            ("I 0 5 9223372036854775807", "ok"),
+            ("I 0 @5 9223372036854775807", "ok"),
             ("S 0 99", "answered added 13"),
-            ("I 0 2147483648 80", "ok"),
+            ("I 0 @2147483648 80", "ok"),
             ("S 0 99", "answered added 13"),
-            ("P 0 5 1", "ok"),
+            ("P 0 @5 1", "ok"),
             ("S 0 99", "answered overrun 23"),
-            ("P 0 5 -7", "ok"),
+            ("P 0 @5 -7", "ok"),
             ("S 0 99", "answered posted 9223372036854775800 13"),
-            ("T", "5 9223372036854775800\n2147483648 80\nend 2"),
+            ("T", "@5 9223372036854775800\n@2147483648 80\nend 2"),
         ],
         &[1, 1, 2, 1],
     );
@@ -277,20 +280,20 @@ fn every_answer_of_a_post_is_settled_with_its_total() {
 fn the_plain_table_posts() {
     let mut plain = Plain::new(&Settings::new(1, 2, 1).expect("in range"));
     let mut post = |account, amount| plain.apply(Kind::Post, account, amount);
-    assert_eq!(post(5, 0), Answer::Posted(0));
-    assert_eq!(post(5, i64::MIN), Answer::Posted(i64::MIN));
-    assert_eq!(post(5, -1), Answer::Overrun);
-    assert_eq!(post(5, i64::MAX), Answer::Posted(-1));
-    assert_eq!(post(5, i64::MIN), Answer::Overrun);
-    assert_eq!(post(1 << 31, i64::MAX), Answer::Posted(i64::MAX));
-    assert_eq!(post(1 << 31, i64::MAX), Answer::Overrun);
-    assert_eq!(post(6, 7), Answer::Posted(7));
-    // 5 and 6 leave no room for 7, whatever the amount; their own totals can be changed.
-    assert_eq!(post(5, i64::MIN), Answer::Overrun);
-    assert_eq!(post(6, 0), Answer::Posted(7));
-    assert_eq!(post(6, -8), Answer::Posted(-1));
+    assert_eq!(post(at(5), 0), Answer::Posted(0));
+    assert_eq!(post(at(5), i64::MIN), Answer::Posted(i64::MIN));
+    assert_eq!(post(at(5), -1), Answer::Overrun);
+    assert_eq!(post(at(5), i64::MAX), Answer::Posted(-1));
+    assert_eq!(post(at(5), i64::MIN), Answer::Overrun);
+    assert_eq!(post(at(1 << 31), i64::MAX), Answer::Posted(i64::MAX));
+    assert_eq!(post(at(1 << 31), i64::MAX), Answer::Overrun);
+    assert_eq!(post(at(6), 7), Answer::Posted(7));
+    // Places 5 and 6 leave no room for 7, whatever the amount; their own totals can be changed.
+    assert_eq!(post(at(5), i64::MIN), Answer::Overrun);
+    assert_eq!(post(at(6), 0), Answer::Posted(7));
+    assert_eq!(post(at(6), -8), Answer::Posted(-1));
     for amount in [0, 1, i64::MAX, i64::MIN] {
-        assert_eq!(post(7, amount), Answer::Crowded);
+        assert_eq!(post(at(7), amount), Answer::Crowded);
     }
-    assert!(plain.lists_as(&[(5, -1), (6, -1), (1 << 31, i64::MAX)]));
+    assert!(plain.lists_as(&[(at(5), -1), (at(6), -1), (at(1 << 31), i64::MAX)]));
 }

@@ -4,6 +4,7 @@ use model::fault::Fault;
 use model::judge::{judge, Event, Internal, Judge};
 use model::lines::Line;
 use model::machine::{Machine, Stepped};
+use model::places::account_at;
 use model::prng::Prng;
 use model::records::{Answer, Kind, Update, KIND_POST};
 use model::search::{one_order, one_variation, By};
@@ -96,13 +97,14 @@ fn every_account_holds_its_last_insert_and_the_posts_since() {
     assert!(posted > 4_000 && overruns > 300, "{posted} {overruns}");
 }
 
-/// One account for each prefix of M bits, so that none is crowded, and at most so many of them.
+/// One account for each first M bits of a place, so that none is crowded, and at most so many of
+/// them.
 fn accounts(prng: &mut Prng, settings: &Settings, most: u64) -> Vec<u32> {
     let depth = settings.greatest_depth;
     let count = prng.between(1, most.min(1 << depth));
     let shift = 31 - depth.min(31);
     let place = |prefix: u64| ((prefix << 1 | 1) << shift) as u32;
-    (0..count).map(place).collect()
+    (0..count).map(place).map(account_at).collect()
 }
 
 /// Posts only, each of another amount above 0, by all workers at once: the amounts and the totals

@@ -1,6 +1,7 @@
 //! The tariff: the check and the steps of every answer, in random orders and in the stored ones,
 //! and the wrong machines that it shows.
 
+mod placed;
 mod stored;
 
 use model::fault::Fault;
@@ -10,12 +11,13 @@ use model::machine::Stepped;
 use model::off_tariff::OffTariff;
 use model::search::{one_order, one_variation, search, verdict, By};
 use model::totals::{transcript, Driver};
+use placed::placed;
 use std::collections::{BTreeMap, BTreeSet};
 use stored::{folder, lines, output, stored};
 
 /// Every stored order with the checks told with its answers, in turn; `one-pass` is document 01's
 /// last case.
-const CHECKS: [(&str, &[u8]); 52] = [
+const CHECKS: [(&str, &[u8]); 60] = [
     ("absent-delete-crowded", &[1, 1, 1]),
     ("account-brought-back", &[1, 1, 2, 3]),
     ("always-added", &[1]),
@@ -29,6 +31,7 @@ const CHECKS: [(&str, &[u8]); 52] = [
     ("crowded-after-own-split", &[1, 1, 2, 1, 4]),
     ("crowded-at-check", &[1, 1, 1, 1, 1, 1]),
     ("crowded-below-depth", &[1, 1, 2]),
+    ("crowded-by-number", &[1, 1, 2]),
     ("crowded-is-settled", &[1, 1, 1, 1, 1, 1]),
     ("crowded-not-settled", &[1, 1, 1]),
     ("crowded-tried-after-answer", &[1, 1, 1, 1]),
@@ -37,11 +40,15 @@ const CHECKS: [(&str, &[u8]); 52] = [
     ("delete-into-full", &[1, 1, 2]),
     ("directory-swap-blind", &[1, 1, 2]),
     ("doubled-in-row", &[1, 1, 2, 2, 0]),
+    ("from-1000-fourth-check", &[1, 1, 2, 1, 4]),
+    ("from-1000-up", &[1, 1, 2, 1, 2, 2, 1, 1, 1, 1, 1, 1]),
     ("full-as-read", &[1, 1, 1]),
     ("full-takes-changes", &[1, 1, 1, 1, 1, 1, 1, 1, 1, 1]),
     ("held-back-after-splits", &[1, 1, 2]),
     ("held-back-at-m", &[1, 1, 1]),
     ("last-total-told", &[1, 1]),
+    ("listed-by-place", &[1, 1]),
+    ("listing-filter-by-number", &[1, 1, 2]),
     ("new-into-full", &[1, 1, 1]),
     ("one-bucket-round", &[1]),
     ("one-directory-round", &[1, 1, 2, 4]),
@@ -53,6 +60,8 @@ const CHECKS: [(&str, &[u8]); 52] = [
     ("overrun-wraps", &[1, 1]),
     ("own-update-only", &[1, 1, 1, 2]),
     ("own-update-only-listing", &[1, 1, 2, 1]),
+    ("place-backwards", &[1, 1, 2]),
+    ("placed-by-number", &[1, 1, 2]),
     ("post-crowded", &[1, 1, 1]),
     ("post-deletes", &[1]),
     ("post-helped-twice", &[1, 1, 2, 1]),
@@ -65,6 +74,7 @@ const CHECKS: [(&str, &[u8]); 52] = [
     ("room-in-one-swap", &[1, 1, 1, 1, 1, 1, 1, 1]),
     ("settled-not-copied", &[1, 2, 1]),
     ("slots-backwards", &[1, 1]),
+    ("split-by-number", &[1, 1, 2, 0]),
     ("toggle-ignored", &[1, 1]),
     ("toggle-ignored-listing", &[1, 1]),
     ("unsettled-crowded", &[1, 1, 2, 3]),
@@ -119,10 +129,10 @@ fn no_stored_order_is_left_out() {
 /// directory swap, worker 1 after its first bucket pass.
 fn third_check(n: u64) -> String {
     let (swap, pass) = (4 * n + 12, 2 * n + 9);
-    format!(
-        "O {n} 2 1\nI 0 5 50\nS 0 999\nI 0 6 60\nS 0 999\nI 0 2147483648 80\nS 0 {swap}\n\
-         I 1 2147483649 90\nS 1 {pass}\nS 0 999\nS 1 999\n"
-    )
+    placed(&format!(
+        "O {n} 2 1\nI 0 @5 50\nS 0 999\nI 0 @6 60\nS 0 999\nI 0 @2147483648 80\nS 0 {swap}\n\
+         I 1 @2147483649 90\nS 1 {pass}\nS 0 999\nS 1 999\n"
+    ))
 }
 
 /// The order `crowded-after-own-split` for so many workers, three or more: worker 0 makes its first
@@ -130,11 +140,11 @@ fn third_check(n: u64) -> String {
 fn fourth_check(n: u64) -> String {
     let (swap, first, second) = (4 * n + 12, 2 * n + 9, 6 * n + 15);
     let (parked, third) = (2 * n + 1, 2 * n + 11);
-    format!(
-        "O {n} 2 2\nI 2 0 7\nS 2 999\nI 2 2147483648 7\nS 2 999\nI 2 2214592512 7\nS 2 {swap}\n\
-         I 0 67108864 7\nS 0 2\nI 1 3355443200 7\nS 1 2\nS 2 1\nS 1 {first}\nS 0 {second}\n\
-         S 1 {parked}\nS 2 999\nI 2 134217728 7\nS 2 999\nS 0 {third}\nS 1 1\nS 0 999\n"
-    )
+    placed(&format!(
+        "O {n} 2 2\nI 2 @0 7\nS 2 999\nI 2 @2147483648 7\nS 2 999\nI 2 @2214592512 7\nS 2 {swap}\n\
+         I 0 @67108864 7\nS 0 2\nI 1 @3355443200 7\nS 1 2\nS 2 1\nS 1 {first}\nS 0 {second}\n\
+         S 1 {parked}\nS 2 999\nI 2 @134217728 7\nS 2 999\nS 0 {third}\nS 1 1\nS 0 999\n"
+    ))
 }
 
 #[test]

@@ -1,6 +1,7 @@
 //! Tickets of 64 bits: the last numbers and refusal 7, and orders from last tickets near the edges
 //! and anywhere.
 
+mod placed;
 mod session;
 
 use model::fault::Fault;
@@ -13,6 +14,7 @@ use model::refusal;
 use model::search::{new_judge, one_order, one_variation, By};
 use model::starts::{near_edges, Start, EDGES};
 use model::totals::Driver;
+use placed::placed;
 use session::session;
 use std::array::from_fn;
 use std::rc::Rc;
@@ -112,7 +114,7 @@ fn a_spent_call_changes_nothing() {
     }
 }
 
-/// The settled tickets in each current bucket, in the order of their accounts.
+/// The settled tickets in each current bucket, in the order of their places.
 fn settled(machine: &Machine) -> Vec<Vec<u64>> {
     let mut buckets = machine.directory.entries.clone();
     buckets.dedup_by(|bucket, before| Rc::ptr_eq(bucket, before));
@@ -121,9 +123,10 @@ fn settled(machine: &Machine) -> Vec<Vec<u64>> {
     states.map(tickets).collect()
 }
 
-/// Takes more lines, and answers what is settled then.
+/// Takes more lines, in which `@5` is the account whose place is 5, and answers what is settled
+/// then.
 fn settled_after(by: &mut dyn Judge, text: &str) -> Vec<Vec<u64>> {
-    let lines = read_lines(text).expect("lines");
+    let lines = read_lines(&placed(text)).expect("lines");
     judge(by, &lines).expect("every assertion holds");
     settled(by.machine().expect("a table was opened"))
 }
@@ -137,16 +140,16 @@ fn tickets_1_and_2_to_the_63_settle_in_one_bucket() {
         let mut all = new_judge(by, first(&[0, HALF - 1]));
         // The helped update has made three steps when both are settled.
         let text = format!(
-            "O 3 2 1\nI {helped} 5 50\nS {helped} 3\nI {helper} 2147483648 80\nS {helper} 99\nT\n"
+            "O 3 2 1\nI {helped} @5 50\nS {helped} 3\nI {helper} @2147483648 80\nS {helper} 99\nT\n"
         );
         assert_eq!(settled_after(&mut *all, &text), [[1, HALF, 0]]);
         // The full bucket is split for worker 2, in the left half.
-        let text = format!("S {helped} 99\nI 2 6 60\nS 2 99\nT\n");
+        let text = format!("S {helped} 99\nI 2 @6 60\nS 2 99\nT\n");
         let halves = [[1, HALF, 1], [1, HALF, 0]];
         assert_eq!(settled_after(&mut *all, &text), halves);
         // The next tickets of both in the right half.
         let text = format!(
-            "I {helped} 2147483648 81\nS {helped} 3\nD {helper} 2147483648\nS {helper} 99\nT\n\
+            "I {helped} @2147483648 81\nS {helped} 3\nD {helper} @2147483648\nS {helper} 99\nT\n\
              S {helped} 99\n"
         );
         let halves = [[1, HALF, 1], [2, HALF + 1, 0]];
@@ -158,12 +161,12 @@ fn tickets_1_and_2_to_the_63_settle_in_one_bucket() {
 fn tickets_1_and_2_to_the_63_settle_by_a_split() {
     for ((helped, helper), by) in HELPED.iter().flat_map(|pair| By::BOTH.map(|by| (pair, by))) {
         let mut all = new_judge(by, first(&[0, HALF - 1]));
-        let text = "O 3 2 1\nI 2 5 50\nS 2 99\nI 2 2147483648 80\nS 2 99\n";
+        let text = "O 3 2 1\nI 2 @5 50\nS 2 99\nI 2 @2147483648 80\nS 2 99\n";
         assert_eq!(settled_after(&mut *all, text), [[0, 0, 2]]);
         // The helper's directory pass takes both: the helped update to the left, its own to the
         // right.
         let text =
-            format!("I {helped} 6 60\nS {helped} 1\nI {helper} 2147483649 90\nS {helper} 99\n");
+            format!("I {helped} @6 60\nS {helped} 1\nI {helper} @2147483649 90\nS {helper} 99\n");
         let mut halves = [[0, 0, 2], [0, 0, 2]];
         halves[0][*helped] = [1, HALF][*helped];
         halves[1][*helper] = [1, HALF][*helper];

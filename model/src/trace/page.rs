@@ -119,6 +119,6 @@ fn legend() -> String {
          A bar without answer is open at its end. A white stretch of a bar: its worker is parked. \
          Time is counted in entries of the list: calls, steps of all workers and listings, the refused ones too; \
          an unread line takes a place as well. \
-         A bucket is written as the first bits of its accounts and a star. Pointing at a mark shows more.</p>\n"
+         A bucket is written as the first bits of its accounts' places and a star. Pointing at a mark shows more.</p>\n"
     )
 }

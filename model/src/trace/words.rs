@@ -3,6 +3,7 @@
 use super::leaf::{leaves, Leaf, Split};
 use super::Operation;
 use crate::machine::Machine;
+use crate::places::place;
 use crate::records::{Bucket, Directory, Kind, Update};
 use crate::task::{StepKind, Task};
 use crate::totals::{answer_words, LONGEST};
@@ -43,7 +44,7 @@ pub fn end(operation: &Operation) -> String {
     }
 }
 
-/// A bucket by the first bits of its accounts; the star stands for the others.
+/// A bucket by the first bits of its accounts' places; the star stands for the others.
 pub fn leaf(leaf: &Leaf) -> String {
     match leaf.depth {
         0 => "*".to_string(),
@@ -63,12 +64,23 @@ pub fn splits(all: &[Split]) -> String {
 }
 
 pub fn items(items: &[(u32, i64)]) -> String {
+    joined(items, |(account, total)| format!("{account} = {total}"))
+}
+
+/// The same, each with its account's place.
+fn placed_items(items: &[(u32, i64)]) -> String {
+    let place_of = |(account, total)| format!("{account} = {total} (place {})", place(account));
+    joined(items, place_of)
+}
+
+/// Ascending by account, with commas.
+fn joined(items: &[(u32, i64)], words: impl Fn((u32, i64)) -> String) -> String {
     if items.is_empty() {
         return "nothing".to_string();
     }
     let mut sorted = items.to_vec();
     sorted.sort_unstable();
-    let each: Vec<String> = sorted.iter().map(|(a, t)| format!("{a} = {t}")).collect();
+    let each: Vec<String> = sorted.into_iter().map(words).collect();
     each.join(", ")
 }
 
@@ -85,7 +97,7 @@ fn state(bucket: &Bucket) -> String {
     format!(
         "bucket {}: {}",
         name(bucket),
-        items(&bucket.current().items)
+        placed_items(&bucket.current().items)
     )
 }
 

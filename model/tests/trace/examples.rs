@@ -1,5 +1,6 @@
 //! The examples in docs/trace: fresh pages, small pictures, and runs that are as their text says.
 
+use crate::placed::placed;
 use crate::{assert_page_is_the_run, elements, titles};
 use model::fault::Fault;
 use model::totals::transcript;
@@ -74,8 +75,10 @@ fn the_pictures_are_small_and_the_text_shows_them() {
     }
 }
 
-/// On the page of these lines an operation has this end, in its hover text and in a label.
+/// On the page of these lines an operation has this end, in its hover text and in a label; `@5` in
+/// it is the account whose place is 5.
 fn assert_end(lines: &[u8], operation: &str, end: &str) {
+    let operation = placed(operation);
     let elements = elements(lines);
     let whole = format!("{operation}: {end}");
     assert!(titles(&elements, "operation").contains(&whole), "{whole}");
@@ -86,12 +89,20 @@ fn assert_end(lines: &[u8], operation: &str, end: &str) {
 #[test]
 fn the_check_that_answered_is_said_on_the_page() {
     let lines = input("second-pass");
-    assert_end(&lines, "insert 5 = 50", "added, 15 steps, check 1");
-    assert_end(&lines, "insert 2147483648 = 80", "added, 29 steps, check 2");
-    assert_end(&lines, "insert 2147483649 = 90", "added, 43 steps, check 3");
+    assert_end(&lines, "insert @5 = 50", "added, 15 steps, check 1");
+    assert_end(
+        &lines,
+        "insert @2147483648 = 80",
+        "added, 29 steps, check 2",
+    );
+    assert_end(
+        &lines,
+        "insert @2147483649 = 90",
+        "added, 43 steps, check 3",
+    );
     let lines = include_bytes!("../../orders/crowded-after-own-split.txt");
-    assert_end(lines, "insert 67108864 = 7", "crowded, 69 steps, check 4");
-    assert_end(&input("overtaken"), "lookup 5", "found 50, 2 steps");
+    assert_end(lines, "insert @67108864 = 7", "crowded, 69 steps, check 4");
+    assert_end(&input("overtaken"), "lookup @5", "found 50, 2 steps");
     let lines = b"O 1 2 0\nD 0 5\nS 0 1\n";
     assert_end(lines, "delete 5", "no answer, 1 step");
 }
@@ -105,7 +116,8 @@ fn the_second_pass_takes_up_what_the_first_lost() {
     );
     let moments = moments("second-pass");
     let (what, at) = &moments[3];
-    assert_eq!(what, "moment 4 insert 2147483649 = 90: added");
+    let insert = placed("moment 4 insert @2147483649 = 90: added");
+    assert_eq!(*what, insert);
     // Its call is entry 54, and its second pass starts with its step 30, at entry 93.
     assert_eq!(at, "at entry 99, of worker 1");
 }
@@ -134,19 +146,19 @@ fn an_overtaken_lookup_has_its_moment_before_the_split() {
     assert!(split[0].starts_with("entry 56: ") && split[0].ends_with("\nsplit * into 0*, 1*"));
     let seen = moments("overtaken");
     let expected = [
-        ("moment 3 lookup 5: found 50", "at entry 56, of worker 1"),
+        ("moment 3 lookup @5: found 50", "at entry 56, of worker 1"),
         (
-            "moment 4 insert 2147483649 = 90: added",
+            "moment 4 insert @2147483649 = 90: added",
             "at entry 56, of worker 0",
         ),
         (
-            "moment 5 insert 5 = 55: replaced",
+            "moment 5 insert @5 = 55: replaced",
             "at entry 73, of worker 0",
         ),
     ];
     assert_eq!(
         seen[2..],
-        expected.map(|(what, at)| (what.into(), at.into()))
+        expected.map(|(what, at)| (placed(what), at.into()))
     );
 }
 

@@ -2,6 +2,8 @@
 //! moment of the run, no labels over each other; and the examples in docs.
 
 mod examples;
+#[path = "../placed/mod.rs"]
+mod placed;
 mod reader;
 mod run;
 
