@@ -23,7 +23,7 @@ use Rattle.layout.proofs.Checks.{fits-of, depth-of}
 use Rattle.sorting.specs.Sorting.{sorted}
 use Rattle.sorting.specs.RowLists.{RowsWritten, firstRows}
 use Rattle.sorting.proofs.Insertion.{sorted-length}
-use Rattle.sorting.proofs.Rows.{written-over, first-rows-written}
+use Rattle.sorting.proofs.Rows.{written-sorted}
 use Rattle.rows.specs.Rows.{rowsFrom, unsorted, rows, shown, listingWords}
 use Rattle.entries.specs.Entries.{rowsOf}
 use Rattle.entries.proofs.EntryLaws.{entry-limit, span-limit}
@@ -90,9 +90,6 @@ written-behind f a w v k xs ys zs e n h g =
     let m : k ≡ 0 + length (map f xs) = simp length-map (omega arith) in
     h ∙ rw (e, m, g, map-append) (overlay-join a 0 (map f xs) (map f ys) (omega arith))
 
-as-many : {A : Type 0} (f : ℕ × ℤ → A) (r : List (ℕ × ℤ)) → length (map f r) ≡ length (map f (sorted r))
-as-many f r = length-map r f ∙ sym (sorted-length r) ∙ sym (length-map (sorted r) f)
-
 -- there is room for the written rows to be sorted, and sorted they are as if written so
 module _ (l : List ℕ) (s : Settings) (k : ℕ) (count : k ≡ length (unsorted l s)) (accounts : List ℕ) (totals : List ℤ) (a : List ℕ)
     (t : List ℤ) (written : RowsWritten accounts totals 0 (unsorted l s) a t) where
@@ -107,11 +104,7 @@ module _ (l : List ℕ) (s : Settings) (k : ℕ) (count : k ≡ length (unsorted
 
   pub sorted-written :
       (b : List ℕ) (u : List ℤ) → RowsWritten a t 0 (sorted (firstRows a t k)) b u → RowsWritten accounts totals 0 (sorted r) b u
-  sorted-written b u after =
-      let first : firstRows a t k ≡ r = rw count (first-rows-written accounts totals r a t written) in (
-        after .0 ∙ rw (first, written .0) (written-over accounts _ (map (λ x. x .0) (sorted r)) (as-many (λ x. x .0) r)),
-        after .1 ∙ rw (first, written .1) (written-over totals _ (map (λ x. x .1) (sorted r)) (as-many (λ x. x .1) r)),
-      )
+  sorted-written b u after = written-sorted accounts totals r a t b u written (rw count at after)
 
 -- the entries of the directory at depth d, as the code computes their number
 pub span-is : (d : ℕ) → d ≤ 15 → 1 * 2 ^ d % 18_446_744_073_709_551_616 ≡ 2 ^ d
