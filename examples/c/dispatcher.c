@@ -1,10 +1,11 @@
 /*
  * A report run: three workers post twelve invoices to a table of totals; a dispatcher gives each a few steps at a time.
- * Two accounts get invoices from all three workers, and no post is lost. Worker 2 is parked in the middle of one until
- * the others have finished: they carry it out. Nothing is allocated. The steps are planned by the most that an
- * operation takes, and the checks that answered say how many were taken. What a call returns is always looked at: a
- * refusal, an invoice that the table has no room for or that makes a total of more than 64 bits, and a month whose
- * invoices and totals differ end the run with a line on standard error and exit status 1.
+ * The accounts are numbered from 1000 up; the table spreads them over its buckets. Two accounts get invoices from all
+ * three workers, and no post is lost. Worker 2 is parked in the middle of one until the others have finished: they
+ * carry it out. Nothing is allocated. The steps are planned by the most that an operation takes, and the checks that
+ * answered say how many were taken. What a call returns is always looked at: a refusal, an invoice that the table has
+ * no room for or that makes a total of more than 64 bits, and a month whose invoices and totals differ end the run with
+ * a line on standard error and exit status 1.
  */
 #include <inttypes.h>
 #include <limits.h>
@@ -23,9 +24,9 @@ struct invoice {
 };
 
 static const struct invoice invoices[WORKERS][INVOICES] = {
-    {{1010, 12500}, {2000000010, 4000}, {1020, -2500}, {1010, 900}},
-    {{1020, 7300}, {2000000020, 1500}, {1010, 2900}, {4000000010, 6000}},
-    {{1030, 8800}, {1010, 450}, {1020, 5000}, {4000000020, 150}},
+    {{1000, 12500}, {1003, 4000}, {1001, -2500}, {1000, 900}},
+    {{1001, 7300}, {1004, 1500}, {1000, 2900}, {1005, 6000}},
+    {{1002, 8800}, {1000, 450}, {1001, 5000}, {1006, 150}},
 };
 
 /* What a worker is at: the number of its invoice, and whether that is being posted. */
@@ -217,10 +218,10 @@ static int report_run(void)
 {
     int64_t sum;
     return refused(totals_open(words, length, WORKERS, CAPACITY, DEPTH), "open") || dispatch(26, NOBODY) ||
-           show("worker 2 is parked, posting 450 to 1010", &sum) || dispatch(UINT_MAX, 2) ||
+           show("worker 2 is parked, posting 450 to 1000", &sum) || dispatch(UINT_MAX, 2) ||
            show("worker 2 is still parked", &sum) || dispatch(UINT_MAX, NOBODY) ||
-           show("all is posted", &sum) || check_month(sum) || show_steps() || at_once(0, TOTALS_LOOKUP, 1010) ||
-           at_once(1, TOTALS_DELETE, 4000000020) || show("at the end", &sum);
+           show("all is posted", &sum) || check_month(sum) || show_steps() || at_once(0, TOTALS_LOOKUP, 1000) ||
+           at_once(1, TOTALS_DELETE, 1006) || show("at the end", &sum);
 }
 
 int main(void)

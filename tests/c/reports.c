@@ -12,8 +12,8 @@ enum { LENGTH = TOTALS_GREATEST_WORDS, LONGEST = 4, BEFORE = 1000, TOTAL = -700,
 
 /* Worker 0 is handed an operation, or goes on with its own; then a single step or a run; and what is to come of it. */
 struct turn {
-    uint64_t kind; /* 0 to go on */
-    uint32_t account;
+    uint64_t kind;  /* 0 to go on */
+    uint32_t place; /* of the account */
     int64_t total;
     enum { STEP, RUN } by;
     uint64_t most, number;
@@ -22,8 +22,8 @@ struct turn {
 };
 
 /*
- * One worker, buckets of 2, depth 1 at most: the third account needs a split, and leaves the bucket of 5 and 6 full at
- * that depth. It then takes what corrects these two, and a new account when one of them is removed.
+ * One worker, buckets of 2, depth 1 at most: the third account needs a split, and leaves the bucket of places 5 and 6
+ * full at that depth. It then takes what corrects these two, and a new account when one of them is removed.
  */
 static const struct turn turns[] = {
     {0, 0, 0, STEP, 1, TOTALS_IDLE, 0, {0, 0, 0}},
@@ -63,8 +63,9 @@ static int wrong(const struct turn *turn, size_t places)
     int errors = 0;
     for (place = 0; place < LONGEST + 2; place++)
         report[place] = BEFORE + place;
-    if (turn->kind != 0 && totals_call(words, LENGTH, 0, turn->kind, turn->account, turn->total) != TOTALS_OK)
-        return fprintf(stderr, "account %" PRIu32 ": refused\n", turn->account);
+    if (turn->kind != 0 &&
+        totals_call(words, LENGTH, 0, turn->kind, totals_account_at(turn->place), turn->total) != TOTALS_OK)
+        return fprintf(stderr, "the account at place %" PRIu32 ": refused\n", turn->place);
     number = turn->by == STEP ? totals_step(words, LENGTH, 0, report, places)
                               : totals_run(words, LENGTH, 0, turn->most, report, places);
     if (number != turn->number)

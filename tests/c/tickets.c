@@ -20,12 +20,13 @@ enum { WORKERS = 2, WORKERS_AT = 16 + 4 * WORKERS, WORKER_SIZE = 4 * WORKERS + 2
 enum { LENGTH = TOTALS_GREATEST_WORDS, PLACES = 8, GO_ON = 0, ALL = TOTALS_GREATEST_STEPS(WORKERS) };
 enum { TAKEN = 5 }; /* tickets by worker 1 in an order, at most */
 
-/* The least accounts whose first two bits are 10, and 11; those of small accounts are 00. */
+/* The least places whose first two bits are 10, and 11; those of small ones are 00. */
 #define IN_10 2147483648
 #define IN_11 3221225472
 
+/* An account by its place, and its total. The accounts at 5, 6, 7, 8, IN_10, 9, IN_10 + 1 and IN_11 ascend so. */
 struct row {
-    uint32_t account;
+    uint32_t place;
     int64_t total;
 };
 
@@ -99,10 +100,10 @@ static const struct turn posting[] = {
     {1, GO_ON, {0, 0}, ALL, TOTALS_OVERRUN, {15, 0, 1}, 2, 2, {{5, -1}, {9, 90}}},
     {1, TOTALS_POST, {5, 11}, ALL, TOTALS_POSTED, {15, 10, 1}, 3, 2, {{5, 10}, {9, 90}}},
     {0, TOTALS_POST, {9, 10}, ALL, TOTALS_POSTED, {15, 100, 1}, 3, 2, {{5, 10}, {9, 100}}},
-    {1, TOTALS_POST, {IN_10, 0}, ALL, TOTALS_POSTED, {15, 0, 1}, 4, 3, {{5, 10}, {9, 100}, {IN_10, 0}}},
-    {1, TOTALS_POST, {IN_10, 70}, 3, TOTALS_MOVED, {3, 0, 0}, 5, 3, {{5, 10}, {9, 100}, {IN_10, 0}}},
-    {0, TOTALS_POST, {9, 1}, ALL, TOTALS_POSTED, {29, 101, 2}, 4, 3, {{5, 10}, {9, 101}, {IN_10, 70}}},
-    {1, GO_ON, {0, 0}, ALL, TOTALS_POSTED, {15, 70, 1}, 5, 3, {{5, 10}, {9, 101}, {IN_10, 70}}},
+    {1, TOTALS_POST, {IN_10, 0}, ALL, TOTALS_POSTED, {15, 0, 1}, 4, 3, {{5, 10}, {IN_10, 0}, {9, 100}}},
+    {1, TOTALS_POST, {IN_10, 70}, 3, TOTALS_MOVED, {3, 0, 0}, 5, 3, {{5, 10}, {IN_10, 0}, {9, 100}}},
+    {0, TOTALS_POST, {9, 1}, ALL, TOTALS_POSTED, {29, 101, 2}, 4, 3, {{5, 10}, {IN_10, 70}, {9, 101}}},
+    {1, GO_ON, {0, 0}, ALL, TOTALS_POSTED, {15, 70, 1}, 5, 3, {{5, 10}, {IN_10, 70}, {9, 101}}},
 };
 
 /*
@@ -160,7 +161,7 @@ static int listing_errors(const struct turn *turn)
     if (totals_list(words, LENGTH, accounts, PLACES, totals, PLACES, &count, 1) != TOTALS_OK || count != turn->count)
         return fprintf(stderr, "%" PRIu64 " accounts listed\n", count);
     for (i = 0; i < count; i++)
-        if (accounts[i] != turn->rows[i].account || totals[i] != turn->rows[i].total)
+        if (accounts[i] != totals_account_at(turn->rows[i].place) || totals[i] != turn->rows[i].total)
             errors += fprintf(stderr, "listed: %" PRIu32 " %" PRId64 "\n", accounts[i], totals[i]);
     return errors;
 }
@@ -173,7 +174,8 @@ static int turn_errors(const struct turn *turn, uint64_t worker, uint64_t last)
     int errors = 0;
     memcpy(before, words, sizeof words);
     if (turn->kind != GO_ON)
-        number = totals_call(words, LENGTH, worker, turn->kind, turn->operand.account, turn->operand.total);
+        number = totals_call(words, LENGTH, worker, turn->kind, totals_account_at(turn->operand.place),
+                             turn->operand.total);
     if (number == TOTALS_OK)
         number = totals_run(words, LENGTH, worker, turn->most, report, 3);
     if (number != turn->number)

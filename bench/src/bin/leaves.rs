@@ -3,6 +3,7 @@
 // Usage: leaves (proved|same) (move|search|put|remove|half) ACCOUNTS WORKERS TIMES
 use bench::fields::{GREATEST_CAPACITY, RECORD_ACCOUNTS, RECORD_COUNT, WIDEST_RECORD};
 use bench::leaf::{proved, rust, Work, HALF, MOVE, PUT, REMOVE, SEARCH};
+use bench::places::account_at;
 use std::hint::black_box;
 
 // Where the second record stands: past the first, whatever its size.
@@ -12,20 +13,27 @@ const _: () = assert!(WIDEST_RECORD <= SECOND);
 const USAGE: &str =
     "usage: leaves (proved|same) (move|search|put|remove|half) ACCOUNTS WORKERS TIMES";
 
-// A record at 0 with so many accounts, 10, 20, .., and room for the second.
-fn words(accounts: usize, b: usize) -> Vec<u64> {
+// The accounts at places 10, 20, .., ascending.
+fn accounts_of(count: u32) -> Vec<u64> {
+    let mut accounts: Vec<u64> = (1..=count).map(|i| account_at(10 * i).into()).collect();
+    accounts.sort_unstable();
+    accounts
+}
+
+// A record at 0 with these accounts, and room for the second.
+fn words(accounts: &[u64], b: usize) -> Vec<u64> {
     let mut w = vec![0u64; 2 * SECOND];
-    w[RECORD_COUNT] = accounts as u64;
-    for i in 0..accounts {
-        w[RECORD_ACCOUNTS + i] = 10 * (i as u64 + 1);
+    w[RECORD_COUNT] = accounts.len() as u64;
+    for (i, account) in accounts.iter().enumerate() {
+        w[RECORD_ACCOUNTS + i] = *account;
         w[RECORD_ACCOUNTS + b + i] = 1000 + i as u64;
     }
     w
 }
 
-// Of the middle account; a put is of a new one behind it, a half of depth 1 and prefix 0.
-fn work(which: u64, accounts: usize, n: usize) -> Work {
-    let middle = 10 * (accounts as u64 / 2 + 1);
+// Of the middle account; a put is of a new one behind it, a half of depth 1 and prefix 0, which has all accounts.
+fn work(which: u64, accounts: &[u64], n: usize) -> Work {
+    let middle = accounts[accounts.len() / 2];
     let (account, total) = match which {
         PUT => (middle + 5, 77),
         HALF => (1, 0),
@@ -57,8 +65,9 @@ fn main() {
         "half" => HALF,
         _ => panic!("an operation"),
     };
-    let work = work(which, number(accounts), number(workers));
-    let mut w = words(number(accounts), GREATEST_CAPACITY);
+    let accounts = accounts_of(number(accounts) as u32);
+    let work = work(which, &accounts, number(workers));
+    let mut w = words(&accounts, GREATEST_CAPACITY);
     let mut sum = 0u64;
     for _ in 0..number(times) {
         let r = if side == "proved" {

@@ -1,9 +1,10 @@
 // The same work on every side. `table count` runs each case once and names it, for callgrind, which writes one dump a
 // case; `table time` prints nanoseconds an operation. table.sh makes tables of both.
+use bench::places;
 use bench::sides::{Map, Proved, Same, Table};
 use bench::turns::{by_run, by_steps, on_map};
 use bench::twin::Twin;
-use bench::work::{even, work, Operation, Work};
+use bench::work::{even, listing, work, Operation, Work};
 use std::time::Instant;
 
 // proved library, same source as Rust, hand-written twin, each by single steps and by run; then the locked map
@@ -12,6 +13,10 @@ const SIDES: [&str; 7] = [
 ];
 const WORKS: [&str; 6] = ["inserts", "deletes", "posts", "lookups", "mixed", "growing"];
 const WORKERS: [u64; 3] = [1, 2, 8];
+// of a listing: proved library, same source as Rust, hand-written twin; then a sort of the same rows alone
+const LISTED: [&str; 4] = ["table", "same", "twin", "sort"];
+
+type Rows = Vec<(u32, i64)>;
 
 // A sum that changes with any answer, whatever the order of answers.
 fn mark(place: usize, code: u64, total: i64) -> u64 {
@@ -46,10 +51,26 @@ fn measured_map(map: &Map, operations: &[Operation]) -> u64 {
     sum
 }
 
+#[inline(never)]
+fn measured_listing<T: Table>(table: &T) -> Rows {
+    table.rows()
+}
+
+#[inline(never)]
+fn measured_sort(mut rows: Rows) -> Rows {
+    sort_rows(&mut rows);
+    rows
+}
+
+#[inline(never)]
+fn sort_rows(rows: &mut Rows) {
+    rows.sort_unstable();
+}
+
 // callgrind writes a dump at each entry: the case is named in the order of the dumps
 #[inline(never)]
-fn counted(w: &Work, side: &str) {
-    println!("{} {} {side} {}", w.name, w.workers, w.measured.len());
+fn counted(w: &Work, side: &str, operations: usize) {
+    println!("{} {} {side} {operations}", w.name, w.workers);
 }
 
 // The time of the measured operations, and the sum of their answers.
@@ -59,9 +80,14 @@ fn timed(f: impl FnOnce() -> u64) -> (f64, u64) {
     (start.elapsed().as_nanos() as f64, sum)
 }
 
-fn on_table<T: Table>(steps: bool, w: &Work) -> (f64, u64) {
+fn filled<T: Table>(w: &Work) -> T {
     let mut table = T::open(w.workers, w.capacity, w.depth);
     by_run(&mut table, w.workers, &w.filling, |_, _| {});
+    table
+}
+
+fn on_table<T: Table>(steps: bool, w: &Work) -> (f64, u64) {
+    let mut table: T = filled(w);
     if steps {
         timed(|| measured_steps(&mut table, w.workers, &w.measured))
     } else {
@@ -85,6 +111,22 @@ fn on_side(side: &str, w: &Work) -> (f64, u64) {
     }
 }
 
+// The rows as the table meets them: by the first bits of their places, those of a bucket ascending.
+fn in_the_directorys_order(w: &Work) -> Rows {
+    let mut rows: Rows = w.filling.iter().map(|o| (o.account, o.total)).collect();
+    rows.sort_unstable_by_key(|row| (places::place(row.0) >> (32 - w.depth), row.0));
+    rows
+}
+
+fn listed(side: &str, w: &Work) -> Rows {
+    match side {
+        "table" => measured_listing(&filled::<Proved>(w)),
+        "same" => measured_listing(&filled::<Same>(w)),
+        "twin" => measured_listing(&filled::<Twin>(w)),
+        _ => measured_sort(in_the_directorys_order(w)),
+    }
+}
+
 // The answers of single steps agree with each other, those of `run` with the map's.
 fn assert_equal(w: &Work, sums: &[u64; 7]) {
     let [steps, run, same, same_run, twin, twin_run, map] = *sums;
@@ -98,14 +140,14 @@ fn assert_equal(w: &Work, sums: &[u64; 7]) {
     );
 }
 
-// One line a case, in the order of callgrind's dumps: work, workers, side, operations.
+// One line a case, in the order of callgrind's dumps: work, workers, side, operations, or accounts of a listing.
 fn count() {
     for name in WORKS {
         for n in WORKERS {
             let w = work(name, n, 4000);
             let sums = SIDES.map(|side| {
                 let (_, sum) = on_side(side, &w);
-                counted(&w, side);
+                counted(&w, side, w.measured.len());
                 sum
             });
             assert_equal(&w, &sums);
@@ -115,8 +157,18 @@ fn count() {
         let w = even(depth, 4000);
         for side in ["steps", "run"] {
             on_side(side, &w);
-            counted(&w, side);
+            counted(&w, side, w.measured.len());
         }
+    }
+    for accounts in [16, 1000, 4096] {
+        let w = listing(accounts);
+        let rows = LISTED.map(|side| {
+            let rows = listed(side, &w);
+            counted(&w, side, w.filling.len());
+            rows
+        });
+        assert!(rows.iter().all(|other| *other == rows[3]), "{}", w.name);
+        assert_eq!(rows[3].len(), w.filling.len());
     }
 }
 

@@ -2,6 +2,7 @@
 // was counted since the dump before. A line a dump says which call it was: work, workers, the operation's place, and
 // its step (0: the call that hands it out; 1 too for a whole run and for the map). worst.sh makes a table of both.
 use bench::fields::{TOTALS_GREATEST_RUN, TOTALS_MOVED, TOTALS_OK};
+use bench::places::account_at;
 use bench::sides::{Map, Proved, Reply, Table};
 use bench::turns::by_run;
 use bench::work::{insert, spread_accounts, Operation, Prng};
@@ -102,13 +103,14 @@ fn on_map(name: &str, map: Map, operations: &[Operation]) {
     }
 }
 
-// Full buckets that differ in their first bits, the accounts of each agreeing in the first 8; and for each worker an
-// account that differs from those of its bucket in bit 8: the bucket is split until it has depth 8.
+// Full buckets that differ in their first bits, the places of each one's accounts agreeing in the first 8; and for each
+// worker an account whose place differs from those of its bucket in bit 8: the bucket is split until it has depth 8.
 fn deep(buckets: u32, n: u32, b: u32) -> (Vec<u32>, Vec<u32>) {
     let start = |i: u32| ((i % buckets) * (256 / buckets)) << 24;
-    let accounts = |j: u32| (0..buckets).map(move |i| start(i) + j);
+    let accounts = |j: u32| (0..buckets).map(move |i| account_at(start(i) + j));
     let filling = (0..b).flat_map(accounts).collect();
-    (filling, (0..n).map(|i| start(i) + (1 << 24) + i).collect())
+    let announced = |i: u32| account_at(start(i) + (1 << 24) + i);
+    (filling, (0..n).map(announced).collect())
 }
 
 fn main() {

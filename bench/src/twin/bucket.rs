@@ -1,5 +1,6 @@
 // A bucket and the updates that its state takes.
 use crate::fields::{GREATEST_CAPACITY, GREATEST_WORKERS};
+use crate::places::place;
 
 #[derive(Clone, Copy, PartialEq, Eq, Debug)]
 pub enum Answer {
@@ -46,9 +47,9 @@ pub struct Bucket {
     pub answers: [Answer; GREATEST_WORKERS],
 }
 
-// The first d bits of an account.
+// The first d bits of an account's place.
 pub fn first_bits(account: u32, d: u32) -> u32 {
-    (u64::from(account) >> (32 - d)) as u32
+    (u64::from(place(account)) >> (32 - d)) as u32
 }
 
 impl Bucket {
@@ -150,7 +151,7 @@ impl Bucket {
         self.answers[j] = answer;
     }
 
-    // The half whose accounts have one more bit.
+    // The half whose accounts' places have one more bit.
     pub fn half(&self, bit: u32) -> Bucket {
         let mut half = Bucket::new(self.depth + 1, 2 * self.prefix + bit);
         half.settled = self.settled;

@@ -1,6 +1,6 @@
-// Document 01's method, with document 02's posts and rule of crowding, written by hand in Rust: a directory, buckets
-// with state, toggle, applied bits and settled tickets, slots, two passes, step by step. A twin of the table for
-// comparison, with no use of its sources.
+// Document 01's method, with document 02's posts, rule of crowding and places of accounts, written by hand in Rust: a
+// directory, buckets with state, toggle, applied bits and settled tickets, slots, two passes, step by step. A twin of
+// the table for comparison, with no use of its sources.
 mod bucket;
 mod phase;
 
@@ -121,13 +121,16 @@ impl Twin {
     }
 
     // The accounts in ascending order with their totals; a bucket's entries are neighbours.
+    #[inline(never)]
     pub fn rows(&self) -> Vec<(u32, i64)> {
         let mut entries = self.directory.clone();
         entries.dedup();
         let buckets = entries.iter().map(|i| &self.buckets[*i]);
-        buckets
+        let mut rows: Vec<(u32, i64)> = buckets
             .flat_map(|b| (0..b.count).map(|k| (b.accounts[k], b.totals[k])))
-            .collect()
+            .collect();
+        rows.sort_unstable();
+        rows
     }
 
     #[inline(always)]

@@ -1,9 +1,10 @@
 //! The report run of `examples/c/dispatcher.c`: three workers post twelve invoices; a dispatcher gives each a few steps
-//! at a time. Two accounts get invoices from all three workers, and no post is lost. Worker 2 is parked in the middle
-//! of one until the others have finished: they carry it out. Nothing is allocated for the table. The steps are planned
-//! by the most that an operation takes, and the checks that answered say how many were taken. A refusal, an invoice
-//! that the table has no room for or that makes a total of more than 64 bits, and a month whose invoices and totals
-//! differ end the run with a line on standard error and exit status 1.
+//! at a time. The accounts are numbered from 1000 up; the table spreads them over its buckets. Two accounts get
+//! invoices from all three workers, and no post is lost. Worker 2 is parked in the middle of one until the others have
+//! finished: they carry it out. Nothing is allocated for the table. The steps are planned by the most that an operation
+//! takes, and the checks that answered say how many were taken. A refusal, an invoice that the table has no room for or
+//! that makes a total of more than 64 bits, and a month whose invoices and totals differ end the run with a line on
+//! standard error and exit status 1.
 
 use std::error::Error;
 use std::io::{self, Write};
@@ -21,9 +22,9 @@ const PLACES: usize = CAPACITY << DEPTH;
 
 /// Accounts and cents, per worker.
 const INVOICES: [[(u32, i64); 4]; WORKERS] = [
-    [(1010, 12500), (2000000010, 4000), (1020, -2500), (1010, 900)],
-    [(1020, 7300), (2000000020, 1500), (1010, 2900), (4000000010, 6000)],
-    [(1030, 8800), (1010, 450), (1020, 5000), (4000000020, 150)],
+    [(1000, 12500), (1003, 4000), (1001, -2500), (1000, 900)],
+    [(1001, 7300), (1004, 1500), (1000, 2900), (1005, 6000)],
+    [(1002, 8800), (1000, 450), (1001, 5000), (1006, 150)],
 ];
 
 /// The turns, in a fixed, mixed order: a worker, and how many steps it gets.
@@ -154,17 +155,17 @@ fn report_run() -> Done {
     let workers = [Worker { invoice: 0, stage: Stage::Resting }; WORKERS];
     let mut run = Dispatcher { settings, table, workers, answers: Default::default(), out: io::stdout().lock() };
     run.dispatch(26, None)?;
-    run.show("worker 2 is parked, posting 450 to 1010")?;
+    run.show("worker 2 is parked, posting 450 to 1000")?;
     run.dispatch(usize::MAX, Some(2))?;
     run.show("worker 2 is still parked")?;
     run.dispatch(usize::MAX, None)?;
     let totals = run.show("all is posted")?;
     run.check_month(totals)?;
     run.show_steps()?;
-    run.table.lookup(0, 1010)?;
-    run.finish(0, "looks up", 1010)?;
-    run.table.delete(1, 4000000020)?;
-    run.finish(1, "deletes", 4000000020)?;
+    run.table.lookup(0, 1000)?;
+    run.finish(0, "looks up", 1000)?;
+    run.table.delete(1, 1006)?;
+    run.finish(1, "deletes", 1006)?;
     run.show("at the end")?;
     Ok(run.out.flush()?)
 }

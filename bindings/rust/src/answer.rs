@@ -22,9 +22,9 @@ pub enum Answer {
     None,
     /// Post: the account's new total. An account that was not there has started from 0.
     Posted(i64),
-    /// Insert or post: the account was not there, and b others agree with it in the first M bits. Nothing changed: the
-    /// update was not carried out. A delete, an insert that replaces and a post to an account that is there are never
-    /// answered so.
+    /// Insert or post: the account was not there, and the [`place`](crate::place)s of b others agree with its place in
+    /// the first M bits. Nothing changed: the update was not carried out. A delete, an insert that replaces and a post
+    /// to an account that is there are never answered so.
     Crowded,
     /// Post: the account was there, and the sum is outside the 64-bit signed range. Nothing changed: the post was not
     /// carried out.

@@ -6,7 +6,9 @@
 //! lookup answers at its second step, an update at one of its four checks, which are its steps 2n+11, 6n+17, 8n+27 and
 //! 12n+33; with one worker at step 13 or 23. [`Settings::greatest_steps`] is the most to plan for. Workers are numbers
 //! and no threads: a [`Table`] has one caller at a time. An insert or a post that is answered [`Answer::Crowded`] or
-//! [`Answer::Overrun`] was not carried out; a delete is never answered so.
+//! [`Answer::Overrun`] was not carried out; a delete is never answered so. An account's bucket is chosen by the first
+//! bits of its [`place`], so that accounts numbered one after another are spread over all buckets; listings ascend by
+//! the account's number.
 //!
 //! ```
 //! use totals::{Answer, Owned, Ran, Refusal, Settings};
@@ -24,12 +26,14 @@
 #![deny(missing_docs, unsafe_op_in_unsafe_fn)]
 
 mod answer;
+mod places;
 pub mod raw;
 mod refusal;
 mod settings;
 mod table;
 
 pub use answer::{Answer, Ran, Stepped};
+pub use places::{account_at, place};
 pub use refusal::Refusal;
 pub use settings::Settings;
 pub use table::{Owned, Table};

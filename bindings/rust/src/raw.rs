@@ -48,7 +48,7 @@ pub const TOTALS_FOUND: u64 = 21;
 pub const TOTALS_NONE: u64 = 22;
 /// Post: the account's new total is in the report.
 pub const TOTALS_POSTED: u64 = 23;
-/// Insert or post: the account was not there, and b others agree with it in the first M bits.
+/// Insert or post: the account was not there, and the places of b others agree with its place in the first M bits.
 pub const TOTALS_CROWDED: u64 = 25;
 /// The greatest answer. Post: the account was there, and the sum is outside the 64-bit signed range.
 pub const TOTALS_OVERRUN: u64 = 27;
@@ -86,7 +86,7 @@ extern "C" {
         report_length: usize,
     ) -> u64;
 
-    /// The accounts with their totals: 0, or the number of a refusal.
+    /// The accounts with their totals, ascending by number: 0, or the number of a refusal.
     pub fn totals_list(
         words: *const u64,
         length: usize,
@@ -97,4 +97,10 @@ extern "C" {
         report: *mut u64,
         report_length: usize,
     ) -> u64;
+
+    /// The place of an account, whose first bits choose its bucket.
+    pub fn totals_place(account: u32) -> u32;
+
+    /// The account at a place.
+    pub fn totals_account_at(place: u32) -> u32;
 }

@@ -80,9 +80,9 @@ impl<'a> Table<'a> {
         self.call(worker, raw::TOTALS_INSERT, account, total)
     }
 
-    /// Hands the worker a delete of the account. Refuses as [`Table::insert`]. It works however many others agree with
-    /// the account in the first M bits, and so makes room where an insert or a post is
-    /// [`Crowded`](crate::Answer::Crowded).
+    /// Hands the worker a delete of the account. Refuses as [`Table::insert`]. It works however many places of others
+    /// agree with the account's [`place`](crate::place) in the first M bits, and so makes room where an insert or a
+    /// post is [`Crowded`](crate::Answer::Crowded).
     ///
     /// ```
     /// use totals::{Answer, Owned, Ran, Settings};
@@ -159,7 +159,7 @@ impl<'a> Table<'a> {
     /// opened table takes. As many as [`Settings::greatest_steps`] end any operation. Refuses as [`Table::step`].
     ///
     /// ```
-    /// use totals::{Answer, Owned, Ran, Settings};
+    /// use totals::{account_at, Answer, Owned, Ran, Settings};
     /// let settings = Settings::new(1, 2, 1)?;
     /// let mut owned = Owned::new(settings)?;
     /// let mut table = owned.table();
@@ -167,10 +167,10 @@ impl<'a> Table<'a> {
     ///     table.insert(0, account, 700)?;
     ///     table.run(0, settings.greatest_steps())
     /// };
-    /// assert_eq!(insert(5)?, Ran::Answered { answer: Answer::Added, steps: 13, check: 1 });
-    /// assert_eq!(insert(6)?, Ran::Answered { answer: Answer::Added, steps: 13, check: 1 });
+    /// assert_eq!(insert(account_at(5))?, Ran::Answered { answer: Answer::Added, steps: 13, check: 1 });
+    /// assert_eq!(insert(account_at(6))?, Ran::Answered { answer: Answer::Added, steps: 13, check: 1 });
     /// // it splits a full bucket first
-    /// assert_eq!(insert(1 << 31)?, Ran::Answered { answer: Answer::Added, steps: 23, check: 2 });
+    /// assert_eq!(insert(account_at(1 << 31))?, Ran::Answered { answer: Answer::Added, steps: 23, check: 2 });
     /// # Ok::<(), totals::Refusal>(())
     /// ```
     pub fn run(&mut self, worker: u64, most: u64) -> Result<Ran, Refusal> {
@@ -181,8 +181,9 @@ impl<'a> Table<'a> {
         ran(number, report)
     }
 
-    /// Writes the accounts in ascending order with their totals to the start of both lists, and nothing past the count,
-    /// which it gives. Refuses with `Strange`, `Narrow`, in this order.
+    /// Writes the accounts with their totals to the start of both lists, ascending by the account's number, and nothing
+    /// past the count, which it gives. Refuses with `Strange`, `Narrow`, in this order. Over words that no opening left
+    /// an account may come more than once; its rows then stand in ascending order of their totals.
     ///
     /// ```
     /// use totals::{Answer, Owned, Ran, Settings};
@@ -214,7 +215,19 @@ impl<'a> Table<'a> {
         Ok(report[0] as usize)
     }
 
-    /// The accounts in ascending order with their totals. Refuses with `Strange`.
+    /// The rows of [`Table::listing_into`]: the accounts with their totals, ascending. Refuses with `Strange`.
+    ///
+    /// ```
+    /// use totals::{Answer, Owned, Ran, Settings};
+    /// let mut owned = Owned::new(Settings::new(1, 2, 1)?)?;
+    /// let mut table = owned.table();
+    /// for (account, total) in [(1001, 7), (1000, -7)] {
+    ///     table.insert(0, account, total)?;
+    ///     assert_eq!(table.run(0, 99)?, Ran::Answered { answer: Answer::Added, steps: 13, check: 1 });
+    /// }
+    /// assert_eq!(table.listing()?, [(1000, -7), (1001, 7)]);
+    /// # Ok::<(), totals::Refusal>(())
+    /// ```
     pub fn listing(&self) -> Result<Vec<(u32, i64)>, Refusal> {
         // never `Narrow`: also words from elsewhere, where they are not strange, list no more rows than this, by the
         // theorem `rows-few` of crates/rows/proofs/RowLaws

@@ -1,12 +1,13 @@
 //! Document 01's session and cases by the safe interface, posts, every refusal, tickets at both ends of their 64 bits,
-//! every position in the largest bucket, the words needed for all settings, and the steps at every check.
+//! every position in the largest bucket, the words needed for all settings, and the steps at every check. Where a
+//! bucket is split, the accounts are those whose places are document 01's numbers.
 mod ending;
 #[path = "model/tickets.rs"]
 mod tickets;
 
-use ending::{ends, holding, opened, posts, Done};
+use ending::{ends, holding, holding_5_and_6, opened, posts, Done};
 use tickets::last_ticket;
-use totals::{raw, Answer, Owned, Ran, Refusal, Settings, Stepped, Table};
+use totals::{account_at, raw, Answer, Owned, Ran, Refusal, Settings, Stepped, Table};
 
 #[test]
 fn settings_outside_their_range_are_refused() -> Done {
@@ -66,26 +67,26 @@ fn the_session() -> Done {
 
 #[test]
 fn a_split_then_crowded() -> Done {
-    let mut owned = holding(1, &[5, 6])?;
+    let mut owned = holding_5_and_6(1)?;
     let mut table = owned.table();
-    table.insert(0, 2147483648, 80)?;
+    table.insert(0, account_at(2147483648), 80)?;
     ends(&mut table, 0, Answer::Added, 23, 2)?;
-    table.insert(0, 7, 70)?;
+    table.insert(0, account_at(7), 70)?;
     ends(&mut table, 0, Answer::Crowded, 13, 1)?;
-    table.delete(0, 5)?;
+    table.delete(0, account_at(5))?;
     ends(&mut table, 0, Answer::Removed, 13, 1)?;
-    assert_eq!(table.listing()?, [(6, 60), (2147483648, 80)]);
+    assert_eq!(table.listing()?, [(account_at(6), 60), (account_at(2147483648), 80)]);
     Ok(())
 }
 
 #[test]
 fn crowded_straight_away_and_the_split_stays() -> Done {
-    let mut owned = holding(1, &[5, 6])?;
+    let mut owned = holding_5_and_6(1)?;
     let mut table = owned.table();
-    table.insert(0, 7, 70)?;
+    table.insert(0, account_at(7), 70)?;
     ends(&mut table, 0, Answer::Crowded, 23, 2)?;
     // nothing is left to split
-    table.insert(0, 2147483648, 80)?;
+    table.insert(0, account_at(2147483648), 80)?;
     ends(&mut table, 0, Answer::Added, 13, 1)
 }
 
@@ -107,7 +108,7 @@ fn busy_idle_and_stranger() -> Done {
 
 #[test]
 fn a_lookup_after_a_delete() -> Done {
-    let mut owned = holding(2, &[5])?;
+    let mut owned = holding(2, &[(5, 50)])?;
     let mut table = owned.table();
     table.lookup(1, 5)?;
     assert_eq!(table.step(1)?, Stepped::Moved);
@@ -132,11 +133,11 @@ fn a_helped_insert() -> Done {
 
 #[test]
 fn the_second_pass_is_needed() -> Done {
-    let mut owned = holding(2, &[5, 6])?;
+    let mut owned = holding_5_and_6(2)?;
     let mut table = owned.table();
-    table.insert(0, 2147483648, 80)?;
+    table.insert(0, account_at(2147483648), 80)?;
     assert_eq!(table.run(0, 20)?, Ran::Moved(20));
-    table.insert(1, 2147483649, 90)?;
+    table.insert(1, account_at(2147483649), 90)?;
     assert_eq!(table.run(1, 13)?, Ran::Moved(13));
     ends(&mut table, 0, Answer::Added, 29, 2)?;
     ends(&mut table, 1, Answer::Added, 43, 3)
@@ -213,19 +214,19 @@ fn posts_into_a_full_bucket() -> Done {
 
 #[test]
 fn a_post_that_splits_first() -> Done {
-    for (account, amount, answer) in
-        [(5, 1, Answer::Posted(51)), (6, i64::MAX, Answer::Overrun), (7, 1, Answer::Crowded)]
+    for (place, amount, answer) in [(5, 1, Answer::Posted(51)), (6, i64::MAX, Answer::Overrun), (7, 1, Answer::Crowded)]
     {
-        let mut owned = holding(1, &[5, 6])?;
+        let mut owned = holding_5_and_6(1)?;
         let mut table = owned.table();
-        table.post(0, account, amount)?;
+        table.post(0, account_at(place), amount)?;
         ends(&mut table, 0, answer, 23, 2)?;
     }
-    let mut owned = holding(1, &[5, 2147483648])?;
+    let (low, high) = (account_at(5), account_at(2147483648));
+    let mut owned = holding(1, &[(low, 50), (high, 80)])?;
     let mut table = owned.table();
-    table.post(0, 5, 1)?;
+    table.post(0, low, 1)?;
     ends(&mut table, 0, Answer::Posted(51), 23, 2)?;
-    assert_eq!(table.listing()?, [(5, 51), (2147483648, 21474836480)]);
+    assert_eq!(table.listing()?, [(low, 51), (high, 80)]);
     Ok(())
 }
 
@@ -338,23 +339,24 @@ fn a_post_takes_a_ticket_and_the_last_one_too() -> Done {
 fn tickets_from_1_and_from_2_to_63_on_in_one_bucket() -> Done {
     let mut words = words_after(3, &[0, (1 << 63) - 1])?;
     let mut table = Table::over(&mut words);
+    let [five, nine, high, higher] = [5, 9, 2147483648, 2147483649].map(account_at);
     for (total, answer) in [(1, Answer::Added), (2, Answer::Replaced), (3, Answer::Replaced)] {
-        table.insert(1, 9, total)?;
+        table.insert(1, nine, total)?;
         assert_eq!(table.run(1, 3)?, Ran::Moved(3));
-        table.insert(0, 5, total)?;
+        table.insert(0, five, total)?;
         ends(&mut table, 0, answer, 15, 1)?;
         // worker 0 has helped worker 1
-        assert_eq!(table.listing()?, [(5, total), (9, total)]);
+        assert_eq!(table.listing()?, [(five, total), (nine, total)]);
         ends(&mut table, 1, answer, 15, 1)?;
     }
-    table.insert(0, 2147483648, 4)?;
+    table.insert(0, high, 4)?;
     ends(&mut table, 0, Answer::Added, 15, 1)?;
     // the bucket is full: worker 0 splits it for both
-    table.insert(1, 2147483649, 5)?;
+    table.insert(1, higher, 5)?;
     assert_eq!(table.run(1, 3)?, Ran::Moved(3));
-    table.delete(0, 9)?;
+    table.delete(0, nine)?;
     ends(&mut table, 0, Answer::Removed, 29, 2)?;
-    assert_eq!(table.listing()?, [(5, 3), (2147483648, 4), (2147483649, 5)]);
+    assert_eq!(table.listing()?, [(five, 3), (high, 4), (higher, 5)]);
     ends(&mut table, 1, Answer::Added, 15, 1)?;
     assert_eq!([0, 1].map(|worker| *last_ticket(&mut words, worker)), [5, (1 << 63) + 3]);
     Ok(())
@@ -431,15 +433,16 @@ fn words_that_hold_no_table_are_strange() {
 }
 
 /// The least first word of a table: the mark, above the 2,048 numbers of settings.
-const LEAST_FIRST: u64 = 6_004_514_765 * 2048;
+const LEAST_FIRST: u64 = 6_004_514_766 * 2048;
 
 #[test]
 fn another_mark_and_a_greatest_depth_above_8_are_strange() -> Done {
     let mut words = words_after(2, &[0])?;
     // n 1, b 2, M 1
     assert_eq!(words[0], LEAST_FIRST + 8 + 128);
-    // 6,004,514,763 was the mark before posts, 6,004,514,764 the one while a delete could be crowded
-    for mark in [0, 1, 6_004_514_763, 6_004_514_764, 6_004_514_766, u64::MAX >> 11] {
+    // 6,004,514,763 was the mark before posts, 6,004,514,764 the one while a delete could be crowded, 6,004,514,765 the
+    // one while an account's own first bits chose its bucket
+    for mark in [0, 1, 6_004_514_763, 6_004_514_764, 6_004_514_765, 6_004_514_767, u64::MAX >> 11] {
         words[0] = mark * 2048 + 8 + 128;
         strange(&mut words);
     }
@@ -463,7 +466,7 @@ fn another_mark_and_a_greatest_depth_above_8_are_strange() -> Done {
 
 #[test]
 fn a_list_that_is_too_short_is_narrow_and_stays() -> Done {
-    let mut owned = holding(1, &[5, 6])?;
+    let mut owned = holding(1, &[(5, 50), (6, 60)])?;
     let table = owned.table();
     let (mut accounts, mut totals) = ([1; 2], [1; 2]);
     assert_eq!(table.listing_into(&mut accounts[..1], &mut totals), Err(Refusal::Narrow));

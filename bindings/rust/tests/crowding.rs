@@ -1,8 +1,10 @@
 //! Full buckets at the greatest depth by the safe interface: what corrects their accounts, what is crowded, room made.
+//! At the greatest depth 0 all accounts share the only bucket; where one is split, the accounts are those whose places
+//! are document 01's numbers.
 mod ending;
 
-use ending::{ends, holding, opened, posts, Done};
-use totals::{Answer, Owned, Ran, Refusal, Stepped, Table};
+use ending::{ends, holding_5_and_6, opened, posts, Done};
+use totals::{account_at, Answer, Owned, Ran, Refusal, Stepped, Table};
 
 /// A table of buckets of 2 at the greatest depth 0, in which worker 0 has inserted 5 and 6, which fill the bucket.
 fn two_neighbours(workers: u64) -> Result<Owned, Refusal> {
@@ -51,20 +53,21 @@ fn a_full_bucket_takes_what_corrects_its_accounts() -> Done {
 
 #[test]
 fn a_full_half_takes_what_corrects_its_accounts() -> Done {
-    let mut owned = holding(1, &[5, 6])?;
+    let mut owned = holding_5_and_6(1)?;
     let mut table = owned.table();
+    let [four, five, six, seven] = [4, 5, 6, 7].map(account_at);
     // the full bucket is split first, and then the full half takes the delete
-    table.delete(0, 5)?;
+    table.delete(0, five)?;
     ends(&mut table, 0, Answer::Removed, 23, 2)?;
-    table.insert(0, 5, 51)?;
+    table.insert(0, five, 51)?;
     ends(&mut table, 0, Answer::Added, 13, 1)?;
-    table.insert(0, 6, 61)?;
+    table.insert(0, six, 61)?;
     ends(&mut table, 0, Answer::Replaced, 13, 1)?;
-    posts(&mut table, 7, 1, Answer::Crowded)?;
-    posts(&mut table, 5, 1, Answer::Posted(52))?;
-    table.delete(0, 4)?;
+    posts(&mut table, seven, 1, Answer::Crowded)?;
+    posts(&mut table, five, 1, Answer::Posted(52))?;
+    table.delete(0, four)?;
     ends(&mut table, 0, Answer::Absent, 13, 1)?;
-    assert_eq!(table.listing()?, [(5, 52), (6, 61)]);
+    assert_eq!(table.listing()?, [(five, 52), (six, 61)]);
     Ok(())
 }
 
@@ -109,16 +112,16 @@ fn a_delete_and_an_insert_in_one_swap() -> Done {
 
 #[test]
 fn crowded_is_settled_by_a_split() -> Done {
-    let mut owned = holding(2, &[5, 6])?;
+    let mut owned = holding_5_and_6(2)?;
     let mut table = owned.table();
-    table.insert(1, 7, 70)?;
+    table.insert(1, account_at(7), 70)?;
     assert_eq!(table.step(1)?, Stepped::Moved);
     // worker 0 splits the full bucket, and settles worker 1's insert, which it has only seen announced
-    table.insert(0, 2147483648, 80)?;
+    table.insert(0, account_at(2147483648), 80)?;
     ends(&mut table, 0, Answer::Added, 29, 2)?;
-    table.delete(0, 5)?;
+    table.delete(0, account_at(5))?;
     ends(&mut table, 0, Answer::Removed, 15, 1)?;
     ends(&mut table, 1, Answer::Crowded, 15, 1)?;
-    assert_eq!(table.listing()?, [(6, 60), (2147483648, 80)]);
+    assert_eq!(table.listing()?, [(account_at(6), 60), (account_at(2147483648), 80)]);
     Ok(())
 }

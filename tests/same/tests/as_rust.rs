@@ -58,4 +58,6 @@ fn the_source_compiled_as_rust_answers() {
     // document 01: added, in 13 steps; document 02: posted, with the new total
     assert_eq!(answer(1, 700), (17, [13, 0]));
     assert_eq!(answer(4, 50), (23, [13, 750]));
+    assert_eq!(source::same_totals_place(1000), 145_972_072);
+    assert_eq!(source::same_totals_account_at(145_972_072), 1000);
 }

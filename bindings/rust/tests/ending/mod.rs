@@ -1,5 +1,5 @@
 //! For the tests by cases: tables that are opened and filled, and operations that end as they are said to.
-use totals::{Answer, Owned, Ran, Refusal, Settings, Table};
+use totals::{account_at, Answer, Owned, Ran, Refusal, Settings, Table};
 
 pub type Done = Result<(), Refusal>;
 
@@ -13,15 +13,20 @@ pub fn ends(table: &mut Table, worker: u64, answer: Answer, steps: u64, check: u
     Ok(())
 }
 
-/// Worker 0 has inserted the accounts, each with ten times its number for a total; none was split.
-pub fn holding(workers: u64, accounts: &[u32]) -> Result<Owned, Refusal> {
+/// Buckets of 2, depth 1 at most. Worker 0 has inserted the accounts with these totals; no bucket was split.
+pub fn holding(workers: u64, rows: &[(u32, i64)]) -> Result<Owned, Refusal> {
     let mut owned = opened(workers, 2, 1)?;
     let mut table = owned.table();
-    for &account in accounts {
-        table.insert(0, account, i64::from(account) * 10)?;
+    for &(account, total) in rows {
+        table.insert(0, account, total)?;
         ends(&mut table, 0, Answer::Added, 2 * workers + 11, 1)?;
     }
     Ok(owned)
+}
+
+/// What document 01's splitting cases hold: the accounts at places 5 and 6, which fill the only bucket.
+pub fn holding_5_and_6(workers: u64) -> Result<Owned, Refusal> {
+    holding(workers, &[(account_at(5), 50), (account_at(6), 60)])
 }
 
 /// Worker 0's post ends with this answer.

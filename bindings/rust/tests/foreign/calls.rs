@@ -2,6 +2,7 @@
 //! leaves are those of the same source compiled as Rust. And counts of what came back.
 
 use crate::lent::{self, told, Lent};
+use crate::listing::{listed_words, sorted_rows};
 use crate::words::{any_account, any_total, any_word, bucket_swaps, directory_swaps};
 use crate::words::{posted_from, settled_from, steps_at_checks};
 use model::prng::Prng;
@@ -21,7 +22,8 @@ pub type Told = [u64; 3];
 /// How often each call gave each number; a number of words needed counts as 0. How many updates each check answered. Of
 /// steps, how many were a bucket swap that carried updates out or a directory swap that split; of updates in a bucket
 /// that was full at the greatest depth, how many a bucket swap settled as crowded, and how many with another answer; of
-/// runs, how many were held against single steps.
+/// runs, how many were held against single steps; of listings, in how many an account came again with another total,
+/// and in how many one had more than 32 bits.
 #[derive(Default)]
 pub struct Figures {
     counts: [[u64; TOTALS_OVERRUN as usize + 1]; NAMES.len()],
@@ -31,6 +33,8 @@ pub struct Figures {
     pub crowded: u64,
     pub corrected: u64,
     pub compared: u64,
+    pub repeated: u64,
+    pub wide: u64,
 }
 
 impl Figures {
@@ -91,12 +95,20 @@ impl Figures {
         }
     }
 
+    /// Counts what the words of a listing had, whose rows are these.
+    fn add_listing(&mut self, listed: &[(u64, i64)], rows: &[(u32, i64)]) {
+        let again = |pair: &[(u32, i64)]| pair[0].0 == pair[1].0 && pair[0].1 != pair[1].1;
+        self.repeated += u64::from(rows.windows(2).any(again));
+        self.wide += u64::from(listed.iter().any(|row| row.0 > u64::from(u32::MAX)));
+    }
+
     pub fn print(&self, class: &str) {
         println!("{class}: {} calls; updates answered by each check {:?}", self.calls(), self.checks);
         println!(
             "  steps that carried out {}, that split {}; among neighbours crowded {}, corrected {}; runs compared {}",
             self.carried, self.split, self.crowded, self.corrected, self.compared
         );
+        println!("  listings with an account twice {}, with one of more than 32 bits {}", self.repeated, self.wide);
         for (name, counts) in NAMES.iter().zip(&self.counts) {
             let given: Vec<String> =
                 (0..).zip(counts).filter(|(_, n)| **n > 0).map(|(k, n)| format!("{k}: {n}")).collect();
@@ -194,9 +206,16 @@ impl<'a> Trial<'a> {
         number
     }
 
-    /// The listing, into lists that are a place too short, fit, or are up to two places longer.
+    /// The listing, into lists that are a place too short, fit, or are up to two places longer; its rows are also told
+    /// by the words.
     pub fn list(&mut self) -> u64 {
-        let count = rows(self.words()).map_or(0, |rows| rows.len());
+        let rows = rows(self.words()).unwrap_or_default();
+        if !strange_words(self.words()) {
+            let listed = listed_words(self.words());
+            assert_eq!(rows, sorted_rows(&listed));
+            self.figures.add_listing(&listed, &rows);
+        }
+        let count = rows.len();
         let mut places = || (count + self.prng.place(3)).saturating_sub(usize::from(self.prng.one_in(4)));
         let places = [places(), places()];
         let want = listing(self.words(), places);

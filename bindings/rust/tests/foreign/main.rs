@@ -3,14 +3,18 @@
 //! guards around it.
 mod calls;
 mod lent;
+mod listing;
 mod words;
 
 use calls::{rows, Figures, Trial};
+use lent::Lent;
 use model::prng::Prng;
-use same::capi::fields::WORKER_KIND;
+use same::capi::fields::{RECORD_ACCOUNTS, RECORD_COUNT, WIDEST_RECORD, WORKER_KIND};
 use same::capi::interface::{Settings, KIND_INSERT, KIND_NONE};
 use same::capi::layout::addresses::worker_at;
+use same::capi::layout::shape::directory_start;
 use totals::raw::*;
+use totals::{place, Table};
 use words::{any_word, steps_at_checks, words_needed};
 
 /// What calls give over words of any kind, and what the listing does.
@@ -68,6 +72,7 @@ fn random_words() {
     assert!(figures.carried > 1000 && figures.split > 100 && figures.compared > 1000);
     assert!(figures.crowded > 100 && figures.corrected > 100);
     assert!(figures.checks.iter().all(|updates| *updates > 100));
+    assert!(figures.repeated > 100 && figures.wide > 100);
 }
 
 #[test]
@@ -87,6 +92,7 @@ fn damaged_tables() {
     assert!(figures.carried > 1000 && figures.split > 1000 && figures.compared > 10_000);
     assert!(figures.crowded > 100 && figures.corrected > 100);
     assert!(figures.checks.iter().all(|updates| *updates > 100));
+    assert!(figures.repeated > 100 && figures.wide > 100);
 }
 
 #[test]
@@ -101,6 +107,7 @@ fn misleading_words() {
     assert!(figures.carried > 1000 && figures.split > 100 && figures.compared > 1000);
     assert!(figures.crowded > 100 && figures.corrected > 100);
     assert!(figures.checks.iter().all(|updates| *updates > 100));
+    assert!(figures.repeated > 100 && figures.wide > 100);
 }
 
 #[test]
@@ -148,6 +155,35 @@ fn undamaged_call(trial: &mut Trial, s: Settings, prng: &mut Prng) {
     let rows = rows(trial.words()).expect("a table");
     assert!(rows.windows(2).all(|pair| pair[0].0 < pair[1].0), "not ascending");
     assert!(rows.len() <= (s.capacity << s.depth) as usize);
+}
+
+/// The words are listed in these rows, also into lists that are longer, of which the rest stays.
+fn shows(w: &mut [u64], rows: &[(u32, i64)]) {
+    assert_eq!(Table::over(w).listing().as_deref(), Ok(rows));
+    let (words, count) = (Lent::new(w, 9), rows.len());
+    for places in [[count, count], [count + 2, count + 1]] {
+        assert_eq!(lent::list(&words, places, Lent::new(&[1, 2], 9), Ok(rows.to_vec())), TOTALS_OK);
+    }
+}
+
+#[test]
+fn a_listing_of_accounts_that_come_again_or_have_more_than_32_bits() {
+    let s = Settings { workers: 1, capacity: 6, depth: 1 };
+    let mut w = vec![0; words_needed(s)];
+    let opening = totals::Settings::new(s.workers, s.capacity, s.depth).expect("settings in their range");
+    Table::open(&mut w, opening).expect("as many words as are needed");
+    // six items in the only bucket, which both entries of the directory name
+    let (directory, empty) = (directory_start(s), w.len() - WIDEST_RECORD);
+    let items = w[directory] as usize + RECORD_ACCOUNTS;
+    w[items - RECORD_ACCOUNTS + RECORD_COUNT] = 6;
+    w[items..][..6].copy_from_slice(&[1001, 1000 + (5 << 32), 1002, 1000, 1001 + (1 << 63), 1000]);
+    w[items + 6..][..6].copy_from_slice(&[i64::MAX, 7, 0, -7, i64::MIN, 7].map(|total| total as u64));
+    let [first, second] = [[(1000, -7), (1000, 7), (1000, 7)], [(1001, i64::MIN), (1001, i64::MAX), (1002, 0)]];
+    shows(&mut w, &[first, second].concat());
+    // the second entry names a record without accounts: 1001, whose place begins with 1, is not listed
+    assert_eq!([1000, 1001, 1002].map(|account| place(account) >> 31), [0, 1, 0]);
+    (w[directory + 1], w[empty + RECORD_COUNT]) = (empty as u64, 0);
+    shows(&mut w, &[&first[..], &second[2..]].concat());
 }
 
 #[test]

@@ -9,6 +9,7 @@ use same::capi::interface::{KIND_DELETE, KIND_INSERT, KIND_LOOKUP, KIND_POST};
 use same::capi::layout::addresses::{record_in, record_of, worker_at};
 use same::capi::layout::shape::{directory_start, settings_of, strange_words};
 use totals::raw::{totals_words_needed, TOTALS_GREATEST_RUN};
+use totals::{account_at, place};
 
 /// Small numbers, numbers about the length, accounts, and any word.
 pub fn any_word(prng: &mut Prng, length: usize) -> u64 {
@@ -22,14 +23,14 @@ pub fn any_word(prng: &mut Prng, length: usize) -> u64 {
     }
 }
 
-/// Accounts that share buckets: few, and spread over the first bits.
+/// Accounts that share buckets: few, and spread over the first bits of their places.
 pub fn any_account(prng: &mut Prng) -> u32 {
     let low = prng.below(4) as u32;
-    match prng.below(3) {
+    account_at(match prng.below(3) {
         0 => low,
         1 => low | (prng.below(8) as u32) << 29,
         _ => low | (prng.below(256) as u32) << 24,
-    }
+    })
 }
 
 /// Words of totals: small ones, so that many sums are totals, those at the ends, so that others are not, and any.
@@ -202,12 +203,12 @@ fn pointer_place(s: Settings, prng: &mut Prng) -> usize {
     }
 }
 
-/// A word of the header, the whole of its settings, the mark kept, or one of the two marks before it: of tables without
-/// posts, and of those in which a delete could be crowded.
+/// A word of the header, the whole of its settings, the mark kept, or one of the three marks before it: of tables
+/// without posts, of those in which a delete could be crowded, and of those in which an account's own bits placed it.
 fn header(w: &mut [u64], prng: &mut Prng) {
     match prng.below(7) {
         0 => w[HEADER_SETTINGS] = marked(prng),
-        6 => w[HEADER_SETTINGS] = (MARK - prng.between(1, 2)) * MARK_UNIT + w[HEADER_SETTINGS] % MARK_UNIT,
+        6 => w[HEADER_SETTINGS] = (MARK - prng.between(1, 3)) * MARK_UNIT + w[HEADER_SETTINGS] % MARK_UNIT,
         1 => w[HEADER_SETTINGS] ^= 1 << prng.below(u64::from(MARK_UNIT.ilog2())),
         2 => w[HEADER_NEEDED] = any_word(prng, w.len()),
         3 => w[HEADER_DEPTH] = any_word(prng, 9),
@@ -279,7 +280,7 @@ fn ripe(w: &mut [u64], s: Settings, p: usize, prng: &mut Prng) {
     }
     w[q + RECORD_COUNT] = s.capacity;
     w[q + RECORD_DEPTH] = depth;
-    w[q + RECORD_PREFIX] = account << depth >> u32::BITS;
+    w[q + RECORD_PREFIX] = u64::from(place(account as u32)) << depth >> u32::BITS;
     w[slot + SLOT_KIND] = KIND_INSERT;
     w[slot + SLOT_TICKET] = u64::MAX;
     w[p + WORKER_MARKS] |= 1 << j;

@@ -17,6 +17,7 @@ use orders::{Entry, Orders};
 use safe::Safe;
 use std::collections::BTreeSet;
 use tickets::last_ticket;
+use totals::account_at;
 use totals::raw::*;
 
 pub type Rows = Vec<(u32, i64)>;
@@ -277,10 +278,10 @@ fn random_orders(title: &str, table: impl Interface, seeds: u64, any_kind: bool)
     pair.gave("list", &[TOTALS_OK, TOTALS_NARROW]);
 }
 
-/// A call of a worker by one of these kinds, of an account with any two first bits.
+/// A call of a worker by one of these kinds, of an account whose place has any two first bits.
 fn any_call(prng: &mut Prng, worker: u64, kinds: &[u64], total: i64) -> Entry {
     let kind = prng.one_of(kinds);
-    let account = (prng.below(4) as u32) << 30 | prng.below(2) as u32;
+    let account = account_at((prng.below(4) as u32) << 30 | prng.below(2) as u32);
     Entry::Call { worker, kind, account, total }
 }
 

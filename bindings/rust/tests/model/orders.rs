@@ -8,6 +8,7 @@ use model::random::Generator;
 use model::records::{KIND_DELETE, KIND_INSERT, KIND_LOOKUP, KIND_POST};
 use model::settings::Settings;
 use model::starts::EDGES;
+use totals::account_at;
 use totals::raw::TOTALS_GREATEST_RUN as RUN;
 
 /// One entry of an order.
@@ -208,8 +209,13 @@ fn wrong_settings(prng: &mut Prng) -> [u64; 3] {
     settings
 }
 
-/// Accounts that fill buckets: few prefixes, a bit more or less deep than the table can be, and a few accounts in each.
+/// Accounts that fill buckets: few prefixes of places, a bit more or less deep than the table can be, and a few
+/// accounts in each; or, in one order of five, accounts from 1000 up.
 fn pool(prng: &mut Prng, settings: Settings) -> Vec<u32> {
+    if prng.percent(20) {
+        let most = settings.bucket_size << settings.greatest_depth;
+        return (1000..=1000 + prng.between(2, most.min(200) as u64) as u32).collect();
+    }
     let bits = (settings.greatest_depth + prng.below(3) as u32).saturating_sub(1).max(1);
     let most = if prng.percent(20) { 200 } else { 8 };
     let prefixes = prng.between(1, most);
@@ -217,7 +223,7 @@ fn pool(prng: &mut Prng, settings: Settings) -> Vec<u32> {
     let mut pool = vec![0, u32::MAX, 1 << 31];
     for _ in 0..prefixes {
         let prefix = (prng.draw() as u32) >> (32 - bits) << (32 - bits);
-        pool.extend((0..each as u32).map(|low| prefix | low));
+        pool.extend((0..each as u32).map(|low| account_at(prefix | low)));
     }
     pool
 }
