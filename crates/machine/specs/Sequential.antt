@@ -35,12 +35,18 @@ account (post a v) = a
 
 -- "Place an account by its number times 2,654,435,761 modulo 4,294,967,296" (02, No. 8): the field's multiplicative
 -- hash, whose first bits are the account's.
+abbrev pub placeFactor : ℕ
+placeFactor = 2_654_435_761
+
 unfoldable pub place : ℕ → ℕ
-place a = a * 2_654_435_761 % 2 ^ 32
+place a = a * placeFactor % 2 ^ 32
 
 -- "The way back from place to number": the product of the two factors is 1 modulo 2 ^ 32.
+abbrev pub accountFactor : ℕ
+accountFactor = 244_002_641
+
 unfoldable pub accountAt : ℕ → ℕ
-accountAt p = p * 244_002_641 % 2 ^ 32
+accountAt p = p * accountFactor % 2 ^ 32
 
 -- "the place's first bits choose the bucket": "the account's first d bits, most significant first", of 32
 unfoldable pub firstBits : ℕ → ℕ → ℕ

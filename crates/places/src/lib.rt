@@ -3,11 +3,16 @@
 ghost use mathlib.Core.Path.{_≡_};
 ghost use Rattle.machine.specs.Sequential.{place, accountAt};
 
+// The factors of the two: their product is 1 modulo 2^32.
+const PLACE_FACTOR: u64 = 2654435761;
+
+const ACCOUNT_FACTOR: u64 = 244002641;
+
 // The place of the account in a word. The last 32 bits count: only words from elsewhere have more.
 pub fn place_in(word: u64) -> u64
     ensures { λ r. ⌜ r ≡ place word ⌝ }
 {
-    word % 4294967296 * 2654435761 % 4294967296
+    word % 4294967296 * PLACE_FACTOR % 4294967296
 }
 
 // The place of an account.
@@ -21,5 +26,5 @@ pub fn place(account: u32) -> u32
 pub fn account_at(place: u32) -> u32
     ensures { λ r. ⌜ r ≡ accountAt place ⌝ }
 {
-    ((place as u64) * 244002641 % 4294967296) as u32
+    ((place as u64) * ACCOUNT_FACTOR % 4294967296) as u32
 }

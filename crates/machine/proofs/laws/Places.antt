@@ -4,7 +4,7 @@ use Prim.Native.Nat.{ℕ, _+_, _*_, _/_, _%_, _^_, _<_}
 use native.Mathlib.Nat.{mod-lt, mod-eq-of-lt, mul-comm, mul-assoc, mul-one, add-mul, div-add-mod, mul-add-mod-self-left}
 use mathlib.Core.Path.{_≡_, refl, ap, sym, _∙_}
 use lib.Pow.{pow-pos}
-use Rattle.machine.specs.Sequential.{place, accountAt}
+use Rattle.machine.specs.Sequential.{placeFactor, place, accountFactor, accountAt}
 
 -- ---- products modulo n
 
@@ -26,23 +26,23 @@ back n c d a one less =
 
 pub place-below : (a : ℕ) → place a < 2 ^ 32
 unfolding place
-place-below a = mod-lt (a * 2_654_435_761) (pow-pos 32)
+place-below a = mod-lt (a * placeFactor) (pow-pos 32)
 
 pub account-below : (p : ℕ) → accountAt p < 2 ^ 32
 unfolding accountAt
-account-below p = mod-lt (p * 244_002_641) (pow-pos 32)
+account-below p = mod-lt (p * accountFactor) (pow-pos 32)
 
 -- an account of more than 32 bits has the place of its last 32
 pub place-last-32 : (a : ℕ) → place (a % 2 ^ 32) ≡ place a
 unfolding place
-place-last-32 a = reduced (2 ^ 32) a 2_654_435_761
+place-last-32 a = reduced (2 ^ 32) a placeFactor
 
 -- ---- "shown to be exact in either order"
 
 pub account-of-place : (a : ℕ) → a < 2 ^ 32 → accountAt (place a) ≡ a
 unfolding place accountAt
-account-of-place a h = back (2 ^ 32) 2_654_435_761 244_002_641 a refl h
+account-of-place a h = back (2 ^ 32) placeFactor accountFactor a refl h
 
 pub place-of-account : (p : ℕ) → p < 2 ^ 32 → place (accountAt p) ≡ p
 unfolding place accountAt
-place-of-account p h = back (2 ^ 32) 244_002_641 2_654_435_761 p refl h
+place-of-account p h = back (2 ^ 32) accountFactor placeFactor p refl h
