@@ -13,15 +13,15 @@ use Rattle.machine.specs.Calls.{openingOf, opening, operationOf, spent, 
 use Rattle.machine.specs.Script.{openingResponse, callResponse, listingResponse, steps, responseTo, runFrom, run, memoryAfter}
 
 unfoldable pub computing : Unit {0}
-unfolding xor within inRange built if_then_else_ _and_ assign place accountAt firstBits find put remove having present totalOr0
-    isTotal sum result changed looked creates tried crowds serve same bucketOf newBucket firstDirectory firstCells
-    noReads opened full splittable holdsBack settledAt carryOut pending help helped nextState checked copyOf leafOf
-    replaceLeaf doubled deepened child half replaceHalf split splitLeaf splitWhile carryLeaf takeUpdate takeSlot
-    takeSlots resize directoryOf bodyMade each bucketRound bucketPass check directoryRound directoryPass pass plan
-    phase isCheck checksIn checkNumber withDirectory withState withToggle withSlot withCopy announcing
-    directoryReading flipping stateReading toggleReading slotReading swapped stateSwapping stateChecking
-    directoryCopying leafReading resizing redirected directorySwapping updateAccess lookupAccess access direct
-    assignSlot assignBucket assignState assignToggle perform counted checkOf stepReply done stepOf step wordsNeeded
-    recordStart directoryStart poolSize openingOf opening operationOf spent ticketFor begun callOf call putAll collect
-    contents listingOf listing openingResponse callResponse listingResponse steps responseTo runFrom run memoryAfter
+unfolding xor within inRange built if_then_else_ _and_ assign place accountAt firstBits find put remove having present
+    totalOr0 isTotal sum result changed looked creates tried crowds serve same bucketOf newBucket firstDirectory
+    firstCells noReads opened full splittable holdsBack settledAt carryOut pending help helped nextState checked copyOf
+    leafOf replaceLeaf doubled deepened child half replaceHalf split splitLeaf splitWhile carryLeaf takeUpdate takeSlot
+    takeSlots resize directoryOf bodyMade each bucketRound bucketPass check directoryRound directoryPass pass plan phase
+    isCheck checksIn checkNumber withDirectory withState withToggle withSlot withCopy announcing directoryReading
+    flipping stateReading toggleReading slotReading swapped stateSwapping stateChecking directoryCopying leafReading
+    resizing redirected directorySwapping updateAccess lookupAccess access direct assignSlot assignBucket assignState
+    assignToggle perform counted checkOf stepReply done stepOf step wordsNeeded recordStart directoryStart poolSize
+    openingOf opening operationOf spent ticketFor begun callOf call putAll collect contents listingOf listing
+    openingResponse callResponse listingResponse steps responseTo runFrom run memoryAfter
 computing = tt
