@@ -1,5 +1,5 @@
 -- Words of regions after a store, and what a change inside one region keeps of the meaning. Rests on the laws of regions.
-use Prim.Native.Nat.{ℕ, _+_, _*_, _-_, _%_, _^_, _≤_, _<_}
+use Prim.Native.Nat.{ℕ, _+_, _*_, _-_, _^_, _≤_, _<_}
 use native.Mathlib.Omega.{arith}
 use native.Mathlib.Nat.{add-assoc, zero-add, div-le-self, pow-le-pow-right}
 use native.Mathlib.Decide.{ℕ-discrete, decLt}
