@@ -49,7 +49,8 @@ sort-requires c κs =
     let test3 = write .before .before .before in
     let test2 = test3 .before in
     let count = test2 .before in
-    sort-room _ _ _ (count .count .ensures) _ _ _ _ (write .write .ensures) (test2 .if2 .left) (test3 .if3 .left)
+    let room = sort-room _ _ _ (count .count .ensures) _ _ _ _ (write .write .ensures) (test2 .if2 .left) (test3 .if3 .left) in
+    (omega (arith, room .0), omega (arith, room .1))
 
 returns-4 : tie.Need-returns-4
 returns-4 c =
