@@ -1,17 +1,17 @@
 -- The listing on words that mean a machine is the machine's: each entry's rows are the accounts of the plain table with its first bits, and
--- all entries together, sorted, are the whole. Rests on what a bucket record's words mean and on the laws of tables.
+-- all entries together, sorted, are the whole. Rests on what a bucket record's words mean, and on the laws of tables and of sorting.
 use Prim.Native.Nat.{ℕ, zero, suc, _+_, _-_, _^_, _≤_, _<_}
 use native.Mathlib.Omega.{arith}
 use native.Mathlib.Nat.{add-zero, zero-add, mod-eq-of-lt}
 use native.Mathlib.Decide.{ℕ-discrete, decLt}
 use mathlib.Core.Path.{_≡_, refl, ap, sym, _∙_, subst, subst⁻¹}
-use mathlib.Core.Bool.{true, false}
+use mathlib.Core.Bool.{true}
 use mathlib.Core.List.{List, [], _∷_, _++_}
 use lib.Dec.{leb}
 use lib.IntN.{ℤ}
 use lib.ListN.{length, getD, take}
 use lib.Seq.{length-take-le, getD-take}
-use borrow.Author.Tests.{le-leb, lt-leb, eq-eqb, ne-eqb, lt-ltb, le-ltb}
+use borrow.Author.Tests.{le-leb, lt-leb, eq-eqb, ne-eqb}
 use Rattle.interface.specs.Limits.{inRange, Range}
 use Rattle.interface.proofs.Laws.{range-of}
 use Rattle.interface.specs.declared.Settings.{Settings}
@@ -20,9 +20,9 @@ use Rattle.machine.specs.Sequential.{Table, firstBits, having, AccountsAbove, A
 use Rattle.machine.specs.Records.{Name, Leaf, Machine}
 use Rattle.machine.specs.DirectoryPass.{copyOf, nameOf}
 use Rattle.machine.specs.Calls.{contents}
-use Rattle.machine.proofs.laws.Base.{if-elim, if-true, if-false}
+use Rattle.machine.proofs.laws.Base.{if-elim, if-false}
 use Rattle.machine.proofs.laws.Bits.{bits-below, representative, bits-representative}
-use Rattle.machine.proofs.laws.Tables.{having-having}
+use Rattle.machine.proofs.laws.Tables.{above-having, having-having}
 use Rattle.machine.proofs.laws.Copies.{Coherent, depthAt-le, leafOf-copyOf, partition-name, partition-of}
 use Rattle.machine.proofs.Listing.{contents-is}
 use Rattle.machine.specs.Tasks.{leaf}
@@ -40,43 +40,25 @@ use Rattle.record.proofs.Runs.{getD-copied}
 use Rattle.layout.specs.Shape.{word}
 use Rattle.layout.specs.Addresses.{recordIn, recordOf}
 use Rattle.entries.specs.Entries.{entryRecord, rowAt, rowsIn, rowsOf}
-use Rattle.sorting.specs.Sorting.{notAfter, insertRow, sorted}
+use Rattle.sorting.specs.Sorting.{insertRow, sorted}
+use Rattle.sorting.proofs.Order.{lower, higher}
+use Rattle.sorting.proofs.Insertion.{insert-here, insert-past, insertRows, sorted-append}
 use Rattle.rows.specs.Rows.{rowsFrom, unsorted, rows}
 use Rattle.simulation.specs.Meaning.{at, current, Meaning}
 use Rattle.simulation.proofs.frames.Entering.{directed-record}
 
 -- ---- a table by the first bits of its accounts
 
--- a row below another is not after it, and the other is after it
-module _ (x y : ℕ × ℤ) (below : x .0 < y .0) where
-  before-it : notAfter x y ≡ true
-  unfolding notAfter
-  before-it = rw (lt-ltb (x .0) (y .0) below)
-
-  after-it : notAfter y x ≡ false
-  unfolding notAfter
-  after-it = rw (le-ltb (y .0) (x .0) (omega arith), ne-eqb (y .0) (x .0) (λ e. omega arith))
-
--- rows put one by one into sorted rows, the last one first
-unfoldable insertRows : Table → Table → Table
-insertRows [] r = r
-insertRows (x ∷ p) r = insertRow x (insertRows p r)
-
-sorted-append : (p r : Table) → sorted (p ++ r) ≡ insertRows p (sorted r)
-unfolding sorted insertRows
-sorted-append [] r = refl
-sorted-append (x ∷ p) r = ap (insertRow x) (sorted-append p r)
-
 -- a row below all of a table stays the first
 insert-first : (x : ℕ × ℤ) (t : Table) → AccountsAbove (x .0) t → insertRow x t ≡ x ∷ t
 unfolding insertRow
 insert-first x [] h = refl
-insert-first x (y ∷ t) h = if-true _ _ (before-it x y (h .0))
+insert-first x (y ∷ t) h = insert-here x y t (lower x y (h .0))
 
 first-stays : (x : ℕ × ℤ) (p r : Table) → AccountsAbove (x .0) p → insertRows p (x ∷ r) ≡ x ∷ insertRows p r
-unfolding insertRows insertRow
+unfolding insertRows
 first-stays x [] r h = refl
-first-stays x (y ∷ p) r h = ap (insertRow y) (first-stays x p r (h .1)) ∙ if-false _ _ (after-it x y (h .0))
+first-stays x (y ∷ p) r h = ap (insertRow y) (first-stays x p r (h .1)) ∙ insert-past y x (insertRows p r) (higher y x (h .0))
 
 -- the accounts whose first d bits are e or more
 unfoldable from : ℕ → ℕ → Table → Table
@@ -84,12 +66,6 @@ from d e [] = []
 from d e (x ∷ t) = if leb e (firstBits d (x .0)) then x ∷ from d e t else from d e t
 
 module _ (d : ℕ) where
-  above-having : (e x : ℕ) (t : Table) → AccountsAbove x t → AccountsAbove x (having d e t)
-  unfolding having
-  above-having e x [] h = tt
-  above-having e x (y ∷ t) h =
-      if-elim (AccountsAbove x) _ _ _ (λ q. (h .0, above-having e x t (h .1))) (λ q. above-having e x t (h .1))
-
   above-from : (e x : ℕ) (t : Table) → AccountsAbove x t → AccountsAbove x (from d e t)
   unfolding from
   above-from e x [] h = tt
@@ -114,7 +90,7 @@ module _ (d : ℕ) where
           (ap (insertRow x) again ∙ insert-first x (from d e t) (above-from e (x .0) t (h .0)))
       go again (no more) (no other) =
           rw (le-leb e b (omega arith), ne-eqb b e other, le-leb (suc e) b (omega arith))
-          (first-stays x (having d e t) (from d (suc e) t) (above-having e (x .0) t (h .0)) ∙ ap (λ (y : Table). x ∷ y) again)
+          (first-stays x (having d e t) (from d (suc e) t) (above-having (x .0) d e t (h .0)) ∙ ap (λ (y : Table). x ∷ y) again)
 
   from-zero : (t : Table) → from d 0 t ≡ t
   unfolding from if_then_else_

@@ -83,7 +83,7 @@ unfolding remove
 ascending-remove [] a h = tt
 ascending-remove (e ∷ t) a h = remove-elim Ascending e t a (λ q. h .1) (λ q. (above-remove (e .0) t a (h .0), ascending-remove t a (h .1)))
 
-above-having : (x d q : ℕ) (t : Table) → AccountsAbove x t → AccountsAbove x (having d q t)
+pub above-having : (x d q : ℕ) (t : Table) → AccountsAbove x t → AccountsAbove x (having d q t)
 unfolding having
 above-having x d q [] h = tt
 above-having x d q (e ∷ t) h =
