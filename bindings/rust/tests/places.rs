@@ -133,9 +133,25 @@ fn room_from_1000_up(capacity: u32, depth: u32) -> u32 {
     (1000..).take_while(has_room).count() as u32
 }
 
+/// Bucket size, greatest depth, and how many accounts from 1000 up fit: the table of docs/USING.md, and two small ones.
+const FIT: [(u32, u32, u32); 12] = [
+    (2, 1, 4),
+    (4, 2, 14),
+    (8, 4, 123),
+    (8, 5, 240),
+    (8, 6, 467),
+    (8, 7, 938),
+    (8, 8, 1742),
+    (16, 4, 249),
+    (16, 5, 493),
+    (16, 6, 988),
+    (16, 7, 1925),
+    (16, 8, 3807),
+];
+
 #[test]
 fn accounts_from_1000_up_until_crowded() -> Done {
-    for (capacity, depth, count) in [(2, 1, 4), (4, 2, 14), (8, 4, 123), (16, 4, 249), (8, 8, 1742), (16, 8, 3807)] {
+    for (capacity, depth, count) in FIT {
         assert_eq!(room_from_1000_up(capacity, depth), count);
         let mut owned = opened(1, capacity.into(), depth.into())?;
         let mut table = owned.table();
