@@ -1,14 +1,14 @@
 -- Laws of runs: an overlay of a list of anything, then for words their lengths, single words, and what an overlay does to each run.
 -- Rests on the library's laws of lists; from the laws of single words on, lists are compared word by word.
 use Prim.Native.Nat.{ℕ, _+_, _-_, _≤_, _<_}
-use native.Mathlib.Nat.{add-zero, add-assoc}
+use native.Mathlib.Nat.{add-zero, zero-add, add-assoc}
 use native.Mathlib.Omega.{arith}
 use native.Mathlib.Numerals.{add-one}
 use native.Mathlib.Decide.{decLt}
 use mathlib.Core.Path.{_≡_, refl, sym, _∙_, ap, subst}
 use mathlib.Core.List.{List, [], _∷_, _++_, append-assoc, append-nil}
 use lib.ListN.{length, getD, set, take, drop, length-append, length-drop, take-append-drop, List·getD-append}
-use lib.Seq.{length-take-le, take-at, drop-append-add, drop-drop, getD-take, getD-drop, getD-append-add, set-split, append-snoc, ext-getD}
+use lib.Seq.{length-take-le, take-at, drop-append-add, drop-at, drop-drop, getD-take, getD-drop, getD-append-add, set-split, append-snoc, ext-getD}
 use Rattle.lists.specs.Parts.{part, overlay}
 
 -- ---- a part, as code takes it
@@ -58,6 +58,35 @@ module _ {A : Type 0} (l : List A) (at : ℕ) where
     pub overlay-more : (v : A) → at + length xs < length l → set (overlay l at xs) (at + length xs) v ≡ overlay l at (xs ++ v ∷ [])
     overlay-more v h =
         set-overlay (overlay l at xs) (at + length xs) v (rw (length-overlay (omega arith)) h) ∙ overlay-join (v ∷ []) (omega arith)
+
+-- ---- an overlay from the first position on
+
+module _ {A : Type 0} where
+  pub overlay-first : (l xs : List A) → overlay l 0 xs ≡ xs ++ drop (length xs) l
+  unfolding overlay
+  overlay-first l xs = ap (λ (n : ℕ). xs ++ drop n l) (zero-add (length xs))
+
+  -- written again, as many
+  pub overlay-again : (l xs ys : List A) → length xs ≡ length ys → overlay (overlay l 0 xs) 0 ys ≡ overlay l 0 ys
+  overlay-again l xs ys e =
+      ap (λ (r : List A). overlay r 0 ys) (overlay-first l xs)
+      ∙ overlay-first (xs ++ drop (length xs) l) ys
+      ∙ ap (λ (r : List A). ys ++ r) (drop-at xs (drop (length xs) l) (length ys) e ∙ ap (λ (n : ℕ). drop n l) e)
+      ∙ sym (overlay-first l ys)
+
+  -- a list that differs from l in its first k items only is l with those items
+  pub overlay-front :
+      (d : A) (l m : List A) (k : ℕ) → length m ≡ length l → k ≤ length l → ((i : ℕ) → k ≤ i → getD m i d ≡ getD l i d)
+      → m ≡ overlay l 0 (take k m)
+  overlay-front d l m k e h same =
+      let n : length (take k m) ≡ k = length-take-le k m (omega arith) in
+      let lengths : length (drop k m) ≡ length (drop k l) = length-drop k m ∙ rw e (sym (length-drop k l)) in
+      let rest : drop k m ≡ drop k l =
+      ext-getD d (drop k m) (drop k l) lengths
+      (λ i b. getD-drop k m i d ∙ same (k + i) (omega arith) ∙ sym (getD-drop k l i d)) in
+      sym (take-append-drop k m)
+      ∙ ap (λ (r : List A). take k m ++ r) (rest ∙ ap (λ (j : ℕ). drop j l) (sym n))
+      ∙ sym (overlay-first l (take k m))
 
 -- ---- a run
 

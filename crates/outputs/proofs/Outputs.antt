@@ -16,12 +16,13 @@ use Rattle.interface.specs.declared.Listed.{Listed}
 use Rattle.interface.specs.declared.Refusal.{Refusal}
 use Rattle.machine.specs.Choice.{if_then_else_}
 use Rattle.layout.specs.Shape.{strange, shapeOf}
+use Rattle.sorting.specs.RowLists.{rowAt, rowsAt}
 use Rattle.rows.specs.Rows.{rows, Shown, shown, listingWords}
 use Rattle.replies.specs.declared.Reply.{Reply}
 use Rattle.lists.specs.Parts.{overlay}
 use Rattle.printers.specs.Written.{fits, Wrote}
 use Rattle.replies.specs.Printed.{printedRow, printedEnd, printedReply}
-use Rattle.outputs.specs.Outputs.{Output, emitted, putRows, rowsAt, putListed, DriverState, listedAs, listed}
+use Rattle.outputs.specs.Outputs.{Output, emitted, putRows, putListed, DriverState, listedAs, listed}
 
 module _ {l : List ℕ} {at : ℕ} {xs : List ℕ} {r : ℕ} {after : List ℕ} (w : Wrote l at xs r after) where
   pub wrote-put : _≡_ {A = Output} (record { bytes = after; used = at + r }) (emitted (record { bytes = l; used = at }) xs)
@@ -55,7 +56,7 @@ module _ (accounts : List ℕ) (totals : List ℤ) where
 
   pub rows-next : (o p : Output) (i n : ℕ) → i < n → p ≡ emitted o (printedRow (getD accounts i 0) (getD totals i (pos 0)))
       → putRows p (rowsAt accounts totals (i + 1) (n - (i + 1))) ≡ putRows o (rowsAt accounts totals i (n - i))
-  unfolding putRows rowsAt
+  unfolding putRows rowsAt rowAt
   rows-next o p i n h e = let z : n - i ≡ suc (n - (i + 1)) = omega arith in rw (z, e, add-one)
 
 -- ---- the listing

@@ -1,12 +1,13 @@
 -- What is printed behind the bytes of a buffer that are used. 01, The driver: "`T` prints account and total, ascending,
 -- then `end` and the count." Rests on the table's listing and on the replies' texts.
-use Prim.Native.Nat.{ℕ, zero, suc, _+_}
+use Prim.Native.Nat.{ℕ, _+_}
 use mathlib.Core.List.{List, [], _∷_}
-use lib.IntN.{ℤ, pos}
-use lib.ListN.{length, getD}
+use lib.IntN.{ℤ}
+use lib.ListN.{length}
 use Rattle.interface.specs.Numbers.{numberOf}
 use Rattle.interface.specs.declared.Listed.{Listed}
 use Rattle.machine.specs.Choice.{if_then_else_}
+use Rattle.sorting.specs.RowLists.{rowsAt}
 use Rattle.rows.specs.Rows.{Shown, listingWords}
 use Rattle.replies.specs.declared.Reply.{Reply}
 use Rattle.lists.specs.Parts.{overlay}
@@ -32,11 +33,6 @@ emitted o xs =
 unfoldable pub putRows : Output → List (ℕ × ℤ) → Output
 putRows o [] = o
 putRows o (e ∷ t) = putRows (emitted o (printedRow (e .0) (e .1))) t
-
--- n rows of two lists, from position i on
-unfoldable pub rowsAt : List ℕ → List ℤ → ℕ → ℕ → List (ℕ × ℤ)
-rowsAt accounts totals i zero = []
-rowsAt accounts totals i (suc n) = (getD accounts i 0, getD totals i (pos 0)) ∷ rowsAt accounts totals (suc i) n
 
 -- the listing's rows and its end, or its refusal
 unfoldable pub putListed : Output → List ℕ → List ℤ → Listed → Output

@@ -21,7 +21,7 @@ use Rattle.lists.specs.Parts.{overlay}
 use Rattle.layout.specs.Shape.{strange, shapeOf, Fits}
 use Rattle.layout.proofs.Checks.{fits-of, depth-of}
 use Rattle.sorting.specs.Sorting.{sorted}
-use Rattle.sorting.specs.RowLists.{RowsWritten, firstRows}
+use Rattle.sorting.specs.RowLists.{RowsWritten, rowsAt}
 use Rattle.sorting.proofs.Insertion.{sorted-length}
 use Rattle.sorting.proofs.Rows.{written-sorted}
 use Rattle.rows.specs.Rows.{rowsFrom, unsorted, rows, shown, listingWords}
@@ -103,7 +103,7 @@ module _ (l : List ℕ) (s : Settings) (k : ℕ) (count : k ≡ length (unsorted
   )
 
   pub sorted-written :
-      (b : List ℕ) (u : List ℤ) → RowsWritten a t 0 (sorted (firstRows a t k)) b u → RowsWritten accounts totals 0 (sorted r) b u
+      (b : List ℕ) (u : List ℤ) → RowsWritten a t 0 (sorted (rowsAt a t 0 k)) b u → RowsWritten accounts totals 0 (sorted r) b u
   sorted-written b u after = written-sorted accounts totals r a t b u written (rw count at after)
 
 -- the entries of the directory at depth d, as the code computes their number

@@ -24,6 +24,7 @@ use Rattle.layout.specs.Shape.{strange, shapeOf, word}
 use Rattle.entries.specs.Entries.{rowAt, rowsIn, rowsOf}
 use Rattle.sorting.specs.Sorting.{insertRow, sorted}
 use Rattle.sorting.proofs.Insertion.{sorted-length}
+use Rattle.sorting.proofs.Rows.{rows-back}
 use Rattle.rows.specs.Rows.{rowsFrom, unsorted, rows, Shown, shown, listingWords}
 use Rattle.commands.specs.declared.Command.{Command}
 use Rattle.replies.specs.declared.Reply.{Reply}
@@ -33,7 +34,7 @@ use Rattle.replies.specs.Printed.{printedRow, printedRows, printedEnd, printedR
 use Rattle.lists.proofs.PartLaws.{overlay-nil, length-overlay}
 use Rattle.decimals.proofs.Overlays.{next}
 use Rattle.responses.specs.Responses.{responded}
-use Rattle.outputs.specs.Outputs.{Output, emitted, putRows, rowsAt, putListed, DriverState, listedAs, listed}
+use Rattle.outputs.specs.Outputs.{Output, emitted, putRows, putListed, DriverState, listedAs, listed}
 use Rattle.outputs.specs.Room.{longest}
 use Rattle.responses.specs.Answers.{repliedAs, isList, answered}
 use Rattle.texts.specs.Texts.{rowsText, listingText, textOn, wordsOn}
@@ -158,20 +159,6 @@ short-rows l =
     record { size = rw (printed-sorted r, sorted-length r) h }
 
 -- ---- the lists that a listing leaves
-
-rows-past : (x : ℕ) (y : ℤ) (accounts : List ℕ) (totals : List ℤ) (i n : ℕ)
-    → rowsAt (x ∷ accounts) (y ∷ totals) (suc i) n ≡ rowsAt accounts totals i n
-unfolding rowsAt
-rows-past x y accounts totals i zero = refl
-rows-past x y accounts totals i (suc n) = rw (rows-past x y accounts totals (suc i) n)
-
--- rows written at the start of two lists are the first rows of these
-rows-back : (t : Table) (accounts : List ℕ) (totals : List ℤ)
-    → rowsAt (map (λ x. x .0) t ++ accounts) (map (λ x. x .1) t ++ totals) 0 (length t) ≡ t
-unfolding rowsAt
-rows-back [] accounts totals = refl
-rows-back (e ∷ t) accounts totals =
-    rw (rows-past (e .0) (e .1) (map (λ x. x .0) t ++ accounts) (map (λ x. x .1) t ++ totals) 0 (length t), rows-back t accounts totals)
 
 left-false : (x y : Bool) → x || y ≡ false → x ≡ false
 left-false true y e = e

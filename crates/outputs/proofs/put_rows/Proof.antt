@@ -7,7 +7,8 @@ use lib.ListN.{length, getD}
 use mir.Facts.{toZ-ofZ}
 use borrow.Author.Needs.{needs}
 use Rattle.replies.specs.Printed.{printedRow}
-use Rattle.outputs.specs.Outputs.{Output, emitted, putRows, rowsAt}
+use Rattle.outputs.specs.Outputs.{Output, emitted, putRows}
+use Rattle.sorting.specs.RowLists.{rowsAt}
 use Rattle.outputs.proofs.Outputs.{rows-start, rows-end, rows-next}
 use Rattle.outputs.proofs.put_rows.Statement.{statement}
 use Rattle.outputs.proofs.put_rows.Tie as tie
