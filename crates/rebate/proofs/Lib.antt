@@ -1,0 +1,4 @@
+pub mod Dues
+pub mod Signs
+pub mod Laws
+pub mod Cases
