@@ -1,0 +1,2 @@
+pub mod RebateRows
+pub mod AsListed
