@@ -5,8 +5,9 @@ use mathlib.Core.List.{List}
 use lib.IntN.{ℤ}
 use Rattle.interface.specs.declared.Listed.{Listed}
 use Rattle.rows.specs.Rows.{Shown}
+use Rattle.rebates.specs.Rebates.{Rebated}
 use Rattle.numbers.specs.Returned.{listedNumber, listedReport}
-use Rattle.capi.specs.Flat.{flat, reported, written}
+use Rattle.capi.specs.Flat.{flat, reported, written, writtenRebates}
 
 -- the call of `table` left l and answered a
 
@@ -28,3 +29,11 @@ pub written-is :
     → record { accounts = accounts; totals = totals; report = after; number = k } ≡ written before x
 unfolding written
 written-is x accounts totals a k before after e n r = rw (← e, n, r)
+
+pub written-rebates-is :
+    (x : Rebated) (accounts rebates : List ℕ) (a : Listed) (k : ℕ) (before after : List ℕ)
+    → record { accounts = accounts; rebates = rebates; listed = a } ≡ x
+    → k ≡ listedNumber a → after ≡ listedReport before a
+    → record { accounts = accounts; rebates = rebates; report = after; number = k } ≡ writtenRebates before x
+unfolding writtenRebates
+written-rebates-is x accounts rebates a k before after e n r = rw (← e, n, r)

@@ -4,6 +4,7 @@ use Prim.Native.Nat.{ℕ}
 use mathlib.Core.List.{List}
 use lib.IntN.{ℤ}
 use Rattle.rows.specs.Rows.{Shown, listingWords}
+use Rattle.rebates.specs.Rebates.{Rebated, rebatesWords}
 use Rattle.turns.specs.Turns.{stepWords}
 use Rattle.runs.specs.Runs.{runWords}
 use Rattle.numbers.specs.Returned.{steppedNumber, ranNumber, listedNumber, steppedReport, ranReport, listedReport}
@@ -47,3 +48,23 @@ written before x =
 -- what a listing leaves and returns, over these words, lists and report
 abbrev pub listWritten : List ℕ → List ℕ → List ℤ → List ℕ → Written
 listWritten words accounts totals report = written report (listingWords words accounts totals)
+
+-- both lists of the rebates, the report, and a number
+pub record WrittenRebates : Type 0 where
+  pub accounts : List ℕ
+  pub rebates : List ℕ
+  pub report : List ℕ
+  pub number : ℕ
+
+unfoldable pub writtenRebates : List ℕ → Rebated → WrittenRebates
+writtenRebates before x =
+    record {
+      accounts = x .accounts;
+      rebates = x .rebates;
+      report = listedReport before (x .listed);
+      number = listedNumber (x .listed);
+    }
+
+-- what the rebates leave and return, over these words, lists and report
+abbrev pub rebatesWritten : List ℕ → List ℕ → List ℕ → List ℕ → WrittenRebates
+rebatesWritten words accounts rebates report = writtenRebates report (rebatesWords words accounts rebates)

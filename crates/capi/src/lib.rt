@@ -4,10 +4,11 @@
 ghost use mathlib.Core.Path.{_≡_};
 ghost use Rattle.interface.specs.Limits.{built};
 ghost use Rattle.machine.specs.Sequential.{place, accountAt};
+ghost use Rattle.rebate.specs.Rebate.{rebateOn};
 ghost use Rattle.opening.specs.Opening.{neededFor, openWords};
 ghost use Rattle.calls.specs.Calls.{callWords};
 ghost use Rattle.numbers.specs.Returned.{neededNumber, openedNumber, calledNumber};
-ghost use Rattle.capi.specs.Flat.{flat, stepLeft, runLeft, listWritten};
+ghost use Rattle.capi.specs.Flat.{flat, stepLeft, runLeft, listWritten, rebatesWritten};
 use numbers::called_number;
 use numbers::listed_number;
 use numbers::needed_number;
@@ -88,6 +89,33 @@ pub extern "C" fn totals_list(
 {
     let answer = table::listing(words, accounts, totals);
     listed_number(report, answer)
+}
+
+// The accounts in ascending order with the rebates on their totals: 0 and the count reported, or 8, 10.
+#[no_mangle]
+pub extern "C" fn totals_rebates(
+    words: &[u64],
+    accounts: &mut [u32],
+    rebates: &mut [u64],
+    report: &mut [u64],
+) -> u64
+    ensures { λ r. ⌜ record {
+      accounts = now (accounts .exit);
+      rebates = now (rebates .exit);
+      report = now (report .exit);
+      number = r;
+    } ≡ rebatesWritten (now (words .entry)) (now (accounts .entry)) (now (rebates .entry)) (now (report .entry)) ⌝ }
+{
+    let answer = table::rebates(words, accounts, rebates);
+    listed_number(report, answer)
+}
+
+// The rebate on a total.
+#[no_mangle]
+pub extern "C" fn totals_rebate(total: i64) -> u64
+    ensures { λ r. ⌜ r ≡ rebateOn total ⌝ }
+{
+    table::rebate(total)
 }
 
 // The place of an account: those whose places agree in the first bits share a bucket.
