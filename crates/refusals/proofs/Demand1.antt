@@ -73,7 +73,7 @@ ended-never : (l : List ℕ) (p k c : ℕ) (a : Answer) {r : Refusal} → endedA
 unfolding endedAt
 ended-never l p k c a e = let z : _≡_ {A = ℕ} 0 1 = cc in omega arith
 
-count-never : {k : ℕ} (r : Refusal) → Listed.Count k ≡ Listed.Refused r → ⊥
+pub count-never : {k : ℕ} (r : Refusal) → Listed.Count k ≡ Listed.Refused r → ⊥
 count-never r e = let z : _≡_ {A = ℕ} 0 1 = cc in omega arith
 
 -- ---- settings and openings
@@ -202,7 +202,7 @@ run-checks l w most = check-then (check-then (check-then (passed (λ r. run-neve
 -- ---- the listing
 
 -- so many items laid at the start of a list
-laid : {A : Type 0} (l xs : List A) (k : ℕ) → length xs ≡ k → k ≤ length l → KeptPast k l (overlay l 0 xs)
+pub laid : {A : Type 0} (l xs : List A) (k : ℕ) → length xs ≡ k → k ≤ length l → KeptPast k l (overlay l 0 xs)
 unfolding overlay
 laid l xs k e h = record {
   room = h;

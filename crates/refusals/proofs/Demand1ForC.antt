@@ -26,7 +26,7 @@ use Rattle.refusals.specs.Demand1.{RefusedBy, RefusalNumber, RefusedInC,
 use Rattle.refusals.proofs.Demand1.{demand1}
 
 -- a function that returns the number of a call's answer, and leaves all as it was where the call is refused
-in-c :
+pub in-c :
     {L K A : Type 0} {refused : Refusal → A} {checks : List Check} {lent : L} {x : L × A} {before after : K} (number : A → ℕ)
     → ((r : Refusal) → number (refused r) ≡ numberOf r)
     → (RefusalNumber (number (x .1)) → (r : Refusal) × (x .1 ≡ refused r))
@@ -68,7 +68,7 @@ ran-known (Ran.Moved j) k = absurd (k .0 refl)
 ran-known (Ran.Answered c) k = absurd (let h = k .1 in omega arith)
 ran-known (Ran.Refused r) k = (r, refl)
 
-listed-known : (a : Listed) → RefusalNumber (listedNumber a) → (r : Refusal) × (a ≡ Listed.Refused r)
+pub listed-known : (a : Listed) → RefusalNumber (listedNumber a) → (r : Refusal) × (a ≡ Listed.Refused r)
 unfolding listedNumber
 listed-known (Listed.Count j) k = absurd (k .0 refl)
 listed-known (Listed.Refused r) k = (r, refl)

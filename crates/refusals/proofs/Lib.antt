@@ -2,3 +2,4 @@
 pub mod Checking
 pub mod Demand1
 pub mod Demand1ForC
+pub mod Demand1OnRebates

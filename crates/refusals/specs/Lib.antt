@@ -1,2 +1,3 @@
 pub mod Checks
 pub mod Demand1
+pub mod Demand1OnRebates
