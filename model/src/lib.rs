@@ -3,6 +3,7 @@
 #![forbid(unsafe_code)]
 
 pub mod amounts;
+pub mod cents;
 pub mod check;
 pub mod explain;
 pub mod fault;
@@ -20,6 +21,8 @@ pub mod plain;
 pub mod pools;
 pub mod prng;
 pub mod random;
+pub mod rebate;
+pub mod rebates;
 pub mod records;
 pub mod refusal;
 pub mod search;
@@ -39,4 +42,5 @@ mod wrong;
 pub mod wrong_crowding;
 pub mod wrong_places;
 pub mod wrong_posts;
+pub mod wrong_rebates;
 pub mod wrong_tickets;

@@ -1,4 +1,4 @@
-//! The commands: totals, lines, search, replay, faults, trace.
+//! The commands: totals, lines, search, replay, faults, trace, amounts, rebates.
 #![forbid(unsafe_code)]
 
 use model::check::Counts;
@@ -6,6 +6,7 @@ use model::explain::UNDECIDED;
 use model::fault::Fault;
 use model::input::Input;
 use model::lines::{read_line, Line};
+use model::rebates;
 use model::search::{search, verdict, By, Failure};
 use model::totals::{self, next_line};
 use model::trace::command::trace;
@@ -19,6 +20,8 @@ const USAGE: &str = "usage:
   model replay [--fault NAME]
   model faults
   model trace FILE
+  model amounts SEED COUNT
+  model rebates
 ";
 
 /// The options that may follow a command.
@@ -35,32 +38,43 @@ fn main() -> ExitCode {
         .skip(1)
         .map(|argument| argument.to_string_lossy().into_owned())
         .collect();
-    if let [command, file] = &arguments[..] {
-        if command == "trace" {
-            return exit_code(trace(file));
+    let outcome = arguments
+        .split_first()
+        .and_then(|(name, rest)| command(name, rest));
+    outcome.map_or_else(usage, exit_code)
+}
+
+/// What a command comes to; nothing where there is none of that name, or not with these arguments.
+fn command(name: &str, rest: &[String]) -> Option<io::Result<u8>> {
+    match (name, rest) {
+        ("trace", [file]) => Some(trace(file)),
+        ("lines", _) => lines(rest),
+        ("amounts", [seed, count]) => {
+            let (seed, count) = (seed.parse().ok()?, count.parse().ok()?);
+            Some(rebates::amounts(seed, count, buffered()).map(|()| 0))
         }
+        ("rebates", []) => Some(rebates::rebates(io::stdin().lock(), buffered()).map(|()| 0)),
+        ("faults", []) => Some(faults()),
+        _ => judging(name, &options(rest)?),
     }
-    let command = arguments.first().map(String::as_str);
-    if command == Some("lines") {
-        return lines(&arguments[1..]);
-    }
-    let Some(options) = options(arguments.get(1..).unwrap_or(&[])) else {
-        return usage();
-    };
+}
+
+/// The commands that take options.
+fn judging(name: &str, options: &Options) -> Option<io::Result<u8>> {
     let searching = options.seed.is_some() || options.steps.is_some() || options.external;
-    let outcome = match command {
-        Some("totals") if !searching => {
-            totals::run(io::stdin().lock(), io::stdout().lock(), options.fault).map(|()| 0)
+    match name {
+        "totals" if !searching => {
+            let outcome = totals::run(io::stdin().lock(), io::stdout().lock(), options.fault);
+            Some(outcome.map(|()| 0))
         }
-        Some("search") => match (options.seed, options.steps) {
-            (Some(seed), Some(steps)) => run_search(seed, steps, &options),
-            _ => return usage(),
-        },
-        Some("replay") if !searching => replay(options.fault),
-        Some("faults") if arguments.len() == 1 => faults(),
-        _ => return usage(),
-    };
-    exit_code(outcome)
+        "search" => Some(run_search(options.seed?, options.steps?, options)),
+        "replay" if !searching => Some(replay(options.fault)),
+        _ => None,
+    }
+}
+
+fn buffered() -> impl Write {
+    io::BufWriter::new(io::stdout().lock())
 }
 
 fn exit_code(outcome: io::Result<u8>) -> ExitCode {
@@ -94,20 +108,20 @@ fn options(arguments: &[String]) -> Option<Options> {
 }
 
 /// Writes so many lines of random input; an odd seed's last line has no line feed.
-fn lines(arguments: &[String]) -> ExitCode {
+fn lines(arguments: &[String]) -> Option<io::Result<u8>> {
     let (words, input): (_, fn(u64) -> Input) = match arguments {
         [words @ .., last] if last == "--crowded" => (words, Input::crowded),
         words => (words, Input::new),
     };
     let numbers: Option<Vec<u64>> = words.iter().map(|word| word.parse().ok()).collect();
-    match numbers.as_deref() {
-        Some([seed, count]) => exit_code(write_lines(input(*seed), *seed, *count)),
-        _ => usage(),
+    match numbers?[..] {
+        [seed, count] => Some(write_lines(input(seed), seed, count)),
+        _ => None,
     }
 }
 
 fn write_lines(mut input: Input, seed: u64, count: u64) -> io::Result<u8> {
-    let mut out = io::BufWriter::new(io::stdout().lock());
+    let mut out = buffered();
     for place in 1..=count {
         out.write_all(&input.next_line())?;
         if place < count || seed.is_multiple_of(2) {

@@ -25,7 +25,7 @@ fn text(bytes: &[u8]) -> String {
 
 #[test]
 fn unknown_arguments_get_the_usage_and_exit_2() {
-    let wrong: [&[&str]; 10] = [
+    let wrong: [&[&str]; 15] = [
         &[],
         &["help"],
         &["totals", "x"],
@@ -36,6 +36,11 @@ fn unknown_arguments_get_the_usage_and_exit_2() {
         &["search", "--steps"],
         &["replay", "--fault", "unknown"],
         &["faults", "--external"],
+        &["trace"],
+        &["amounts", "1"],
+        &["amounts", "1", "x"],
+        &["amounts", "-1", "5"],
+        &["rebates", "6000000"],
     ];
     for arguments in wrong {
         let output = run(arguments, b"");
@@ -89,4 +94,36 @@ fn faults_lists_every_name_once() {
     let names: Vec<String> = text(&output.stdout).lines().map(String::from).collect();
     let all = model::fault::Fault::ALL.map(|fault| fault.name().to_string());
     assert_eq!(names, all);
+}
+
+#[test]
+fn amounts_writes_totals_and_rebates_their_rebates() {
+    let written = run(&["amounts", "3", "2000"], b"");
+    assert_eq!(written.status.code(), Some(0));
+    let totals: Vec<i64> = model::cents::totals(3).take(2_000).collect();
+    let lines = |line: &dyn Fn(&i64) -> String| -> String { totals.iter().map(line).collect() };
+    assert_eq!(text(&written.stdout), lines(&|total| format!("{total}\n")));
+    let read = run(&["rebates"], &written.stdout);
+    assert_eq!(read.status.code(), Some(0));
+    let rebate = |total: &i64| format!("{total} {}\n", model::rebate::rebate(*total));
+    assert_eq!(text(&read.stdout), lines(&rebate));
+}
+
+#[test]
+fn a_line_that_is_no_total_ends_the_rebates_with_1() {
+    let output = run(&["rebates"], b"6000000\n1000034\n-5");
+    assert_eq!(output.status.code(), Some(0));
+    assert_eq!(text(&output.stdout), "6000000 85000\n1000034 1\n-5 0\n");
+    for wrong in [
+        "x",
+        "",
+        "1 2",
+        "9223372036854775808",
+        "-9223372036854775809",
+    ] {
+        let output = run(&["rebates"], format!("7\n{wrong}\n8\n").as_bytes());
+        assert_eq!(output.status.code(), Some(1), "{wrong:?}");
+        let error = format!("model: {wrong:?} is no total\n");
+        assert_eq!(text(&output.stderr), error);
+    }
 }
