@@ -11,17 +11,18 @@
  *     memcpy and memset.
  *   - Over words that totals_open accepted and that nothing but these calls has changed since, lent whole each time:
  *     TOTALS_STRANGE never comes; answers and listings are those of a plain table that serves each operation at one
- *     moment between its call and its answer; whatever the other workers do, a lookup is answered at the second step
- *     after its call, an update at step 2n+11, 6n+17, 8n+27 or 12n+33, which are its four checks, and with one worker
- *     at step 13 or 23.
+ *     moment between its call and its answer, and rebates are those on the listing's totals; whatever the other workers
+ *     do, a lookup is answered at the second step after its call, an update at step 2n+11, 6n+17, 8n+27 or 12n+33,
+ *     which are its four checks, and with one worker at step 13 or 23.
  *
  * What the caller owes
  *   - A slice is a pointer and a length, counted in its items. The pointer is not null, also where the length is 0, is
  *     aligned for the item's type, and as many items as the length says can be read there and, where the pointer is not
  *     const, written.
  *   - The slices of one call do not overlap.
- *   - One call at a time over the same words, totals_list included. Workers are numbers and no threads: one caller
- *     interleaves their steps. Nothing here locks or waits; threads would need a lock around every call.
+ *   - One call at a time over the same words, totals_list and totals_rebates included. Workers are numbers and no
+ *     threads: one caller interleaves their steps. Nothing here locks or waits; threads would need a lock around every
+ *     call.
  *   - The number that is returned is looked at: an insert or a post that is answered TOTALS_CROWDED, and a post that is
  *     answered TOTALS_OVERRUN, was not carried out.
  */
@@ -92,7 +93,7 @@ extern "C" {
 #define TOTALS_KIND 6      /* not 1 insert, 2 delete, 3 lookup, 4 post */
 #define TOTALS_SPENT 7     /* insert, delete or post by a worker that has no ticket number left */
 #define TOTALS_STRANGE 8   /* the words are no table: see totals_call */
-#define TOTALS_NARROW 10   /* listing: accounts or totals list shorter than the count */
+#define TOTALS_NARROW 10   /* listing or rebates: a list shorter than the count */
 
 /* Kinds of operations. */
 #define TOTALS_INSERT 1
@@ -187,6 +188,35 @@ uint64_t totals_run(uint64_t *words, size_t length, uint64_t worker, uint64_t mo
  */
 uint64_t totals_list(const uint64_t *words, size_t length, uint32_t *accounts, size_t accounts_length, int64_t *totals,
                      size_t totals_length, uint64_t *report, size_t report_length);
+
+/*
+ * Writes the accounts with the rebates on their totals to the start of both lists: the rows that totals_list writes, in
+ * its order, with totals_rebate of each total in the place of the total; nothing past the count; a report of one place
+ * or more has the count at place 0. The words stay as they are. Lists of TOTALS_GREATEST_COUNT places are long enough
+ * for every table. It keeps the listing in two lists of its own and so takes about 50 kB of stack. Over words that no
+ * opening left an account may come more than once; its rows then stand in ascending order of their totals.
+ * Returns TOTALS_OK, or, tested in this order and with no list and no report changed:
+ *   TOTALS_STRANGE   as in totals_call;
+ *   TOTALS_NARROW    the accounts or the rebates list is shorter than the count.
+ */
+uint64_t totals_rebates(const uint64_t *words, size_t length, uint32_t *accounts, size_t accounts_length,
+                        uint64_t *rebates, size_t rebates_length, uint64_t *report, size_t report_length);
+
+/*
+ * The yearly rebate on a total in cents, in cents. Each rate, in hundredths of a percent, is for the part of the total
+ * inside its band, and a band has its end in it:
+ *
+ *        above           to    rate
+ *            0    1,000,000       0
+ *    1,000,000    5,000,000     150
+ *    5,000,000   20,000,000     250
+ *   20,000,000                  350
+ *
+ * The sum over the bands is rounded once to the cent, half upward. A negative total gets 0. So 6,000,000 gives 85,000,
+ * 1,000,033 gives 0 and 1,000,034 gives 1. A greater total never has a smaller rebate, and no rebate is above a total
+ * that is not negative. Takes any total and is never refused: whatever it returns is a rebate.
+ */
+uint64_t totals_rebate(int64_t total);
 
 /*
  * The place of an account: its number times 2,654,435,761 modulo 2^32. Its first bits, most significant first, choose

@@ -1,7 +1,8 @@
 #!/usr/bin/env bash
 # The interfaces for C and Rust: the header, the library's symbols, both examples, the Rust crate's tests, reports of
-# every length, tickets of 64 bits, places of accounts, and the lines of `totals` over the C interface against the
-# second model. The last line is 'N passed, M failed'; the exit status is 0 only if M is 0.
+# every length, tickets of 64 bits, places of accounts, rebates, and the rebates on random totals and the lines of
+# `totals` over the C interface against the second model. The last line is 'N passed, M failed'; the exit status is 0
+# only if M is 0.
 # interfaces.sh [SEED LINES]...: without arguments, fixed seeds of 600,000 lines in all.
 set -u
 cd "$(dirname "$0")/.." || exit 2
@@ -114,6 +115,17 @@ places() { sound places "places there and back, listings by number, crowding by 
 
 tickets() { sound tickets "tickets near 2^64, and about 2^16, 2^31, 2^32 and 2^63 beside those from 1 on" "$@"; }
 
+rebates() { sound rebates "rebates of a table on the totals that it lists, or a refusal that changes nothing" "$@"; }
+
+# rebated SEED COUNT TEXT: totals are met with the same bytes by totals_rebate, in the program that `rebates` has built
+# last, and by the model
+rebated() {
+  "$model" amounts "$1" "$2" >"$run/input" && "$model" rebates <"$run/input" >"$run/model" &&
+    "$run/rebates" lines <"$run/input" >"$run/output" 2>"$run/error" && [ ! -s "$run/error" ] &&
+    cmp "$run/output" "$run/model" && [ "$(wc -l <"$run/output")" -eq "$2" ]
+  check $? "seed $1: the rebates on $2 totals $3, $(wc -c <"$run/output") bytes as from the model"
+}
+
 # compare PROGRAM SEED LINES TEXT: random lines are met with the same bytes by the program and by the model
 compare() {
   "$model" lines "$2" "$3" >"$run/input" && "$model" totals <"$run/input" >"$run/model" &&
@@ -163,6 +175,8 @@ sanitized() {
   reports "${checks[@]}"
   tickets "${checks[@]}"
   places "${checks[@]}"
+  rebates "${checks[@]}"
+  rebated 15 50000 "with these checks"
   cc "${checks[@]}" "${strict[@]}" tests/c/lines.c "$library" -o "$run/lines"
   check $? "the program for lines is built with -fsanitize=address,undefined"
   compare "$run/lines" 14 50000 "with these checks"
@@ -177,6 +191,8 @@ crate
 reports
 tickets
 places
+rebates
+rebated 13 1000000 "over the C interface"
 lines "$@"
 stored
 sanitized

@@ -3,9 +3,10 @@
  * The accounts are numbered from 1000 up; the table spreads them over its buckets. Two accounts get invoices from all
  * three workers, and no post is lost. Worker 2 is parked in the middle of one until the others have finished: they
  * carry it out. Nothing is allocated. The steps are planned by the most that an operation takes, and the checks that
- * answered say how many were taken. What a call returns is always looked at: a refusal, an invoice that the table has
- * no room for or that makes a total of more than 64 bits, and a month whose invoices and totals differ end the run with
- * a line on standard error and exit status 1.
+ * answered say how many were taken. Then the year is closed: what the other months came to is posted, one amount an
+ * account, and the yearly rebates are shown. What a call returns is always looked at: a refusal, an invoice that the
+ * table has no room for or that makes a total of more than 64 bits, and a month whose invoices and totals differ end
+ * the run with a line on standard error and exit status 1.
  */
 #include <inttypes.h>
 #include <limits.h>
@@ -27,6 +28,11 @@ static const struct invoice invoices[WORKERS][INVOICES] = {
     {{1000, 12500}, {1003, 4000}, {1001, -2500}, {1000, 900}},
     {{1001, 7300}, {1004, 1500}, {1000, 2900}, {1005, 6000}},
     {{1002, 8800}, {1000, 450}, {1001, 5000}, {1006, 150}},
+};
+
+/* What the other months of the year came to; account 1003 is below 0 then. */
+static const struct invoice other_months[] = {
+    {1000, 5983250}, {1001, 990234}, {1002, 991233}, {1003, -9000}, {1004, 24998500},
 };
 
 /* What a worker is at: the number of its invoice, and whether that is being posted. */
@@ -54,6 +60,15 @@ static const char *answer_word(uint64_t answer)
     case TOTALS_OVERRUN: return "overrun";
     default: return "no answer";
     }
+}
+
+/* What a worker has done; the cents are those of a post. */
+static void print_operation(unsigned w, uint64_t kind, uint32_t account, int64_t cents)
+{
+    if (kind == TOTALS_POST)
+        printf("worker %u posts %" PRId64 " to %" PRIu32 ": ", w, cents, account);
+    else
+        printf("worker %u %s %" PRIu32 ": ", w, kind == TOTALS_LOOKUP ? "looks up" : "deletes", account);
 }
 
 /* An answer, its total where it has one, and the steps, as a report has them. */
@@ -99,7 +114,7 @@ static int answered(unsigned w, uint64_t answer, const uint64_t report[3])
     if (answer != TOTALS_POSTED)
         return not_carried_out(answer, w, invoice->account);
     answers[report[2] - 1]++;
-    printf("worker %u posts %" PRId64 " to %" PRIu32 ": ", w, invoice->cents, invoice->account);
+    print_operation(w, TOTALS_POST, invoice->account, invoice->cents);
     print_answer(answer, report);
     workers[w].stage = RESTING;
     workers[w].invoice++;
@@ -148,12 +163,12 @@ static int dispatch(unsigned turns, unsigned parked)
     return 0;
 }
 
-/* A lookup or a delete from its call to its answer: none takes more steps than an update at most, none is crowded. */
-static int at_once(unsigned w, uint64_t kind, uint32_t account)
+/* An operation from its call to its answer, which takes no more steps than an update at most. */
+static int at_once(unsigned w, uint64_t kind, uint32_t account, int64_t cents)
 {
     uint64_t report[2] = {0, 0};
     uint64_t number;
-    if (refused(totals_call(words, length, w, kind, account, 0), "call"))
+    if (refused(totals_call(words, length, w, kind, account, cents), "call"))
         return 1;
     number = totals_run(words, length, w, UPDATE_STEPS, report, 2);
     if (number == TOTALS_MOVED) {
@@ -162,7 +177,9 @@ static int at_once(unsigned w, uint64_t kind, uint32_t account)
     }
     if (number < TOTALS_ADDED)
         return refused(number, "run");
-    printf("worker %u %s %" PRIu32 ": ", w, kind == TOTALS_LOOKUP ? "looks up" : "deletes", account);
+    if (number == TOTALS_CROWDED || number == TOTALS_OVERRUN)
+        return not_carried_out(number, w, account);
+    print_operation(w, kind, account, cents);
     print_answer(number, report);
     return 0;
 }
@@ -214,14 +231,39 @@ static int show_steps(void)
     return 0;
 }
 
+static int post_other_months(void)
+{
+    size_t i;
+    for (i = 0; i < sizeof other_months / sizeof other_months[0]; i++)
+        if (at_once(0, TOTALS_POST, other_months[i].account, other_months[i].cents))
+            return 1;
+    return 0;
+}
+
+/* The rebate on each account's total, and their sum: a rebate has 59 bits at most, and there are few of them. */
+static int show_rebates(void)
+{
+    uint32_t accounts[PLACES];
+    uint64_t rebates[PLACES], count = 0, sum = 0, i;
+    if (refused(totals_rebates(words, length, accounts, PLACES, rebates, PLACES, &count, 1), "rebates"))
+        return 1;
+    printf("the year's rebates: %" PRIu64 " accounts\n", count);
+    for (i = 0; i < count; i++) {
+        printf("%10" PRIu32 " %6" PRIu64 "\n", accounts[i], rebates[i]);
+        sum += rebates[i];
+    }
+    printf("the rebates are %" PRIu64 " in all\n", sum);
+    return 0;
+}
+
 static int report_run(void)
 {
     int64_t sum;
     return refused(totals_open(words, length, WORKERS, CAPACITY, DEPTH), "open") || dispatch(26, NOBODY) ||
            show("worker 2 is parked, posting 450 to 1000", &sum) || dispatch(UINT_MAX, 2) ||
            show("worker 2 is still parked", &sum) || dispatch(UINT_MAX, NOBODY) ||
-           show("all is posted", &sum) || check_month(sum) || show_steps() || at_once(0, TOTALS_LOOKUP, 1000) ||
-           at_once(1, TOTALS_DELETE, 1006) || show("at the end", &sum);
+           show("all is posted", &sum) || check_month(sum) || show_steps() || at_once(0, TOTALS_LOOKUP, 1000, 0) ||
+           at_once(1, TOTALS_DELETE, 1006, 0) || show("at the end", &sum) || post_other_months() || show_rebates();
 }
 
 int main(void)

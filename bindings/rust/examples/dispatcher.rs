@@ -2,9 +2,10 @@
 //! at a time. The accounts are numbered from 1000 up; the table spreads them over its buckets. Two accounts get
 //! invoices from all three workers, and no post is lost. Worker 2 is parked in the middle of one until the others have
 //! finished: they carry it out. Nothing is allocated for the table. The steps are planned by the most that an operation
-//! takes, and the checks that answered say how many were taken. A refusal, an invoice that the table has no room for or
-//! that makes a total of more than 64 bits, and a month whose invoices and totals differ end the run with a line on
-//! standard error and exit status 1.
+//! takes, and the checks that answered say how many were taken. Then the year is closed: what the other months came to
+//! is posted, one amount an account, and the yearly rebates are shown. A refusal, an invoice that the table has no room
+//! for or that makes a total of more than 64 bits, and a month whose invoices and totals differ end the run with a line
+//! on standard error and exit status 1.
 
 use std::error::Error;
 use std::io::{self, Write};
@@ -26,6 +27,10 @@ const INVOICES: [[(u32, i64); 4]; WORKERS] = [
     [(1001, 7300), (1004, 1500), (1000, 2900), (1005, 6000)],
     [(1002, 8800), (1000, 450), (1001, 5000), (1006, 150)],
 ];
+
+/// What the other months of the year came to; account 1003 is below 0 then.
+const OTHER_MONTHS: [(u32, i64); 5] =
+    [(1000, 5_983_250), (1001, 990_234), (1002, 991_233), (1003, -9_000), (1004, 24_998_500)];
 
 /// The turns, in a fixed, mixed order: a worker, and how many steps it gets.
 const ORDER: [(usize, u64); 8] = [(0, 7), (2, 5), (1, 9), (1, 2), (0, 4), (2, 3), (0, 6), (1, 8)];
@@ -107,10 +112,13 @@ impl<W: Write> Dispatcher<'_, W> {
         Ok(())
     }
 
-    /// The rest of a worker's lookup or delete: it never takes more steps than these, and is never crowded.
+    /// The rest of a worker's operation, which never takes more steps than these.
     fn finish(&mut self, w: usize, what: &str, account: u32) -> Done {
         match self.table.run(w as u64, self.settings.greatest_steps())? {
             Ran::Moved(steps) => Err(format!("worker {w}: no answer after {steps} steps").into()),
+            Ran::Answered { answer: answer @ (Answer::Crowded | Answer::Overrun), .. } => {
+                not_carried_out(answer, w, account)
+            }
             Ran::Answered { answer, steps, .. } => {
                 Ok(writeln!(self.out, "worker {w} {what} {account}: {answer}, {steps} steps")?)
             }
@@ -146,6 +154,26 @@ impl<W: Write> Dispatcher<'_, W> {
         write!(self.out, "posts by check: {first} {second} {third} {fourth}")?;
         Ok(writeln!(self.out, "; steps: {taken} of {planned} planned")?)
     }
+
+    fn post_other_months(&mut self) -> Done {
+        for (account, cents) in OTHER_MONTHS {
+            self.table.post(0, account, cents)?;
+            self.finish(0, &format!("posts {cents} to"), account)?;
+        }
+        Ok(())
+    }
+
+    /// The rebate on each account's total, and their sum: a rebate has 59 bits at most, and there are few of them.
+    fn show_rebates(&mut self) -> Done {
+        let (mut accounts, mut rebates) = ([0; PLACES], [0; PLACES]);
+        let count = self.table.rebates_into(&mut accounts, &mut rebates)?;
+        writeln!(self.out, "the year's rebates: {count} accounts")?;
+        for (account, rebate) in accounts.iter().zip(rebates).take(count) {
+            writeln!(self.out, "{account:10} {rebate:6}")?;
+        }
+        let sum: u64 = rebates.iter().take(count).sum();
+        Ok(writeln!(self.out, "the rebates are {sum} in all")?)
+    }
 }
 
 fn report_run() -> Done {
@@ -167,6 +195,8 @@ fn report_run() -> Done {
     run.table.delete(1, 1006)?;
     run.finish(1, "deletes", 1006)?;
     run.show("at the end")?;
+    run.post_other_months()?;
+    run.show_rebates()?;
     Ok(run.out.flush()?)
 }
 

@@ -8,7 +8,8 @@
 //! and no threads: a [`Table`] has one caller at a time. An insert or a post that is answered [`Answer::Crowded`] or
 //! [`Answer::Overrun`] was not carried out; a delete is never answered so. An account's bucket is chosen by the first
 //! bits of its [`place`], so that accounts numbered one after another are spread over all buckets; listings ascend by
-//! the account's number.
+//! the account's number. [`rebate`] is the yearly rebate on a total in cents, and [`Table::rebates`] has those of all
+//! accounts.
 //!
 //! ```
 //! use totals::{Answer, Owned, Ran, Refusal, Settings};
@@ -28,12 +29,14 @@
 mod answer;
 mod places;
 pub mod raw;
+mod rebate;
 mod refusal;
 mod settings;
 mod table;
 
 pub use answer::{Answer, Ran, Stepped};
 pub use places::{account_at, place};
+pub use rebate::rebate;
 pub use refusal::Refusal;
 pub use settings::Settings;
 pub use table::{Owned, Table};

@@ -98,6 +98,21 @@ extern "C" {
         report_length: usize,
     ) -> u64;
 
+    /// The accounts with the rebates on their totals, in the listing's order: 0, or the number of a refusal.
+    pub fn totals_rebates(
+        words: *const u64,
+        length: usize,
+        accounts: *mut u32,
+        accounts_length: usize,
+        rebates: *mut u64,
+        rebates_length: usize,
+        report: *mut u64,
+        report_length: usize,
+    ) -> u64;
+
+    /// The yearly rebate on a total in cents.
+    pub fn totals_rebate(total: i64) -> u64;
+
     /// The place of an account, whose first bits choose its bucket.
     pub fn totals_place(account: u32) -> u32;
 

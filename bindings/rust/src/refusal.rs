@@ -96,7 +96,7 @@ impl Refusal {
             Refusal::Kind => "not 1 insert, 2 delete, 3 lookup, 4 post",
             Refusal::Spent => "insert, delete or post by a worker that has no ticket number left",
             Refusal::Strange => "memory fails the checks",
-            Refusal::Narrow => "accounts or totals list shorter than the count",
+            Refusal::Narrow => "accounts, totals or rebates list shorter than the count",
         }
     }
 }

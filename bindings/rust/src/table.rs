@@ -235,6 +235,62 @@ impl<'a> Table<'a> {
         let count = self.listing_into(&mut accounts, &mut totals)?;
         Ok(accounts.into_iter().zip(totals).take(count).collect())
     }
+
+    /// Writes the accounts with the rebates on their totals to the start of both lists, and nothing past the count,
+    /// which it gives: the rows of [`Table::listing_into`] in their order, with [`rebate`](crate::rebate) of each total
+    /// in its place. Refuses as the listing with `Strange`, `Narrow`, in this order. It takes about 50 kB of stack.
+    ///
+    /// ```
+    /// use totals::{Answer, Owned, Ran, Refusal, Settings};
+    /// let mut owned = Owned::new(Settings::new(1, 2, 1)?)?;
+    /// let mut table = owned.table();
+    /// table.insert(0, 1000, 6_000_000)?;
+    /// assert_eq!(table.run(0, 99)?, Ran::Answered { answer: Answer::Added, steps: 13, check: 1 });
+    /// let (mut accounts, mut rebates) = ([0; 2], [0; 2]);
+    /// assert_eq!(table.rebates_into(&mut accounts, &mut rebates)?, 1);
+    /// assert_eq!((accounts, rebates), ([1000, 0], [85_000, 0]));
+    /// assert_eq!(table.rebates_into(&mut accounts, &mut []), Err(Refusal::Narrow));
+    /// # Ok::<(), Refusal>(())
+    /// ```
+    pub fn rebates_into(&self, accounts: &mut [u32], rebates: &mut [u64]) -> Result<usize, Refusal> {
+        let mut report = [0; 1];
+        // SAFETY: the pointers and the lengths are those of four slices that are borrowed for the call.
+        let number = unsafe {
+            raw::totals_rebates(
+                self.words.as_ptr(),
+                self.words.len(),
+                accounts.as_mut_ptr(),
+                accounts.len(),
+                rebates.as_mut_ptr(),
+                rebates.len(),
+                report.as_mut_ptr(),
+                report.len(),
+            )
+        };
+        done(number)?;
+        Ok(report[0] as usize)
+    }
+
+    /// The rows of [`Table::rebates_into`]: the accounts with the rebates on their totals, ascending by account.
+    /// Refuses with `Strange`.
+    ///
+    /// ```
+    /// use totals::{Answer, Owned, Ran, Settings};
+    /// let mut owned = Owned::new(Settings::new(1, 4, 0)?)?;
+    /// let mut table = owned.table();
+    /// for (account, total) in [(1002, 6_000_000), (1001, 1_000_034), (1000, -6_000_000)] {
+    ///     table.insert(0, account, total)?;
+    ///     assert_eq!(table.run(0, 99)?, Ran::Answered { answer: Answer::Added, steps: 13, check: 1 });
+    /// }
+    /// assert_eq!(table.rebates()?, [(1000, 0), (1001, 1), (1002, 85_000)]);
+    /// # Ok::<(), totals::Refusal>(())
+    /// ```
+    pub fn rebates(&self) -> Result<Vec<(u32, u64)>, Refusal> {
+        // never `Narrow`, as the listing
+        let (mut accounts, mut rebates) = (vec![0; Self::GREATEST_COUNT], vec![0; Self::GREATEST_COUNT]);
+        let count = self.rebates_into(&mut accounts, &mut rebates)?;
+        Ok(accounts.into_iter().zip(rebates).take(count).collect())
+    }
 }
 
 /// A table that owns its words.

@@ -118,7 +118,7 @@ fn header() -> Vec<Function> {
 
 #[test]
 fn header_and_source() {
-    assert_eq!(exported().len(), 8);
+    assert_eq!(exported().len(), 10);
     assert_eq!(header(), exported());
 }
 

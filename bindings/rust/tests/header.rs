@@ -2,7 +2,7 @@
 
 use std::path::{Path, PathBuf};
 use std::{collections::BTreeMap, fs, process::Command};
-use totals::{raw, Refusal, Settings, Table};
+use totals::{raw, rebate, Refusal, Settings, Table};
 
 /// A file or a folder of the repository.
 fn repository(path: &str) -> PathBuf {
@@ -131,4 +131,30 @@ fn kinds_and_answers() {
     assert_eq!(answer("DELETE", 8, 1), (header["ABSENT"], 0, 1));
     assert_eq!(answer("DELETE", 7, 1), (header["REMOVED"], 0, 1));
     assert_eq!(answer("POST", 8, 1), (header["POSTED"], 1, 1));
+}
+
+/// The lines of a text that have nothing but numbers, two at least, and what a comment or a table puts about them.
+fn rows_of_numbers(text: &str) -> Vec<Vec<u64>> {
+    let has_numbers = |line: &&str| line.chars().all(|c| c.is_ascii_digit() || " ,*/|".contains(c));
+    let numbers = |line: &str| line.replace(',', "").split([' ', '*', '/', '|']).flat_map(str::parse).collect();
+    text.lines().filter(has_numbers).map(numbers).filter(|row: &Vec<u64>| row.len() > 1).collect()
+}
+
+/// Start, end and rate of each band, as the header says them and as the crate's documentation does; the last has no
+/// end. A rate in hundredths of a percent is what 10,000 cents inside the band come to.
+#[test]
+fn bands_of_the_rebate() {
+    let header = fs::read_to_string(repository("include/totals.h")).expect("the header");
+    let bands = rows_of_numbers(&header);
+    assert_eq!(rows_of_numbers(include_str!("../src/rebate.rs")), bands);
+    assert_eq!(bands.iter().map(Vec::len).collect::<Vec<_>>(), [3, 3, 3, 2]);
+    let on = |total: u64| rebate(total as i64);
+    for pair in bands.windows(2) {
+        assert_eq!(pair[0][1], pair[1][0], "a band starts where the one before ends");
+    }
+    for band in bands {
+        let (start, rate) = (band[0], band[band.len() - 1]);
+        let end = if band.len() == 3 { band[1] } else { i64::MAX as u64 };
+        assert_eq!([on(start + 10_000) - on(start), on(end) - on(end - 10_000)], [rate; 2], "{start}");
+    }
 }

@@ -1,20 +1,22 @@
-//! Every call over lent words, with guards around whatever is lent: its number, its report and every word that it
-//! leaves are those of the same source compiled as Rust. And counts of what came back.
+//! Every call over lent words, with guards around whatever is lent: its number, its report, what it lists and every
+//! word that it leaves are those of the same source compiled as Rust. And counts of what came back.
 
 use crate::lent::{self, told, Lent};
-use crate::listing::{listed_words, sorted_rows};
+use crate::listing::{listed_words, rebate_rows, sorted_rows};
 use crate::words::{any_account, any_total, any_word, bucket_swaps, directory_swaps};
 use crate::words::{posted_from, settled_from, steps_at_checks};
+use model::cents::band;
 use model::prng::Prng;
+use model::rebate::BANDS;
 use same::capi::capi as source;
 use same::capi::fields::*;
 use same::capi::interface::{Settings, ANSWER_CROWDED, GREATEST_KIND, KIND_INSERT, KIND_LOOKUP};
 use same::capi::layout::addresses::{held_by, worker_at};
 use same::capi::layout::shape::{settings_of, strange_words};
 use totals::raw::{self, TOTALS_ADDED, TOTALS_GREATEST_CHECK, TOTALS_GREATEST_RUN as RUN, TOTALS_IDLE, TOTALS_MOVED};
-use totals::raw::{TOTALS_OK, TOTALS_OVERRUN, TOTALS_POSTED, TOTALS_SETTINGS};
+use totals::raw::{TOTALS_NARROW, TOTALS_OK, TOTALS_OVERRUN, TOTALS_POSTED, TOTALS_SETTINGS, TOTALS_STRANGE};
 
-const NAMES: [&str; 6] = ["words_needed", "open", "call", "step", "run", "list"];
+const NAMES: [&str; 7] = ["words_needed", "open", "call", "step", "run", "list", "rebates"];
 
 /// What an answer tells: steps, total and check.
 pub type Told = [u64; 3];
@@ -23,7 +25,8 @@ pub type Told = [u64; 3];
 /// steps, how many were a bucket swap that carried updates out or a directory swap that split; of updates in a bucket
 /// that was full at the greatest depth, how many a bucket swap settled as crowded, and how many with another answer; of
 /// runs, how many were held against single steps; of listings, in how many an account came again with another total,
-/// and in how many one had more than 32 bits.
+/// and in how many one had more than 32 bits; of rebates that were given, how many were on a total that is not above 0,
+/// and in each band.
 #[derive(Default)]
 pub struct Figures {
     counts: [[u64; TOTALS_OVERRUN as usize + 1]; NAMES.len()],
@@ -35,6 +38,7 @@ pub struct Figures {
     pub compared: u64,
     pub repeated: u64,
     pub wide: u64,
+    pub bands: [u64; BANDS.len() + 1],
 }
 
 impl Figures {
@@ -102,6 +106,13 @@ impl Figures {
         self.wide += u64::from(listed.iter().any(|row| row.0 > u64::from(u32::MAX)));
     }
 
+    /// Counts the totals that rebates were given on.
+    fn add_rebates(&mut self, rows: &[(u32, i64)]) {
+        for (_, total) in rows {
+            self.bands[band(*total)] += 1;
+        }
+    }
+
     pub fn print(&self, class: &str) {
         println!("{class}: {} calls; updates answered by each check {:?}", self.calls(), self.checks);
         println!(
@@ -109,6 +120,7 @@ impl Figures {
             self.carried, self.split, self.crowded, self.corrected, self.compared
         );
         println!("  listings with an account twice {}, with one of more than 32 bits {}", self.repeated, self.wide);
+        println!("  rebates on totals up to 0, and in each band {:?}", self.bands);
         for (name, counts) in NAMES.iter().zip(&self.counts) {
             let given: Vec<String> =
                 (0..).zip(counts).filter(|(_, n)| **n > 0).map(|(k, n)| format!("{k}: {n}")).collect();
@@ -215,14 +227,39 @@ impl<'a> Trial<'a> {
             assert_eq!(rows, sorted_rows(&listed));
             self.figures.add_listing(&listed, &rows);
         }
-        let count = rows.len();
-        let mut places = || (count + self.prng.place(3)).saturating_sub(usize::from(self.prng.one_in(4)));
-        let places = [places(), places()];
+        let places = self.places(rows.len());
         let want = listing(self.words(), places);
         let report = self.report();
         let number = lent::list(&self.words, places, report, want);
         self.figures.add("list", number);
         number
+    }
+
+    /// The rebates, into such lists: the rows that the words tell, with the second model's rebates. The source gives
+    /// the same.
+    pub fn rebates(&mut self) -> u64 {
+        let strange = strange_words(self.words());
+        let rows = if strange { Vec::new() } else { sorted_rows(&listed_words(self.words())) };
+        let places = self.places(rows.len());
+        let want = match places.iter().any(|places| *places < rows.len()) {
+            _ if strange => Err(TOTALS_STRANGE),
+            true => Err(TOTALS_NARROW),
+            false => Ok(rebate_rows(&rows)),
+        };
+        assert_eq!(rebates(self.words(), places), want);
+        let report = self.report();
+        let number = lent::rebates(&self.words, places, report, want);
+        self.figures.add("rebates", number);
+        if number == TOTALS_OK {
+            self.figures.add_rebates(&rows);
+        }
+        number
+    }
+
+    /// Of each of two lists, how many places it has: a place too few for so many rows, as many, or up to two more.
+    fn places(&mut self, count: usize) -> [usize; 2] {
+        let mut places = || (count + self.prng.place(3)).saturating_sub(usize::from(self.prng.one_in(4)));
+        [places(), places()]
     }
 
     /// A report of 0 to 4 places.
@@ -250,6 +287,7 @@ impl<'a> Trial<'a> {
         };
         match self.prng.below(16) {
             0 if self.prng.one_in(lists) => self.list(),
+            1 if self.prng.one_in(lists) => self.rebates(),
             0..=3 => self.any_operation(worker),
             4 => {
                 let most = self.prng.one_of(&[0, 1, 2, 9, 60, RUN - 1, RUN, RUN + 1, u64::MAX]);
@@ -272,6 +310,15 @@ fn listing(w: &[u64], [account_places, total_places]: [usize; 2]) -> Result<Vec<
     let (mut accounts, mut totals, mut report) = (vec![0; account_places], vec![0; total_places], [0]);
     match source::same_totals_list(w, &mut accounts, &mut totals, &mut report) {
         TOTALS_OK => Ok(accounts.into_iter().zip(totals).take(report[0] as usize).collect()),
+        number => Err(number),
+    }
+}
+
+/// What rebates the source gives into lists of so many places, or the refusal's number.
+fn rebates(w: &[u64], [account_places, rebate_places]: [usize; 2]) -> Result<Vec<(u32, u64)>, u64> {
+    let (mut accounts, mut rebates, mut report) = (vec![0; account_places], vec![0; rebate_places], [0]);
+    match source::same_totals_rebates(w, &mut accounts, &mut rebates, &mut report) {
+        TOTALS_OK => Ok(accounts.into_iter().zip(rebates).take(report[0] as usize).collect()),
         number => Err(number),
     }
 }

@@ -1,4 +1,4 @@
-//! A slice to lend, with guards on both sides; and a listing over such slices.
+//! A slice to lend, with guards on both sides; and a listing or rebates over such slices.
 
 use totals::raw::{self, TOTALS_OK};
 
@@ -53,26 +53,39 @@ pub fn told(report: &Lent<u64>, mut before: Vec<u64>, told: &[u64]) {
 }
 
 /// The listing into lists of so many places, held against the rows or the refusal that are to come.
-pub fn list(
+pub fn list(words: &Lent<u64>, places: [usize; 2], report: Lent<u64>, want: Result<Vec<(u32, i64)>, u64>) -> u64 {
+    written(raw::totals_list, words, places, report, want)
+}
+
+/// The rebates into such lists, held against the rows or the refusal that are to come.
+pub fn rebates(words: &Lent<u64>, places: [usize; 2], report: Lent<u64>, want: Result<Vec<(u32, u64)>, u64>) -> u64 {
+    written(raw::totals_rebates, words, places, report, want)
+}
+
+/// A function that writes accounts and items of another kind to two lists.
+type Writes<T> = unsafe extern "C" fn(*const u64, usize, *mut u32, usize, *mut T, usize, *mut u64, usize) -> u64;
+
+fn written<T: Copy + PartialEq + From<u8>>(
+    writes: Writes<T>,
     words: &Lent<u64>,
-    [account_places, total_places]: [usize; 2],
+    [account_places, item_places]: [usize; 2],
     mut report: Lent<u64>,
-    want: Result<Vec<(u32, i64)>, u64>,
+    want: Result<Vec<(u32, T)>, u64>,
 ) -> u64 {
-    let (mut want_accounts, mut want_totals) = (vec![7; account_places], vec![-7; total_places]);
-    let (mut accounts, mut totals) = (Lent::new(&want_accounts, 9), Lent::new(&want_totals, 9));
+    let (mut want_accounts, mut want_items) = (vec![77; account_places], vec![T::from(77); item_places]);
+    let (mut accounts, mut items) = (Lent::new(&want_accounts, 99), Lent::new(&want_items, T::from(99)));
     let (before, kept) = (report.items().to_vec(), words.items().to_vec());
-    let (w, a, t, r) = (words.items(), accounts.items_mut(), totals.items_mut(), report.items_mut());
+    let (w, a, t, r) = (words.items(), accounts.items_mut(), items.items_mut(), report.items_mut());
     let (a_at, t_at, r_at) = (a.as_mut_ptr(), t.as_mut_ptr(), r.as_mut_ptr());
-    let number = unsafe { raw::totals_list(w.as_ptr(), w.len(), a_at, a.len(), t_at, t.len(), r_at, r.len()) };
+    let number = unsafe { writes(w.as_ptr(), w.len(), a_at, a.len(), t_at, t.len(), r_at, r.len()) };
     assert_eq!(number, want.as_ref().err().copied().unwrap_or(TOTALS_OK));
     let count = want.as_ref().map(|rows| vec![rows.len() as u64]).unwrap_or_default();
     told(&report, before, &count);
-    for (i, (account, total)) in want.into_iter().flatten().enumerate() {
-        (want_accounts[i], want_totals[i]) = (account, total);
+    for (i, (account, item)) in want.into_iter().flatten().enumerate() {
+        (want_accounts[i], want_items[i]) = (account, item);
     }
-    assert!(accounts.intact() && totals.intact(), "a place outside the lists was written");
-    assert!(accounts.items() == want_accounts && totals.items() == want_totals, "another listing");
-    assert!(words.intact() && words.items() == kept, "a listing changed a word");
+    assert!(accounts.intact() && items.intact(), "a place outside the lists was written");
+    assert!(accounts.items() == want_accounts && items.items() == want_items, "other rows");
+    assert!(words.intact() && words.items() == kept, "a word has changed");
     number
 }

@@ -1,5 +1,6 @@
-//! What a listing over words that are not strange is to show, told by the words alone.
+//! What a listing over words that are not strange is to show, and what rebates are, told by the words alone.
 
+use model::rebate::rebate;
 use same::capi::fields::*;
 use same::capi::layout::addresses::record_in;
 use same::capi::layout::shape::{directory_start, settings_of};
@@ -27,4 +28,9 @@ pub fn sorted_rows(listed: &[(u64, i64)]) -> Vec<(u32, i64)> {
     let mut rows: Vec<(u32, i64)> = listed.iter().map(|(word, total)| (*word as u32, *total)).collect();
     rows.sort_unstable();
     rows
+}
+
+/// The rows of the rebates: those of a listing, in its order, with the second model's rebate on each total.
+pub fn rebate_rows(rows: &[(u32, i64)]) -> Vec<(u32, u64)> {
+    rows.iter().map(|(account, total)| (*account, rebate(*total))).collect()
 }

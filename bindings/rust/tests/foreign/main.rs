@@ -8,6 +8,7 @@ mod words;
 
 use calls::{rows, Figures, Trial};
 use lent::Lent;
+use listing::rebate_rows;
 use model::prng::Prng;
 use same::capi::fields::{RECORD_ACCOUNTS, RECORD_COUNT, WIDEST_RECORD, WORKER_KIND};
 use same::capi::interface::{Settings, KIND_INSERT, KIND_NONE};
@@ -17,7 +18,7 @@ use totals::raw::*;
 use totals::{place, Table};
 use words::{any_word, steps_at_checks, words_needed};
 
-/// What calls give over words of any kind, and what the listing does.
+/// What calls give over words of any kind, and what the listing and the rebates do.
 const CALLED: [u64; 6] = [TOTALS_OK, TOTALS_STRANGER, TOTALS_BUSY, TOTALS_KIND, TOTALS_SPENT, TOTALS_STRANGE];
 const LISTED: [u64; 3] = [TOTALS_OK, TOTALS_STRANGE, TOTALS_NARROW];
 /// What steps give where nothing ends.
@@ -69,6 +70,7 @@ fn random_words() {
     gave(&figures, "call", &CALLED);
     gave(&figures, "step", &[&UNENDED[..], &UPDATED, &LOOKED_UP].concat());
     gave(&figures, "list", &LISTED);
+    gave(&figures, "rebates", &LISTED);
     assert!(figures.carried > 1000 && figures.split > 100 && figures.compared > 1000);
     assert!(figures.crowded > 100 && figures.corrected > 100);
     assert!(figures.checks.iter().all(|updates| *updates > 100));
@@ -89,10 +91,12 @@ fn damaged_tables() {
     gave(&figures, "step", &stepped);
     gave(&figures, "run", &stepped);
     gave(&figures, "list", &LISTED);
+    gave(&figures, "rebates", &LISTED);
     assert!(figures.carried > 1000 && figures.split > 1000 && figures.compared > 10_000);
     assert!(figures.crowded > 100 && figures.corrected > 100);
     assert!(figures.checks.iter().all(|updates| *updates > 100));
     assert!(figures.repeated > 100 && figures.wide > 100);
+    assert!(figures.bands.iter().all(|totals| *totals > 100));
 }
 
 #[test]
@@ -104,6 +108,7 @@ fn misleading_words() {
     gave(&figures, "call", &CALLED);
     gave(&figures, "step", &[&UNENDED[..], &LOOKED_UP, &[TOTALS_CROWDED]].concat());
     gave(&figures, "list", &LISTED);
+    gave(&figures, "rebates", &LISTED);
     assert!(figures.carried > 1000 && figures.split > 100 && figures.compared > 1000);
     assert!(figures.crowded > 100 && figures.corrected > 100);
     assert!(figures.checks.iter().all(|updates| *updates > 100));
@@ -125,6 +130,7 @@ fn tables_that_nothing_damaged_are_never_strange() {
     gave(&figures, "step", &[&[TOTALS_MOVED, TOTALS_IDLE, TOTALS_ABSENT][..], &UPDATED, &LOOKED_UP].concat());
     assert!(figures.carried > 1000 && figures.split > 100);
     assert!(figures.crowded > 100 && figures.corrected > 100);
+    assert!(figures.bands.iter().all(|totals| *totals > 100));
 }
 
 /// The steps and the checks that an answer may come with: of one worker's update the first two.
@@ -140,10 +146,11 @@ fn ends(s: Settings, number: u64) -> Vec<(u64, u64)> {
 fn undamaged_call(trial: &mut Trial, s: Settings, prng: &mut Prng) {
     let worker = prng.below(s.workers);
     let idle = trial.words()[worker_at(s, worker as usize) + WORKER_KIND] == KIND_NONE;
-    let number = match prng.below(40) {
+    let number = match prng.below(41) {
         0 => trial.list(),
-        1 => trial.any_operation(worker),
-        2..=30 if idle => trial.any_operation(worker),
+        1 => trial.rebates(),
+        2 => trial.any_operation(worker),
+        3..=31 if idle => trial.any_operation(worker),
         _ => {
             let (number, told) = trial.step(worker);
             let told = told.map(|[steps, _, check]| (steps, check));
@@ -157,12 +164,16 @@ fn undamaged_call(trial: &mut Trial, s: Settings, prng: &mut Prng) {
     assert!(rows.len() <= (s.capacity << s.depth) as usize);
 }
 
-/// The words are listed in these rows, also into lists that are longer, of which the rest stays.
+/// The words are listed in these rows, and with their rebates in the same order; also into lists that are longer, of
+/// which the rest stays.
 fn shows(w: &mut [u64], rows: &[(u32, i64)]) {
+    let rebates = rebate_rows(rows);
     assert_eq!(Table::over(w).listing().as_deref(), Ok(rows));
+    assert_eq!(Table::over(w).rebates().as_ref(), Ok(&rebates));
     let (words, count) = (Lent::new(w, 9), rows.len());
     for places in [[count, count], [count + 2, count + 1]] {
         assert_eq!(lent::list(&words, places, Lent::new(&[1, 2], 9), Ok(rows.to_vec())), TOTALS_OK);
+        assert_eq!(lent::rebates(&words, places, Lent::new(&[1, 2], 9), Ok(rebates.clone())), TOTALS_OK);
     }
 }
 
@@ -193,8 +204,8 @@ fn zeros_are_strange() {
     for length in (0..2000).chain([8192, 17_305, 100_000]) {
         let w = vec![0; length];
         let mut trial = Trial::new(&w, &mut prng, &mut figures);
-        let given = [trial.call(0, KIND_INSERT, 5, 700), trial.step(0).0, trial.run(0, 9), trial.list()];
-        assert_eq!(given, [TOTALS_STRANGE; 4]);
+        let stepped = [trial.call(0, KIND_INSERT, 5, 700), trial.step(0).0, trial.run(0, 9)];
+        assert_eq!((stepped, trial.list(), trial.rebates()), ([TOTALS_STRANGE; 3], TOTALS_STRANGE, TOTALS_STRANGE));
     }
     figures.print("zeros");
 }

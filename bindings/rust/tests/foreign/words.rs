@@ -1,6 +1,7 @@
 //! Foreign words: random ones, tables that were worked on and then damaged, and words made to mislead.
 
 use crate::calls::{Figures, Trial};
+use model::cents;
 use model::prng::Prng;
 use model::starts::EDGES;
 use same::capi::fields::*;
@@ -33,11 +34,13 @@ pub fn any_account(prng: &mut Prng) -> u32 {
     })
 }
 
-/// Words of totals: small ones, so that many sums are totals, those at the ends, so that others are not, and any.
+/// Words of totals: small ones, so that many sums are totals, those at the ends, so that others are not, those that the
+/// rebate is tried on, and any.
 pub fn any_total(prng: &mut Prng) -> u64 {
-    match prng.below(4) {
+    match prng.below(5) {
         0 | 1 => prng.one_of(&[i64::MIN, i64::MAX]) as u64,
         2 => prng.draw(),
+        3 => cents::any_total(prng) as u64,
         _ => prng.below(2001).wrapping_sub(1000),
     }
 }

@@ -47,7 +47,7 @@ impl Interface for Flat {
         let kept = self.kept(want.is_err());
         let w = &mut self.words.items_mut()[..length];
         let number = unsafe { raw::totals_open(w.as_mut_ptr(), w.len(), workers, capacity, depth) };
-        assert_eq!(number, number_of(want));
+        assert_eq!(number, number_of(&want));
         self.unchanged(kept);
     }
 
@@ -55,7 +55,7 @@ impl Interface for Flat {
         let kept = self.kept(want.is_err());
         let w = self.words.items_mut();
         let number = unsafe { raw::totals_call(w.as_mut_ptr(), w.len(), worker, kind, account, total) };
-        assert_eq!(number, number_of(want));
+        assert_eq!(number, number_of(&want));
         self.unchanged(kept);
     }
 
@@ -85,6 +85,11 @@ impl Interface for Flat {
     fn list(&mut self, accounts: usize, totals: usize, want: Result<Rows, u8>) {
         let report = self.report();
         lent::list(&self.words, [accounts, totals], report, want.map_err(u64::from));
+    }
+
+    fn rebates(&mut self, accounts: usize, rebates: usize, want: Result<Rows<u64>, u8>) {
+        let report = self.report();
+        lent::rebates(&self.words, [accounts, rebates], report, want.map_err(u64::from));
     }
 
     fn words(&mut self) -> &mut [u64] {

@@ -1,6 +1,7 @@
-//! Random orders of calls, single steps, runs and listings by the safe interface and by the C functions, held against
-//! the second model: every refusal, answer, step count, check and listing is the model's. Some start with last tickets
-//! set, in the words and in the model alike. Damaged words are the business of `foreign`.
+//! Random orders of calls, single steps, runs, listings and rebates by the safe interface and by the C functions, held
+//! against the second model: every refusal, answer, step count, check and listing is the model's, and rebates are the
+//! model's on its listing. Some start with last tickets set, in the words and in the model alike. Damaged words are the
+//! business of `foreign`.
 mod flat;
 #[path = "../foreign/lent.rs"]
 mod lent;
@@ -9,8 +10,10 @@ mod safe;
 mod tickets;
 
 use flat::Flat;
+use model::cents::band;
 use model::machine::{Machine, Stepped};
 use model::prng::Prng;
+use model::rebate::{rebate, BANDS};
 use model::records::{Answer, GREATEST_TICKET, KIND_DELETE, KIND_INSERT, KIND_LOOKUP, KIND_POST};
 use model::starts::EDGES;
 use orders::{Entry, Orders};
@@ -20,7 +23,8 @@ use tickets::last_ticket;
 use totals::account_at;
 use totals::raw::*;
 
-pub type Rows = Vec<(u32, i64)>;
+/// Accounts with their totals, or with rebates.
+pub type Rows<T = i64> = Vec<(u32, T)>;
 
 /// What steps give.
 #[derive(Clone, Copy, Debug)]
@@ -75,8 +79,8 @@ fn answer_number(answer: Answer) -> u64 {
 }
 
 /// The number that C gets for a call.
-fn number_of(result: Result<(), u8>) -> u64 {
-    result.err().map_or(TOTALS_OK, u64::from)
+fn number_of<T>(result: &Result<T, u8>) -> u64 {
+    result.as_ref().err().map_or(TOTALS_OK, |number| u64::from(*number))
 }
 
 /// One of the two interfaces, over words of its own. Each call is held against what the model gave.
@@ -86,6 +90,7 @@ pub trait Interface {
     fn step(&mut self, worker: u64, want: Outcome);
     fn run(&mut self, worker: u64, most: u64, want: Outcome);
     fn list(&mut self, accounts: usize, totals: usize, want: Result<Rows, u8>);
+    fn rebates(&mut self, accounts: usize, rebates: usize, want: Result<Rows<u64>, u8>);
     fn words(&mut self) -> &mut [u64];
 }
 
@@ -98,6 +103,8 @@ struct Pair<I> {
     checks: [u64; 4],
     /// How many workers took the ticket at each edge.
     passed: [u64; EDGES.len()],
+    /// How many rebates there were on totals that are not above 0, and in each band.
+    bands: [u64; BANDS.len() + 1],
     /// Of the order under way.
     seed: u64,
 }
@@ -111,13 +118,13 @@ impl<I> Drop for Pair<I> {
     }
 }
 
-const NAMES: [&str; 5] = ["open", "call", "step", "run", "list"];
+const NAMES: [&str; 6] = ["open", "call", "step", "run", "list", "rebates"];
 
 impl<I: Interface> Pair<I> {
     fn new(table: I) -> Pair<I> {
         let machine = Machine::open(1, 2, 0, 162).expect("the least settings");
-        let (counts, passed) = Default::default();
-        let mut pair = Pair { table, machine, counts, checks: [0; 4], passed, seed: 0 };
+        let (counts, checks, passed, bands) = Default::default();
+        let mut pair = Pair { table, machine, counts, checks, passed, bands, seed: 0 };
         pair.enter(Entry::Open([1, 2, 0], 162));
         pair
     }
@@ -128,12 +135,12 @@ impl<I: Interface> Pair<I> {
             Entry::Open([n, b, m], length) => {
                 let want = Machine::open(n, b, m, length as u64).map(|machine| self.machine = machine);
                 self.table.open([n, b, m], length, want);
-                (0, number_of(want))
+                (0, number_of(&want))
             }
             Entry::Call { worker, kind, account, total } => {
                 let want = self.machine.call(worker as usize, kind, account, total);
                 self.table.call(worker, kind, account, total, want);
-                (1, number_of(want))
+                (1, number_of(&want))
             }
             Entry::Step(worker) => {
                 let want = self.steps(worker, 1);
@@ -145,14 +152,29 @@ impl<I: Interface> Pair<I> {
                 self.table.run(worker, most, want);
                 (3, want.number())
             }
-            Entry::List(accounts, totals) => {
-                let want = self.machine.listing(accounts, totals);
-                let number = number_of(want.as_ref().map(|_| ()).map_err(|number| *number));
-                self.table.list(accounts, totals, want);
-                (4, number)
-            }
+            Entry::List(accounts, totals) => (4, self.list(accounts, totals)),
+            Entry::Rebates(accounts, rebates) => (5, self.rebates(accounts, rebates)),
         };
         self.counts[name][number as usize] += 1;
+    }
+
+    fn list(&mut self, accounts: usize, totals: usize) -> u64 {
+        let want = self.machine.listing(accounts, totals);
+        let number = number_of(&want);
+        self.table.list(accounts, totals, want);
+        number
+    }
+
+    /// The model's rebates on the model's listing.
+    fn rebates(&mut self, accounts: usize, rebates: usize) -> u64 {
+        let listing = self.machine.listing(accounts, rebates);
+        let number = number_of(&listing);
+        for (_, total) in listing.iter().flatten() {
+            self.bands[band(*total)] += 1;
+        }
+        let want = listing.map(|rows| rows.into_iter().map(|(account, total)| (account, rebate(total))).collect());
+        self.table.rebates(accounts, rebates, want);
+        number
     }
 
     /// Up to so many steps by the model; `TOTALS_GREATEST_RUN` at most, which no operation takes.
@@ -213,10 +235,11 @@ impl<I: Interface> Pair<I> {
 
     fn print(&self, title: &str) {
         println!("{title}: {} calls; updates answered by each check {:?}", self.calls(), self.checks);
+        println!("  rebates on totals up to 0, and in each band {:?}", self.bands);
         for (name, counts) in NAMES.iter().zip(&self.counts) {
             let given: Vec<String> =
                 (0..).zip(counts).filter(|(_, n)| **n > 0).map(|(k, n)| format!("{k}: {n}")).collect();
-            println!("  {name:5} {}", given.join(", "));
+            println!("  {name:7} {}", given.join(", "));
         }
     }
 
@@ -276,6 +299,8 @@ fn random_orders(title: &str, table: impl Interface, seeds: u64, any_kind: bool)
     pair.gave("step", &STEPPED);
     pair.gave("run", &STEPPED);
     pair.gave("list", &[TOTALS_OK, TOTALS_NARROW]);
+    pair.gave("rebates", &[TOTALS_OK, TOTALS_NARROW]);
+    assert!(pair.bands.iter().all(|totals| *totals > 100), "{:?}", pair.bands);
 }
 
 /// A call of a worker by one of these kinds, of an account whose place has any two first bits.
@@ -305,6 +330,7 @@ fn until_spent(title: &str, table: impl Interface) {
     pair.enter(Entry::Call { worker: 0, kind: KIND_LOOKUP, account: 0, total: 0 });
     pair.enter(Entry::Run(0, 2));
     pair.enter(Entry::List(12, 12));
+    pair.enter(Entry::Rebates(12, 12));
     pair.print(title);
     let spent = pair.counts[1][TOTALS_SPENT as usize];
     assert_eq!((spent, pair.tickets()[0]), (more, GREATEST_TICKET));

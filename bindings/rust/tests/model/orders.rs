@@ -1,6 +1,7 @@
 //! Random orders: every setting, workers parked for long, calls that are refused, lists of any length; all a function
 //! of the seed.
 
+use model::cents;
 use model::lines::Line;
 use model::machine::Machine;
 use model::prng::Prng;
@@ -26,6 +27,8 @@ pub enum Entry {
     Run(u64, u64),
     /// Places in the accounts list, and in the totals list.
     List(usize, usize),
+    /// Places in the accounts list, and in the rebates list.
+    Rebates(usize, usize),
 }
 
 pub struct Orders {
@@ -135,9 +138,10 @@ impl Orders {
         };
         let account = self.prng.pick(&self.pool).unwrap_or(0);
         // an amount of any size takes a sum past an end soon
-        let total = match self.prng.below(5) {
+        let total = match self.prng.below(6) {
             0 => self.prng.one_of(&[i64::MIN, i64::MAX, 0, -1]),
             1 => self.prng.draw() as i64,
+            2 | 3 => cents::any_total(&mut self.prng),
             _ => self.prng.below(2001) as i64 - 1000,
         };
         Entry::Call { worker, kind, account, total }
@@ -169,7 +173,7 @@ impl Orders {
         }
     }
 
-    /// Lists that are a place too short, fit, are longer, or hold any listing.
+    /// A listing or rebates, into lists that are a place too short, fit, are longer, or hold any listing.
     fn list(&mut self, machine: &Machine) -> Entry {
         let count = machine.items().len();
         let mut places = || match self.prng.below(6) {
@@ -178,7 +182,11 @@ impl Orders {
             2 => totals::Table::GREATEST_COUNT,
             longer => count + longer as usize - 3,
         };
-        Entry::List(places(), places())
+        let (accounts, items) = (places(), places());
+        match self.prng.percent(50) {
+            true => Entry::List(accounts, items),
+            false => Entry::Rebates(accounts, items),
+        }
     }
 }
 

@@ -15,6 +15,19 @@ fn numbered<T>(result: Result<T, Refusal>) -> Result<T, u8> {
     result.map_err(|refusal| refusal.number() as u8)
 }
 
+/// The rows that are written to two lists of so many places, or the refusal's number. What is past them stays.
+fn written<T: Copy + PartialEq>(
+    [account_places, item_places]: [usize; 2],
+    before: T,
+    write: impl Fn(&mut [u32], &mut [T]) -> Result<usize, Refusal>,
+) -> Result<Rows<T>, u8> {
+    let (mut accounts, mut items) = (vec![7; account_places], vec![before; item_places]);
+    let count = numbered(write(&mut accounts, &mut items));
+    let past = count.unwrap_or(0);
+    assert!(accounts[past..].iter().all(|account| *account == 7) && items[past..].iter().all(|item| *item == before));
+    Ok(accounts.into_iter().zip(items).take(count?).collect())
+}
+
 impl Interface for Safe {
     fn open(&mut self, [workers, capacity, depth]: [u64; 3], length: usize, want: Result<(), u8>) {
         if want.is_ok() {
@@ -62,17 +75,20 @@ impl Interface for Safe {
 
     fn list(&mut self, accounts: usize, totals: usize, want: Result<Rows, u8>) {
         let table = Table::over(&mut self.words);
-        let (mut accounts, mut totals) = (vec![7; accounts], vec![-7; totals]);
-        let count = numbered(table.listing_into(&mut accounts, &mut totals));
-        if let Ok(rows) = &want {
-            assert_eq!(table.listing().as_ref(), Ok(rows));
+        let listed = written([accounts, totals], -7, |accounts, totals| table.listing_into(accounts, totals));
+        assert_eq!(listed, want);
+        if want.is_ok() {
+            assert_eq!(numbered(table.listing()), want);
         }
-        let rows = |count| accounts.iter().copied().zip(totals.iter().copied()).take(count).collect::<Rows>();
-        assert_eq!(count.map(rows), want);
-        let past = count.unwrap_or(0);
-        assert!(
-            accounts[past..].iter().all(|account| *account == 7) && totals[past..].iter().all(|total| *total == -7)
-        );
+    }
+
+    fn rebates(&mut self, accounts: usize, rebates: usize, want: Result<Rows<u64>, u8>) {
+        let table = Table::over(&mut self.words);
+        let given = written([accounts, rebates], u64::MAX, |accounts, rebates| table.rebates_into(accounts, rebates));
+        assert_eq!(given, want);
+        if want.is_ok() {
+            assert_eq!(numbered(table.rebates()), want);
+        }
     }
 
     fn words(&mut self) -> &mut [u64] {
