@@ -1,5 +1,5 @@
 -- The bands of the yearly rebate: a constant table, and a computed test that its starts ascend. Rests on the type of a
--- band, which src/lib.rt declares: where it starts, in cents, and its rate in hundredths of a percent.
+-- band, which src/lib.rt declares: where it starts, in cents, and its rate in hundredths of a percent (basis points).
 use Prim.Native.Nat.{ℕ}
 use mathlib.Core.Path.{_≡_, refl}
 use mathlib.Core.Bool.{Bool, true, _&&_}
@@ -19,8 +19,8 @@ pub record Schedule : Type 0 where
   pub bands : List Band
   pub ascends : ascending bands ≡ true
 
--- "up to 1,000,000 nothing; above that to 5,000,000 at 150 hundredths of a percent; above to 20,000,000 at 250; above at
--- 350": a band ends where the next one starts, and has its end in it
+-- "up to 1,000,000 nothing; above that to 5,000,000 at 150 hundredths of a percent; above to 20,000,000 at 250; above
+-- at 350": a band ends where the next one starts, and has its end in it
 abbrev pub yearly : Schedule
 yearly =
     record {

@@ -1,5 +1,5 @@
-// The yearly rebate on a total in cents, for every total. Whole cents and ten-thousandths of a cent are summed apart, so
-// that nothing leaves 64 bits.
+// The yearly rebate on a total in cents, for every total. Whole cents and ten-thousandths of a cent are summed apart,
+// so that nothing leaves 64 bits.
 ghost use mathlib.Core.Path.{_≡_};
 ghost use Prim.Native.Nat.{_-_, _^_, _<_};
 ghost use lib.ListN.{drop};
