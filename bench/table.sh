@@ -1,7 +1,7 @@
 #!/usr/bin/env bash
 # The whole table beside the same source compiled as Rust, a hand-written twin and a locked map: instructions an
-# operation and an account of a listing, and time ratios. callgrind counts inside the compared functions only, so that
-# the driver's loop is not in it. Needs rt, cargo and valgrind.
+# operation, an account of a listing and of rebates, and a rebate alone, and time ratios. callgrind counts inside the
+# compared functions only, so that the driver's loop is not in it. Needs rt, cargo and valgrind.
 set -euo pipefail
 cd "$(dirname "$0")/.."
 folder=$(mktemp -d)
@@ -9,12 +9,12 @@ trap 'rm -rf "$folder"' EXIT
 tests/built.sh capi leaves >&2
 cargo build --release --offline --quiet --manifest-path bench/Cargo.toml --bin table
 
-# a line a case: work, workers, side, instructions an operation or an account
+# a line a case: work, workers, side, instructions an operation, an account or a total
 counted() {
   local options=() symbol work workers side operations i=0
-  for symbol in totals_call totals_step totals_run totals_list '*same_totals_call*' '*same_totals_step*' \
-    '*same_totals_run*' '*same_totals_list*' '*Twin::call*' '*Twin::step*' '*Twin::run*' '*Twin::rows*' \
-    '*Map::operate*' '*sort_rows*'; do
+  for symbol in totals_call totals_step totals_run totals_list 'totals_rebate*' '*same_totals_call*' \
+    '*same_totals_step*' '*same_totals_run*' '*same_totals_list*' '*same_totals_rebate*' '*Twin::call*' \
+    '*Twin::step*' '*Twin::run*' '*Twin::rows*' '*Twin::rebate*' '*Map::operate*' '*sort_rows*'; do
     options+=("--toggle-collect=$symbol")
   done
   valgrind --tool=callgrind --callgrind-out-file="$folder/dump" --collect-atstart=no "${options[@]}" \
@@ -49,13 +49,13 @@ table() {
     }'
 }
 
-# the listings as a table, a row for each number of accounts
+# listings PREFIX SIDES: the works whose names begin so as a table, a row for each number of accounts
 listings() {
-  awk '
-    !sub("listing-", "", $1) { next }
+  awk -v prefix="$1" -v names="$2" '
+    !sub("^" prefix, "", $1) { next }
     { value[$1, $3] = $4; if (!($1 in seen)) { seen[$1] = 1; rows[++count] = $1 } }
     END {
-      sides = split("table same twin sort", side)
+      sides = split(names, side)
       printf "%-9s", "accounts"
       for (i = 1; i <= sides; i++) printf " %9s", side[i]
       printf " %10s %10s\n", "table:same", "table:twin"
@@ -91,6 +91,8 @@ goals() {
       a = value["depth-0", 1, "steps"]; b = value["depth-8", 1, "steps"]
       goal("lookup at M 8 to M 0, buckets equally full: ratio", b / a, 1.1)
       goal("listing of 4,096 accounts, an account", value["listing-4096", 1, "table"], 600)
+      goal("rebates of 4,096 accounts, an account, most: listing + 100", \
+        value["rebates-4096", 1, "table"], value["listing-4096", 1, "table"] + 100)
     }'
 }
 
@@ -105,7 +107,11 @@ echo "lookup by single steps at M 0, 4, 8, 4 accounts in each bucket: $depths"
 echo
 printf '%s' 'instructions an account of a listing, n 1, b 16, M 8 '
 echo '(16 and 1,000 accounts from 1000 up, 4,096 evenly spread; sort: sort_unstable of the same rows alone)'
-listings <"$folder/counts"
+listings listing- 'table same twin sort' <"$folder/counts"
+echo
+printf '%s' 'instructions an account of the rebates, the same accounts, totals of all four bands and negative ones '
+echo '(alone: one rebate a call, a total of the 4,096; table and same first zero 48 kB, an instruction a byte)'
+listings rebates- 'table same twin' <"$folder/counts"
 echo
 echo "nanoseconds an operation, one run, the least of nine rounds"
 bench/target/release/table time | table .1f

@@ -43,6 +43,8 @@ pub trait Table {
     fn step(&mut self, worker: u64) -> Reply;
     fn run(&mut self, worker: u64, most: u64) -> Reply;
     fn rows(&self) -> Vec<(u32, i64)>;
+    fn rebates(&self) -> Vec<(u32, u64)>;
+    fn rebate(total: i64) -> u64;
 }
 
 extern "C" {
@@ -81,12 +83,54 @@ extern "C" {
         report: *mut u64,
         places: usize,
     ) -> u64;
+    fn totals_rebates(
+        words: *const u64,
+        len: usize,
+        accounts: *mut u32,
+        account_places: usize,
+        rebates: *mut u64,
+        rebate_places: usize,
+        report: *mut u64,
+        places: usize,
+    ) -> u64;
+    fn totals_rebate(total: i64) -> u64;
 }
 
 const PLACES: usize = TOTALS_GREATEST_COUNT;
 
+// The rows that are written to two lists, accounts and their totals or rebates, with the count in a report.
+fn written<T: Copy + Default>(
+    write: impl FnOnce(&mut [u32], &mut [T], &mut [u64]) -> u64,
+) -> Vec<(u32, T)> {
+    let (mut a, mut t, mut report) = ([0; PLACES], [T::default(); PLACES], [0; 2]);
+    assert_eq!(write(&mut a, &mut t, &mut report), TOTALS_OK);
+    (0..report[0] as usize).map(|i| (a[i], t[i])).collect()
+}
+
 // The proved library.
 pub struct Proved(pub Vec<u64>);
+
+// totals_list or totals_rebates
+type Lists<T> =
+    unsafe extern "C" fn(*const u64, usize, *mut u32, usize, *mut T, usize, *mut u64, usize) -> u64;
+
+impl Proved {
+    fn written<T: Copy + Default>(&self, lists: Lists<T>) -> Vec<(u32, T)> {
+        let words = &self.0;
+        written(|a, t, report| unsafe {
+            lists(
+                words.as_ptr(),
+                words.len(),
+                a.as_mut_ptr(),
+                a.len(),
+                t.as_mut_ptr(),
+                t.len(),
+                report.as_mut_ptr(),
+                report.len(),
+            )
+        })
+    }
+}
 
 impl Table for Proved {
     fn open(workers: u64, capacity: u64, depth: u64) -> Proved {
@@ -141,22 +185,15 @@ impl Table for Proved {
     }
 
     fn rows(&self) -> Vec<(u32, i64)> {
-        let (words, mut a, mut t, mut report) = (&self.0, [0; PLACES], [0; PLACES], [0; 2]);
-        let (a_at, t_at) = (a.as_mut_ptr(), t.as_mut_ptr());
-        let code = unsafe {
-            totals_list(
-                words.as_ptr(),
-                words.len(),
-                a_at,
-                PLACES,
-                t_at,
-                PLACES,
-                report.as_mut_ptr(),
-                2,
-            )
-        };
-        assert_eq!(code, TOTALS_OK);
-        (0..report[0] as usize).map(|i| (a[i], t[i])).collect()
+        self.written(totals_list)
+    }
+
+    fn rebates(&self) -> Vec<(u32, u64)> {
+        self.written(totals_rebates)
+    }
+
+    fn rebate(total: i64) -> u64 {
+        unsafe { totals_rebate(total) }
     }
 }
 
@@ -191,12 +228,15 @@ impl Table for Same {
     }
 
     fn rows(&self) -> Vec<(u32, i64)> {
-        let (mut a, mut t, mut report) = ([0; PLACES], [0; PLACES], [0; 2]);
-        assert_eq!(
-            capi::same_totals_list(&self.0, &mut a, &mut t, &mut report),
-            TOTALS_OK
-        );
-        (0..report[0] as usize).map(|i| (a[i], t[i])).collect()
+        written(|a, t, report| capi::same_totals_list(&self.0, a, t, report))
+    }
+
+    fn rebates(&self) -> Vec<(u32, u64)> {
+        written(|a, t, report| capi::same_totals_rebates(&self.0, a, t, report))
+    }
+
+    fn rebate(total: i64) -> u64 {
+        capi::same_totals_rebate(total)
     }
 }
 
@@ -245,6 +285,14 @@ impl Table for Twin {
 
     fn rows(&self) -> Vec<(u32, i64)> {
         Twin::rows(self)
+    }
+
+    fn rebates(&self) -> Vec<(u32, u64)> {
+        Twin::rebates_on(Twin::rows(self))
+    }
+
+    fn rebate(total: i64) -> u64 {
+        Twin::rebate(total)
     }
 }
 

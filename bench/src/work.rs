@@ -157,3 +157,23 @@ pub fn listing(count: u32) -> Work {
 fn from_1000_up(i: u32) -> u32 {
     1000 + i
 }
+
+// The rebate's four bands and, before them, what is not above 0: each is above one of these, up to the next.
+pub const BAND_ENDS: [i64; 6] = [i64::MIN, 0, 1_000_000, 5_000_000, 20_000_000, i64::MAX];
+
+// A total of a band 1 to 4, or one that is not above 0 for 0.
+pub fn total_in(band: usize, random: &mut Prng) -> i64 {
+    let (above, to) = (BAND_ENDS[band], BAND_ENDS[band + 1]);
+    to - random.below(to.abs_diff(above)) as i64
+}
+
+// The accounts of a listing with totals of all bands in turn.
+pub fn rebates(name: &'static str, count: u32) -> Work {
+    let mut random = Prng::new(20261118);
+    let mut w = listing(count);
+    w.name = name;
+    for (i, o) in w.filling.iter_mut().enumerate() {
+        o.total = total_in(i % 5, &mut random);
+    }
+    w
+}

@@ -1,12 +1,12 @@
-// Every side gives the same answers, totals and step counts on the same random work; those of whole operations are a
-// plain map's, but for new accounts where the places of as many others as the capacity agree in the first bits: these
-// are crowded.
+// Every side gives the same answers, totals, rebates and step counts on the same random work; those of whole operations
+// are a plain map's, but for new accounts where the places of as many others as the capacity agree in the first bits:
+// these are crowded.
 use bench::fields::*;
 use bench::places::{account_at, place};
 use bench::sides::{Map, Proved, Reply, Same, Table};
 use bench::turns::{by_run, by_steps};
 use bench::twin::Twin;
-use bench::work::{Operation, Prng};
+use bench::work::{total_in, Operation, Prng, BAND_ENDS};
 
 struct Case {
     workers: u64,
@@ -101,9 +101,24 @@ fn single_steps_in_turn_answer_alike() {
         assert_eq!(proved.0, same.0);
         assert_eq!(proved.rows(), same.rows());
         assert_eq!(proved.rows(), twin.rows());
+        assert_eq!(proved.rebates(), same.rebates());
+        assert_eq!(proved.rebates(), twin.rebates());
         late += ours.iter().filter(|r| r.check > 2).count();
     }
     assert!(late > 0, "no update was answered in its second pass");
+}
+
+// The ends of the bands with their neighbours, and any totals of each band.
+#[test]
+fn a_rebate_alone_is_alike() {
+    let mut random = Prng::new(5);
+    let near = |end: i64| [end.saturating_sub(1), end, end.saturating_add(1)];
+    let any = (0..100_000).map(|i| total_in(i % 5, &mut random));
+    for total in BAND_ENDS.into_iter().flat_map(near).chain(any) {
+        let rebate = Proved::rebate(total);
+        assert_eq!(rebate, Same::rebate(total), "{total}");
+        assert_eq!(rebate, Twin::rebate(total), "{total}");
+    }
 }
 
 // How many rows agree with the account in the first bits of their places.

@@ -4,7 +4,7 @@ use bench::places;
 use bench::sides::{Map, Proved, Same, Table};
 use bench::turns::{by_run, by_steps, on_map};
 use bench::twin::Twin;
-use bench::work::{even, listing, work, Operation, Work};
+use bench::work::{even, listing, rebates, work, Operation, Work};
 use std::time::Instant;
 
 // proved library, same source as Rust, hand-written twin, each by single steps and by run; then the locked map
@@ -15,8 +15,11 @@ const WORKS: [&str; 6] = ["inserts", "deletes", "posts", "lookups", "mixed", "gr
 const WORKERS: [u64; 3] = [1, 2, 8];
 // of a listing: proved library, same source as Rust, hand-written twin; then a sort of the same rows alone
 const LISTED: [&str; 4] = ["table", "same", "twin", "sort"];
+// of rebates: the first three of these
+const REBATED: [&str; 3] = ["table", "same", "twin"];
 
 type Rows = Vec<(u32, i64)>;
+type Rebates = Vec<(u32, u64)>;
 
 // A sum that changes with any answer, whatever the order of answers.
 fn mark(place: usize, code: u64, total: i64) -> u64 {
@@ -54,6 +57,17 @@ fn measured_map(map: &Map, operations: &[Operation]) -> u64 {
 #[inline(never)]
 fn measured_listing<T: Table>(table: &T) -> Rows {
     table.rows()
+}
+
+#[inline(never)]
+fn measured_rebates<T: Table>(table: &T) -> Rebates {
+    table.rebates()
+}
+
+#[inline(never)]
+fn measured_alone<T: Table>(operations: &[Operation]) -> Rebates {
+    let rebate = |o: &Operation| (o.account, T::rebate(o.total));
+    operations.iter().map(rebate).collect()
 }
 
 #[inline(never)]
@@ -127,6 +141,23 @@ fn listed(side: &str, w: &Work) -> Rows {
     }
 }
 
+// Of a whole table, or one a call on each of its totals.
+fn rebates_of<T: Table>(alone: bool, w: &Work) -> Rebates {
+    if alone {
+        measured_alone::<T>(&w.filling)
+    } else {
+        measured_rebates(&filled::<T>(w))
+    }
+}
+
+fn rebated(side: &str, alone: bool, w: &Work) -> Rebates {
+    match side {
+        "table" => rebates_of::<Proved>(alone, w),
+        "same" => rebates_of::<Same>(alone, w),
+        _ => rebates_of::<Twin>(alone, w),
+    }
+}
+
 // The answers of single steps agree with each other, those of `run` with the map's.
 fn assert_equal(w: &Work, sums: &[u64; 7]) {
     let [steps, run, same, same_run, twin, twin_run, map] = *sums;
@@ -140,8 +171,7 @@ fn assert_equal(w: &Work, sums: &[u64; 7]) {
     );
 }
 
-// One line a case, in the order of callgrind's dumps: work, workers, side, operations, or accounts of a listing.
-fn count() {
+fn count_operations() {
     for name in WORKS {
         for n in WORKERS {
             let w = work(name, n, 4000);
@@ -160,6 +190,9 @@ fn count() {
             counted(&w, side, w.measured.len());
         }
     }
+}
+
+fn count_listings() {
     for accounts in [16, 1000, 4096] {
         let w = listing(accounts);
         let rows = LISTED.map(|side| {
@@ -170,6 +203,26 @@ fn count() {
         assert!(rows.iter().all(|other| *other == rows[3]), "{}", w.name);
         assert_eq!(rows[3].len(), w.filling.len());
     }
+}
+
+fn count_rebates(alone: bool, w: &Work) {
+    let rows = REBATED.map(|side| {
+        let rows = rebated(side, alone, w);
+        counted(w, side, w.filling.len());
+        rows
+    });
+    assert!(rows.iter().all(|other| *other == rows[2]), "{}", w.name);
+    assert_eq!(rows[2].len(), w.filling.len());
+}
+
+// One line a case, in the order of callgrind's dumps: work, workers, side, operations, or accounts, or totals.
+fn count() {
+    count_operations();
+    count_listings();
+    count_rebates(false, &rebates("rebates-16", 16));
+    count_rebates(false, &rebates("rebates-1000", 1000));
+    count_rebates(false, &rebates("rebates-4096", 4096));
+    count_rebates(true, &rebates("rebates-alone", 4096));
 }
 
 // Nanoseconds an operation, the least of so many rounds in which every side has its turn.

@@ -1,13 +1,15 @@
-// Document 01's method, with document 02's posts, rule of crowding and places of accounts, written by hand in Rust: a
-// directory, buckets with state, toggle, applied bits and settled tickets, slots, two passes, step by step. A twin of
-// the table for comparison, with no use of its sources.
+// Document 01's method, with document 02's posts, rule of crowding, places of accounts and rebate, written by hand in
+// Rust: a directory, buckets with state, toggle, applied bits and settled tickets, slots, two passes, step by step. A
+// twin of the table for comparison, with no use of its sources.
 mod bucket;
 mod phase;
+mod rebate;
 
 use crate::fields::*;
 use bucket::{first_bits, Bucket, Update};
 pub use bucket::{Answer, Kind};
 use phase::{phase, Phase};
+use rebate::rebate;
 
 #[derive(Clone, Copy, PartialEq, Eq, Debug)]
 pub enum Stepped {
@@ -131,6 +133,20 @@ impl Twin {
             .collect();
         rows.sort_unstable();
         rows
+    }
+
+    #[inline(never)]
+    pub fn rebate(total: i64) -> u64 {
+        rebate(total)
+    }
+
+    // Such rows with the rebates on their totals. It does not call `rows` itself: callgrind stops counting where one
+    // counted function calls another.
+    #[inline(never)]
+    pub fn rebates_on(rows: Vec<(u32, i64)>) -> Vec<(u32, u64)> {
+        rows.into_iter()
+            .map(|(account, total)| (account, rebate(total)))
+            .collect()
     }
 
     #[inline(always)]
