@@ -10,7 +10,7 @@ abbrev pub wholeRate : ℕ
 wholeRate = 10_000
 
 -- "the part inside its band", of t cents, for the first of these bands: what is above its start, without what is above
--- the next one's; the last band has no end
+-- the next one's, each 0 where t does not reach so far; the last band has no end
 unfoldable pub inside : List Band → ℕ → ℕ
 inside [] t = 0
 inside (x ∷ []) t = t - x .start

@@ -2,7 +2,7 @@
 // so that nothing leaves 64 bits.
 ghost use mathlib.Core.Path.{_≡_};
 ghost use Prim.Native.Nat.{_-_, _^_, _<_};
-ghost use lib.ListN.{drop};
+ghost use lib.ListN.{length, drop};
 ghost use Rattle.rebate.specs.Bands.{yearly, bandAt};
 ghost use Rattle.rebate.specs.Rebate.{inside, dueBy, rounded, rebateOn};
 
@@ -42,7 +42,7 @@ fn above(amount: u64, limit: u64) -> u64
 
 // Band i of the table.
 fn band_at(i: usize) -> Band
-    requires { ⌜ i < 4 ⌝ }
+    requires { ⌜ i < length (yearly .bands) ⌝ }
     ensures { λ r. ⌜ r ≡ bandAt i ⌝ }
 {
     BANDS[i]
@@ -50,7 +50,7 @@ fn band_at(i: usize) -> Band
 
 // The part of an amount inside band i.
 fn inside(amount: u64, i: usize) -> u64
-    requires { ⌜ i < 4 ⌝ }
+    requires { ⌜ i < length (yearly .bands) ⌝ }
     ensures { λ r. ⌜ r ≡ inside (drop i (yearly .bands)) amount ⌝ }
 {
     let part = above(amount, band_at(i).start);

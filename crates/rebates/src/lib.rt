@@ -14,17 +14,17 @@ use rows::listing;
 const GREATEST_COUNT: usize = 4096;
 
 // The first k rows' accounts and the rebates on their totals.
-fn write(totals: &[i64], from: &[u32], k: usize, accounts: &mut [u32], rebates: &mut [u64])
-    requires { ⌜ (k ≤ length (now totals)) × ((k ≤ length (now from)) × ((k ≤ length (now accounts))
+fn write(listed: &[u32], totals: &[i64], k: usize, accounts: &mut [u32], rebates: &mut [u64])
+    requires { ⌜ (k ≤ length (now listed)) × ((k ≤ length (now totals)) × ((k ≤ length (now accounts))
         × (k ≤ length (now rebates)))) ⌝ }
     ensures { λ _. ⌜ (now (accounts .exit)
-        ≡ accountsWith (now (accounts .entry)) 0 (rowsAt (now (from .entry)) (now (totals .entry)) 0 k))
+        ≡ accountsWith (now (accounts .entry)) 0 (rowsAt (now (listed .entry)) (now (totals .entry)) 0 k))
         × (now (rebates .exit)
-        ≡ rebatesWith (now (rebates .entry)) 0 (rowsAt (now (from .entry)) (now (totals .entry)) 0 k)) ⌝ }
+        ≡ rebatesWith (now (rebates .entry)) 0 (rowsAt (now (listed .entry)) (now (totals .entry)) 0 k)) ⌝ }
 {
     let mut i: usize = 0;
     while i < k {
-        accounts[i] = from[i];
+        accounts[i] = listed[i];
         rebates[i] = rebate(totals[i]);
         i += 1;
     }
@@ -47,7 +47,7 @@ pub fn rebates(words: &[u64], accounts: &mut [u32], rebates: &mut [u64]) -> List
             if rebates.len() < k {
                 return Listed::Refused(Refusal::Narrow);
             }
-            write(&totals, &listed, k, accounts, rebates);
+            write(&listed, &totals, k, accounts, rebates);
             Listed::Count(n)
         }
     }

@@ -17,12 +17,12 @@ use Rattle.rebates.proofs.write.Statement.{statement}
 use Rattle.rebates.proofs.write.Tie as tie
 
 abbrev Inv-loop : tie.InvT-loop
-Inv-loop totals from k accounts₀ rebates₀ i₀ accounts rebates i =
+Inv-loop listed totals k accounts₀ rebates₀ i₀ accounts rebates i =
     (i ≤ k) × ((length accounts ≡ length accounts₀) × ((length rebates ≡ length rebates₀)
-    × ((accounts ≡ accountsWith accounts₀ 0 (rowsAt from totals 0 i)) × (rebates ≡ rebatesWith rebates₀ 0 (rowsAt from totals 0 i)))))
+    × ((accounts ≡ accountsWith accounts₀ 0 (rowsAt listed totals 0 i)) × (rebates ≡ rebatesWith rebates₀ 0 (rowsAt listed totals 0 i)))))
 
 abbrev μ-loop : tie.MeasureT-loop
-μ-loop totals from k accounts₀ rebates₀ i₀ accounts rebates i = k - i
+μ-loop listed totals k accounts₀ rebates₀ i₀ accounts rebates i = k - i
 
 loop-holds : tie.Need-loop-holds Inv-loop μ-loop
 unfolding rowsAt
