@@ -63,3 +63,6 @@ length-digits (suc k) n =
 pub length-decimal : (n : ℕ) → length (decimal n) ≡ digitCount n
 unfolding decimal
 length-decimal n = length-digits (digitCount n) n
+
+pub decimal-within : (k n : ℕ) → n < 10 ^ suc k → length (decimal n) ≤ suc k
+decimal-within k n h = rw (length-decimal n) (digit-count-within k n h)

@@ -9,8 +9,8 @@ ghost use Rattle.decimals.specs.Signs.{signOf, decimalText};
 
 // A number to be written in decimal: its sign and its size.
 pub struct Decimal {
-    minus: bool,
-    size: u64,
+    pub minus: bool,
+    pub size: u64,
 }
 
 pub fn spell_decimal(out: &mut [u8], at: usize, d: Decimal)

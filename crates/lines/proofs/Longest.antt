@@ -19,7 +19,8 @@ use Rattle.commands.specs.declared.Command.{Command}
 use Rattle.commands.specs.declared.Command.the-variants.{Open, Insert, Delete, Lookup, Post, Steps, Unread}
 use Rattle.numerals.specs.Numerals.{isDigit, digitsAfter, zeroThen, numeral, plus, minus, signedNumeral, upTo, from, in64, greatestTotal, leastTotalSize}
 use Rattle.commands.specs.Commands.{greatestSmall, greatestAccount, leastSteps, greatestSteps, openLetter, insertLetter, deleteLetter, lookupLetter, postLetter, stepsLetter, smallOf, accountOf, totalOf, stepsOf, with2, with3, oneField, threeFields, fourFields}
-use Rattle.lines.specs.Grammar.{before, partsAt, fieldsOf, letterOf, ofFields, commandOf}
+use Rattle.numerals.specs.Cut.{before, partsAt}
+use Rattle.lines.specs.Grammar.{fieldsOf, letterOf, ofFields, commandOf}
 use Rattle.lines.specs.Reading.{longestLine}
 use Rattle.numerals.proofs.NumeralLaws.{some-none, passed}
 

@@ -7,7 +7,8 @@ use Rattle.machine.specs.Computing.{computing}
 use Rattle.decimals.specs.Decimals.{digit, digits, digitCountUpTo, digitCount, decimal, signedDecimal}
 use Rattle.numerals.specs.Numerals.{isDigit, digitsAfter, zeroThen, numeral, plus, minus, signedNumeral, upTo, from, in64}
 use Rattle.commands.specs.Commands.{smallOf, accountOf, totalOf, stepsOf, with2, with3, oneField, threeFields, fourFields, lineOf}
-use Rattle.lines.specs.Grammar.{before, partsAt, linesOf, fieldsOf, letterOf, ofFields, commandOf}
+use Rattle.numerals.specs.Cut.{before, partsAt}
+use Rattle.lines.specs.Grammar.{linesOf, fieldsOf, letterOf, ofFields, commandOf}
 use Rattle.replies.specs.Printed.{printedLine, totalThen, printedRow, printedEnd, printedRows, printedAnswer, printed, printedUnread}
 use Rattle.lines.specs.Session.{told, sessionFrom, session}
 

@@ -13,7 +13,8 @@ use Rattle.machine.specs.Choice.{if_then_else_}
 use Rattle.decimals.specs.Ascii.{space}
 use Rattle.commands.specs.declared.Command.the-variants.{Unread}
 use Rattle.commands.specs.Commands.{oneField}
-use Rattle.lines.specs.Grammar.{before, partsAt, fieldsOf, firstField, letterOf, ofFields, commandOf}
+use Rattle.numerals.specs.Cut.{before, partsAt}
+use Rattle.lines.specs.Grammar.{fieldsOf, firstField, letterOf, ofFields, commandOf}
 
 -- ---- the first field, byte by byte
 

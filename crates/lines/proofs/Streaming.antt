@@ -13,8 +13,9 @@ use borrow.Author.Tests.{le-leb, lt-ltb, le-ltb, leb-true, leb-false, ltb-true, 
 use Rattle.machine.specs.Choice.{if_then_else_}
 use Rattle.decimals.specs.Ascii.{lineFeed}
 use Rattle.commands.specs.declared.Command.the-variants.{Unread}
+use Rattle.numerals.specs.Cut.{before, partsAt}
 use Rattle.lines.specs.declared.reader.Reader.{Reader}
-use Rattle.lines.specs.Grammar.{before, partsAt, linesOf, commandOf}
+use Rattle.lines.specs.Grammar.{linesOf, commandOf}
 use Rattle.lines.specs.Reading.{lineRoom, fresh, pushed, commandIn, isEmpty, commandsRead}
 use Rattle.lines.proofs.Longest.{long-unread}
 

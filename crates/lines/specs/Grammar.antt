@@ -7,21 +7,12 @@ use mathlib.Core.List.{List, [], _∷_}
 use lib.Dec.{eqb}
 use Rattle.machine.specs.Choice.{if_then_else_}
 use Rattle.decimals.specs.Ascii.{lineFeed, space}
+use Rattle.numerals.specs.Cut.{partsAt}
 use Rattle.commands.specs.declared.Command.{Command}
 use Rattle.commands.specs.declared.Command.the-variants.{Unread}
 use Rattle.commands.specs.Commands.{oneField, threeFields, fourFields}
 
 -- ---- lines and fields
-
--- a byte put before the first part, which it starts where there is none
-unfoldable pub before : ℕ → List (List ℕ) → List (List ℕ)
-before b [] = (b ∷ []) ∷ []
-before b (p ∷ ps) = (b ∷ p) ∷ ps
-
--- the parts between the bytes x, with `last` for what follows the last byte
-unfoldable pub partsAt : ℕ → List (List ℕ) → List ℕ → List (List ℕ)
-partsAt x last [] = last
-partsAt x last (b ∷ bs) = let rest : List (List ℕ) = partsAt x last bs in if eqb b x then [] ∷ rest else before b rest
 
 -- "A line ends at a line feed or at the end of the input; a line feed that ends the input starts no further line"
 unfoldable pub linesOf : List ℕ → List (List ℕ)

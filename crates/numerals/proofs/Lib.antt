@@ -1,2 +1,4 @@
 pub mod Parts
 pub mod NumeralLaws
+pub mod ReadBack
+pub mod CutLaws
