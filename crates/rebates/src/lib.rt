@@ -8,10 +8,8 @@ ghost use Rattle.rebates.specs.Rebates.{rebatesWith, rebatesWords};
 use interface::Listed;
 use interface::Refusal;
 use rebate::rebate;
+use rows::GREATEST_COUNT;
 use rows::listing;
-
-// The most rows that a listing has: 256 buckets of 16.
-const GREATEST_COUNT: usize = 4096;
 
 // The first k rows' accounts and the rebates on their totals.
 fn write(listed: &[u32], totals: &[i64], k: usize, accounts: &mut [u32], rebates: &mut [u64])

@@ -1,1 +1,3 @@
 pub mod RowLaws
+pub mod AllRows
+pub mod SmallRows

@@ -15,6 +15,9 @@ use interface::Settings;
 use layout::shape::settings_of;
 use layout::shape::strange_words;
 
+// The most rows that a listing has: 256 buckets of 16.
+pub const GREATEST_COUNT: usize = 4096;
+
 // How many rows there are.
 fn count(words: &[u64], g: Settings) -> usize
     requires { ⌜ Fits (now words) g ⌝ }

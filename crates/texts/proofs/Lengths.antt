@@ -10,12 +10,9 @@ use Rattle.interface.specs.declared.Answer.{Answer}
 use Rattle.replies.specs.declared.Reply.{Reply}
 use Rattle.decimals.specs.Decimals.{decimal, signedDecimal}
 use Rattle.replies.specs.Printed.{printedLine, totalThen, printedRow, printedEnd, printedAnswer, printed, printedUnread, printedReply}
-use Rattle.decimals.proofs.DecimalLaws.{digit-count-within, length-decimal}
+use Rattle.decimals.proofs.DecimalLaws.{decimal-within}
 
 -- ---- numbers
-
-decimal-within : (k n : ℕ) → n < 10 ^ suc k → length (decimal n) ≤ suc k
-decimal-within k n h = rw (length-decimal n) (digit-count-within k n h)
 
 word-within : (n : ℕ) → n < 2 ^ 64 → length (decimal n) ≤ 20
 word-within n h = decimal-within 19 n (omega arith)

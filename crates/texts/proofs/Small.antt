@@ -1,16 +1,10 @@
 -- Every reply's numbers are of 64 bits, and so are the rows of a listing, for any words. Rests on the table's calls.
 use Prim.Native.Nat.{ℕ, zero, suc, _+_, _^_, _≤_, _<_}
-use mathlib.Core.Path.{_≡_, refl}
-use mathlib.Core.Bool.{Bool, true, false}
 use mathlib.Core.List.{List}
 use mathlib.Core.Option.{Option}
 use native.Mathlib.Nat.{mod-lt}
 use native.Mathlib.Omega.{arith}
-use lib.Dec.{eqb, ltb}
-use lib.Signed.{mag}
-use mir.Syntax.{w64}
-use mir.Val.{toZ}
-use borrow.Author.Tests.{ltb-true, ltb-false}
+use lib.Dec.{eqb}
 use Rattle.interface.specs.Numbers.{numberOf, answerNumber}
 use Rattle.interface.specs.declared.Settings.{Settings}
 use Rattle.interface.specs.declared.Answer.{Answer}
@@ -33,19 +27,13 @@ use Rattle.calls.specs.Calls.{endedAt}
 use Rattle.updates.specs.Updates.{checkedAt, checkAt, updateAt, operationAt}
 use Rattle.lookups.specs.Lookups.{foundAt, lookedAt, lookupAt}
 use Rattle.runs.specs.Runs.{lastOf, orElse, runIn, longestRun, runWords}
+use Rattle.rows.proofs.SmallRows.{small-total}
 use Rattle.commands.specs.declared.Command.{Command}
 use Rattle.replies.specs.declared.Reply.{Reply}
 use Rattle.responses.specs.Responses.{ofOpened, ofCalled, ofRan, replying, responded}
 use Rattle.texts.proofs.Lengths.{smallAnswer, smallReply}
 
--- ---- totals and numbers of refusals
-
-pub small-total : (x : ℕ) → mag (toZ w64 x) < 2 ^ 63
-small-total x = by (ltb x (2 ^ 63)) refl
-  where
-    by : (t : Bool) → ltb x (2 ^ 63) ≡ t → mag (toZ w64 x) < 2 ^ 63
-    by true e = let h = ltb-true x (2 ^ 63) e in rw e h
-    by false e = let h = ltb-false x (2 ^ 63) e in rw e (omega arith)
+-- ---- numbers of refusals
 
 small-number : (r : Refusal) → numberOf r < 2 ^ 64
 small-number Refusal.Settings = omega arith

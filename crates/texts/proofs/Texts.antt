@@ -1,31 +1,26 @@
 -- What `feed` leaves in the buffer is the text of the commands whose lines it ended, whole and in order: no text is too long.
 -- Rests on the lengths of texts, and on the laws of buffers.
-use Prim.Native.Nat.{ℕ, zero, suc, _+_, _*_, _%_, _^_, _≤_}
+use Prim.Native.Nat.{ℕ, suc, _+_, _*_, _≤_}
 use mathlib.Core.Path.{_≡_, refl, sym, _∙_, ap}
 use mathlib.Core.Bool.{Bool, true, false, _||_}
-use mathlib.Core.List.{List, [], _∷_, _++_, map, append-assoc}
-use native.Mathlib.Nat.{add-assoc, mod-lt}
+use mathlib.Core.List.{List, [], _∷_, _++_, map}
+use native.Mathlib.Nat.{add-assoc}
 use native.Mathlib.Omega.{arith}
 use lib.Dec.{ltb}
 use lib.IntN.{ℤ}
 use lib.ListN.{length, drop, length-append, length-drop}
-use mir.Syntax.{w64}
-use mir.Val.{toZ}
 use borrow.Author.Tests.{le-leb, ltb-false}
 use Rattle.interface.specs.Numbers.{numberOf}
-use Rattle.interface.specs.declared.Settings.{Settings}
 use Rattle.interface.specs.declared.Listed.{Listed}
 use Rattle.interface.specs.declared.Refusal.{Refusal}
-use Rattle.fields.specs.Fields.{accountsFrom, totalsFrom}
 use Rattle.machine.specs.Choice.{if_then_else_}
 use Rattle.machine.specs.Sequential.{Table}
 use Rattle.machine.proofs.laws.Base.{if-elim, if-true}
-use Rattle.layout.specs.Shape.{strange, shapeOf, word}
-use Rattle.entries.specs.Entries.{rowAt, rowsIn, rowsOf}
-use Rattle.sorting.specs.Sorting.{insertRow, sorted}
-use Rattle.sorting.proofs.Insertion.{sorted-length}
+use Rattle.layout.specs.Shape.{strange, shapeOf}
 use Rattle.sorting.proofs.Rows.{rows-back}
-use Rattle.rows.specs.Rows.{rowsFrom, unsorted, rows, Shown, shown, listingWords}
+use Rattle.lists.specs.Every.{Every}
+use Rattle.rows.proofs.SmallRows.{Small, rows-small}
+use Rattle.rows.specs.Rows.{rows, Shown, shown, listingWords}
 use Rattle.commands.specs.declared.Command.{Command}
 use Rattle.replies.specs.declared.Reply.{Reply}
 use Rattle.lists.specs.Parts.{overlay}
@@ -39,7 +34,7 @@ use Rattle.outputs.specs.Room.{longest}
 use Rattle.responses.specs.Answers.{repliedAs, isList, answered}
 use Rattle.texts.specs.Texts.{rowsText, listingText, textOn, wordsOn}
 use Rattle.texts.proofs.Lengths.{longestReply, row-within, end-within, reply-within}
-use Rattle.texts.proofs.Small.{small-total, small-refused, small-response}
+use Rattle.texts.proofs.Small.{small-refused, small-response}
 
 -- ---- a text behind the used bytes
 
@@ -89,74 +84,16 @@ rows-behind o (e ∷ t) h =
 pub record Short (t : Table) : Type 0 where
   pub size : length (printedRows t) ≤ 32 * length t
 
-short-append : (s t : Table) → Short s → Short t → Short (s ++ t)
-unfolding printedRows
-short-append [] t h k = k
-short-append (e ∷ s) t h k =
-    let row = printedRow (e .0) (e .1) in
-    let m = h .size in
-    let n = k .size in
-    record {
-      size =
-          rw (
-            printed-append s t,
-            length-append row (printedRows s ++ printedRows t),
-            length-append (printedRows s) (printedRows t),
-            length-append s t,
-          )
-          (omega (arith, length-append row (printedRows s)));
-    }
-  where
-    printed-append : (s t : Table) → printedRows (s ++ t) ≡ printedRows s ++ printedRows t
-    printed-append [] t = refl
-    printed-append (e ∷ s) t = rw (printed-append s t, append-assoc (printedRow (e .0) (e .1)) (printedRows s) (printedRows t))
-
-short-in : (l : List ℕ) (s : Settings) (e q i c : ℕ) → Short (rowsIn l s e q i c)
-unfolding rowsIn rowAt printedRows
-short-in l s e q i zero = record { size = omega arith }
-short-in l s e q i (suc c) =
-    let rest = short-in l s e q (suc i) c in
-    if-elim Short _ _ _
-    (λ h.
-    let a = word l (accountsFrom q + i) % 2 ^ 32 in
-    let x = word l (totalsFrom q (s .capacity) + i) in
-    let m = row-within a (toZ w64 x) (mod-lt _ (omega arith)) (small-total x) in
-    let n = rest .size in
-    record { size = omega (arith, length-append (printedRow a (toZ w64 x)) (printedRows (rowsIn l s e q (suc i) c))) })
-    (λ h. rest)
-
-short-from : (l : List ℕ) (s : Settings) (e k : ℕ) → Short (rowsFrom l s e k)
-unfolding rowsFrom rowsOf printedRows
-short-from l s e zero = record { size = omega arith }
-short-from l s e (suc k) = short-append _ _ (short-in l s e _ 0 _) (short-from l s (suc e) k)
-
--- sorted rows are printed as long
-printed-inserted :
-    (x : ℕ × ℤ) (r : Table) → length (printedRows (insertRow x r)) ≡ length (printedRow (x .0) (x .1)) + length (printedRows r)
-unfolding insertRow printedRows
-printed-inserted x [] = length-append (printedRow (x .0) (x .1)) []
-printed-inserted x (y ∷ r) =
-    if-elim (λ (z : Table). length (printedRows z) ≡ length (printedRow (x .0) (x .1)) + length (printedRows (y ∷ r))) _ _ _
-    (λ e. length-append (printedRow (x .0) (x .1)) (printedRows (y ∷ r)))
-    (λ e. omega (
-      arith,
-      printed-inserted x r,
-      length-append (printedRow (y .0) (y .1)) (printedRows (insertRow x r)),
-      length-append (printedRow (y .0) (y .1)) (printedRows r),
-    ))
-
-printed-sorted : (r : Table) → length (printedRows (sorted r)) ≡ length (printedRows r)
-unfolding sorted printedRows
-printed-sorted [] = refl
-printed-sorted (x ∷ r) =
-    printed-inserted x (sorted r) ∙ rw (printed-sorted r) (sym (length-append (printedRow (x .0) (x .1)) (printedRows r)))
+short-small : (t : Table) → Every Small t → Short t
+unfolding printedRows Every
+short-small [] h = record { size = omega arith }
+short-small (e ∷ t) h =
+    let m = row-within (e .0) (e .1) (h .0 .account) (h .0 .total) in
+    let n = short-small t (h .1) .size in
+    record { size = omega (arith, length-append (printedRow (e .0) (e .1)) (printedRows t)) }
 
 short-rows : (l : List ℕ) → Short (rows l (shapeOf l))
-unfolding rows unsorted
-short-rows l =
-    let r = unsorted l (shapeOf l) in
-    let h = short-from l (shapeOf l) 0 (2 ^ shapeOf l .depth) .size in
-    record { size = rw (printed-sorted r, sorted-length r) h }
+short-rows l = short-small _ (rows-small l (shapeOf l))
 
 -- ---- the lists that a listing leaves
 

@@ -1,24 +1,20 @@
 -- `rebates` refuses as the listing does or where a list is too short, or writes: a case for each `return`.
 -- Rests on the laws of rows with their rebates, and on the lengths of zeros: none is computed.
-use Prim.Native.Nat.{ℕ, _≤_}
+use Prim.Native.Nat.{ℕ}
 use native.Mathlib.Omega.{arith}
 use mathlib.Core.Logic.{inl, inr}
 use lib.IntN.{pos}
-use lib.ListN.{length, replicate, length-replicate}
-use Rattle.rebates.proofs.RebateRows.{AllRows, rows-counted, rebates-refused, rebates-narrow, rebates-all}
+use Rattle.rows.proofs.AllRows.{AllRows, rows-counted, rows-refused, zeros-long}
+use Rattle.rebates.proofs.RebateRows.{rebates-refused, rebates-narrow, rebates-all}
 use borrow.Author.Needs.{needs}
 use Rattle.rebates.proofs.rebates.Statement.{statement}
 use Rattle.rebates.proofs.rebates.Tie as tie
-
--- the local lists are long enough for every table's rows
-long : {A : Type 0} (x : A) → 4_096 ≤ length (replicate 4_096 x)
-long x = omega (arith, length-replicate 4_096 x)
 
 -- a listing that is counted has all rows
 counted : (c : tie.After-n) → let listing = c .before .before .before .before in
     AllRows (listing .before .before .before .before .before .before .args .words .now) (c .n .given .0 .0) (listing .listing .last .1 .0)
     (listing .listing .last .1 .1 .0)
-counted c = rows-counted _ _ _ (long {A = ℕ} 0) (long (pos 0)) _ (c .before .before .before .before .listing .ensures) _ (c .n .given .1)
+counted c = rows-counted _ _ _ _ _ (c .before .before .before .before .listing .ensures) (c .n .given .1)
 
 returns : tie.Need-returns
 returns c = rebates-narrow (counted (c .before .before)) _ _ (inl (c .if1 .taken))
@@ -36,7 +32,8 @@ returns-3 : tie.Need-returns-3
 returns-3 c =
     let refused = c .before in
     let listing = refused .before .before .before .before in
-    rebates-refused _ _ _ (long {A = ℕ} 0) (long (pos 0)) _ (listing .listing .ensures) _ (refused .r .given .1) _ _
+    rebates-refused
+    (rows-refused _ _ _ _ (zeros-long {A = ℕ} 0) (zeros-long (pos 0)) _ (listing .listing .ensures) (refused .r .given .1)) _ _
 
 returns-4 : tie.Need-returns-4
 returns-4 c =
