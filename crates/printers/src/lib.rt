@@ -72,7 +72,7 @@ fn spell_pair(out: &mut [u8], at: usize, a: Decimal, b: Decimal)
     out[feed] = b'\n';
 }
 
-fn copy(out: &mut [u8], at: usize, word: &[u8])
+pub fn copy(out: &mut [u8], at: usize, word: &[u8])
     requires { ⌜ at + length (now word) ≤ length (now out) ⌝ }
     ensures { λ _. ⌜ now (out .exit) ≡ overlay (now (out .entry)) at (now (word .entry)) ⌝ }
 {
