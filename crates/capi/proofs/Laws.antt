@@ -18,7 +18,7 @@ module _ {A : Type 0} (number : A → ℕ) (x : List ℕ × A) (l : List ℕ) (a
 
   pub reported-is :
       (report : List ℕ → A → List ℕ) (before after : List ℕ) → after ≡ report before a
-      → record { words = l; report = after; number = k } ≡ reported number report before x
+      → record { lent = l; report = after; number = k } ≡ reported number report before x
   unfolding reported
   reported-is report before after r = rw (← e, n, r)
 

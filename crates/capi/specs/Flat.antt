@@ -5,22 +5,23 @@ use mathlib.Core.List.{List}
 use lib.IntN.{ℤ}
 use Rattle.rows.specs.Rows.{Shown, listingWords}
 use Rattle.rebates.specs.Rebates.{Rebated, rebatesWords}
+use Rattle.export.specs.Export.{exportWords}
 use Rattle.turns.specs.Turns.{stepWords}
 use Rattle.runs.specs.Runs.{runWords}
-use Rattle.numbers.specs.Returned.{steppedNumber, ranNumber, listedNumber, steppedReport, ranReport, listedReport}
+use Rattle.numbers.specs.Returned.{steppedNumber, ranNumber, listedNumber, exportedNumber, steppedReport, ranReport, listedReport, exportedReport}
 
 -- the words, and an answer's number
 unfoldable pub flat : {A : Type 0} → (A → ℕ) → List ℕ × A → List ℕ × ℕ
 flat number x = (x .0, number (x .1))
 
--- the words, the report, and a number
+-- what was lent, the words of a step or a run or the output of an export, the report, and a number
 pub record Left : Type 0 where
-  pub words : List ℕ
+  pub lent : List ℕ
   pub report : List ℕ
   pub number : ℕ
 
 unfoldable pub reported : {A : Type 0} → (A → ℕ) → (List ℕ → A → List ℕ) → List ℕ → List ℕ × A → Left
-reported number report before x = record { words = x .0; report = report before (x .1); number = number (x .1) }
+reported number report before x = record { lent = x .0; report = report before (x .1); number = number (x .1) }
 
 -- what a step leaves and returns, over these words and this report, and what up to so many steps do
 abbrev pub stepLeft : List ℕ → List ℕ → ℕ → Left
@@ -28,6 +29,10 @@ stepLeft words report worker = reported steppedNumber steppedReport report (step
 
 abbrev pub runLeft : List ℕ → List ℕ → ℕ → ℕ → Left
 runLeft words report worker most = reported ranNumber ranReport report (runWords words worker most)
+
+-- what an export leaves and returns, over these words, this output and this report
+abbrev pub exportLeft : List ℕ → List ℕ → List ℕ → Left
+exportLeft words out report = reported exportedNumber exportedReport report (exportWords words out)
 
 -- both lists of a listing, the report, and a number
 pub record Written : Type 0 where

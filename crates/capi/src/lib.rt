@@ -8,8 +8,9 @@ ghost use Rattle.rebate.specs.Rebate.{rebateOn};
 ghost use Rattle.opening.specs.Opening.{neededFor, openWords};
 ghost use Rattle.calls.specs.Calls.{callWords};
 ghost use Rattle.numbers.specs.Returned.{neededNumber, openedNumber, calledNumber};
-ghost use Rattle.capi.specs.Flat.{flat, stepLeft, runLeft, listWritten, rebatesWritten};
+ghost use Rattle.capi.specs.Flat.{flat, stepLeft, runLeft, exportLeft, listWritten, rebatesWritten};
 use numbers::called_number;
+use numbers::exported_number;
 use numbers::listed_number;
 use numbers::needed_number;
 use numbers::opened_number;
@@ -54,7 +55,7 @@ pub extern "C" fn totals_call(
 // One step of a worker: 0 where its operation goes on, 16 and the answer's number where it ended, or 8, 3, 5.
 #[no_mangle]
 pub extern "C" fn totals_step(words: &mut [u64], worker: u64, report: &mut [u64]) -> u64
-    ensures { λ r. ⌜ record { words = now (words .exit); report = now (report .exit); number = r }
+    ensures { λ r. ⌜ record { lent = now (words .exit); report = now (report .exit); number = r }
         ≡ stepLeft (now (words .entry)) (now (report .entry)) worker ⌝ }
 {
     let answer = table::step(words, worker);
@@ -65,7 +66,7 @@ pub extern "C" fn totals_step(words: &mut [u64], worker: u64, report: &mut [u64]
 // operation goes on.
 #[no_mangle]
 pub extern "C" fn totals_run(words: &mut [u64], worker: u64, most: u64, report: &mut [u64]) -> u64
-    ensures { λ r. ⌜ record { words = now (words .exit); report = now (report .exit); number = r }
+    ensures { λ r. ⌜ record { lent = now (words .exit); report = now (report .exit); number = r }
         ≡ runLeft (now (words .entry)) (now (report .entry)) worker most ⌝ }
 {
     let answer = table::run(words, worker, most);
@@ -108,6 +109,16 @@ pub extern "C" fn totals_rebates(
 {
     let answer = table::rebates(words, accounts, rebates);
     listed_number(report, answer)
+}
+
+// The listing as a file of RFC 4180 records: 0 and the bytes written reported, or 8, 10.
+#[no_mangle]
+pub extern "C" fn totals_export(words: &[u64], out: &mut [u8], report: &mut [u64]) -> u64
+    ensures { λ r. ⌜ record { lent = now (out .exit); report = now (report .exit); number = r }
+        ≡ exportLeft (now (words .entry)) (now (out .entry)) (now (report .entry)) ⌝ }
+{
+    let answer = table::export(words, out);
+    exported_number(report, answer)
 }
 
 // The rebate on a total.

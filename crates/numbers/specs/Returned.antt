@@ -9,6 +9,7 @@ use Rattle.interface.specs.declared.Called.{Called}
 use Rattle.interface.specs.declared.Stepped.{Stepped}
 use Rattle.interface.specs.declared.Ran.{Ran}
 use Rattle.interface.specs.declared.Listed.{Listed}
+use Rattle.interface.specs.declared.Exported.{Exported}
 use Rattle.report.specs.Report.{endedNumber, told, toldThree, endedReport}
 
 -- ---- numbers
@@ -40,6 +41,10 @@ unfoldable pub listedNumber : Listed → ℕ
 listedNumber (Listed.Count k) = 0
 listedNumber (Listed.Refused r) = numberOf r
 
+unfoldable pub exportedNumber : Exported → ℕ
+exportedNumber (Exported.Bytes k) = 0
+exportedNumber (Exported.Refused r) = numberOf r
+
 -- ---- reports
 
 unfoldable pub steppedReport : List ℕ → Stepped → List ℕ
@@ -56,3 +61,7 @@ ranReport report (Ran.Refused r) = report
 unfoldable pub listedReport : List ℕ → Listed → List ℕ
 listedReport report (Listed.Count k) = told report (k ∷ [])
 listedReport report (Listed.Refused r) = report
+
+unfoldable pub exportedReport : List ℕ → Exported → List ℕ
+exportedReport report (Exported.Bytes k) = told report (k ∷ [])
+exportedReport report (Exported.Refused r) = report

@@ -1,8 +1,10 @@
-// Each call's answer as a C function gives it: a number, and for a step, a run and a listing a report beside it.
+// Each call's answer as a C function gives it: a number, and for a step, a run, a listing and an export a report beside
+// it.
 // Rests on the reports of crate report.
 ghost use mathlib.Core.Path.{_≡_};
-ghost use Rattle.numbers.specs.Returned.{neededNumber, openedNumber, calledNumber, steppedNumber, ranNumber, listedNumber, steppedReport, ranReport, listedReport};
+ghost use Rattle.numbers.specs.Returned.{neededNumber, openedNumber, calledNumber, steppedNumber, ranNumber, listedNumber, steppedReport, ranReport, listedReport, exportedNumber, exportedReport};
 use interface::Called;
+use interface::Exported;
 use interface::Listed;
 use interface::Needed;
 use interface::Opened;
@@ -75,5 +77,18 @@ pub fn listed_number(report: &mut [u64], answer: Listed) -> u64
             0
         }
         Listed::Refused(r) => r.number(),
+    }
+}
+
+// 0 and the bytes reported, or the refusal.
+pub fn exported_number(report: &mut [u64], answer: Exported) -> u64
+    ensures { λ r. ⌜ (now (report .exit) ≡ exportedReport (now (report .entry)) answer) × (r ≡ exportedNumber answer) ⌝ }
+{
+    match answer {
+        Exported::Bytes(k) => {
+            tell_one(report, k);
+            0
+        }
+        Exported::Refused(r) => r.number(),
     }
 }

@@ -3,3 +3,4 @@ pub mod Checking
 pub mod Demand1
 pub mod Demand1ForC
 pub mod Demand1OnRebates
+pub mod Demand1OnExport

@@ -91,9 +91,9 @@ RefusalNumber k = (k ≢ 0) × (k < answerBase)
 abbrev pub RefusedInC : {L : Type 0} → List Check → L → L × ℕ → Type 0
 RefusedInC = TurnedDown numberOf RefusalNumber
 
--- words and report after a step or a run, and the number
+-- what was lent and the report afterwards, and the number
 unfoldable pub leftOf : Left → (List ℕ × List ℕ) × ℕ
-leftOf x = ((x .words, x .report), x .number)
+leftOf x = ((x .lent, x .report), x .number)
 
 -- both lists and the report after a listing, and the number
 unfoldable pub writtenOf : Written → (List ℕ × List ℤ × List ℕ) × ℕ
@@ -104,10 +104,10 @@ pub record AllStrangeInC (l : List ℕ) : Type 0 where
   pub call : (w kind a : ℕ) (v : ℤ) → flat calledNumber (callWords l w kind a v) ≡ (l, numberOf Refusal.Strange)
   pub step :
       (report : List ℕ) (w : ℕ)
-      → stepLeft l report w ≡ record { words = l; report = report; number = numberOf Refusal.Strange }
+      → stepLeft l report w ≡ record { lent = l; report = report; number = numberOf Refusal.Strange }
   pub run :
       (report : List ℕ) (w most : ℕ)
-      → runLeft l report w most ≡ record { words = l; report = report; number = numberOf Refusal.Strange }
+      → runLeft l report w most ≡ record { lent = l; report = report; number = numberOf Refusal.Strange }
   pub listing :
       (accounts : List ℕ) (totals : List ℤ) (report : List ℕ)
       → listWritten l accounts totals report

@@ -1,3 +1,4 @@
 pub mod Checks
 pub mod Demand1
 pub mod Demand1OnRebates
+pub mod Demand1OnExport
