@@ -1,12 +1,14 @@
-//! The commands: totals, lines, search, replay, faults, trace, amounts, rebates.
+//! The commands: totals, lines, search, replay, faults, trace, amounts, rebates, rows, export.
 #![forbid(unsafe_code)]
 
 use model::check::Counts;
 use model::explain::UNDECIDED;
+use model::exports;
 use model::fault::Fault;
 use model::input::Input;
 use model::lines::{read_line, Line};
 use model::rebates;
+use model::rows;
 use model::search::{search, verdict, By, Failure};
 use model::totals::{self, next_line};
 use model::trace::command::trace;
@@ -22,6 +24,8 @@ const USAGE: &str = "usage:
   model trace FILE
   model amounts SEED COUNT
   model rebates
+  model rows SEED COUNT
+  model export
 ";
 
 /// The options that may follow a command.
@@ -54,6 +58,12 @@ fn command(name: &str, rest: &[String]) -> Option<io::Result<u8>> {
             Some(rebates::amounts(seed, count, buffered()).map(|()| 0))
         }
         ("rebates", []) => Some(rebates::rebates(io::stdin().lock(), buffered()).map(|()| 0)),
+        ("rows", [seed, count]) => {
+            let (seed, count) = (seed.parse().ok()?, count.parse().ok()?);
+            let rows = (count <= rows::MOST).then(|| rows::rows(seed, count))?;
+            Some(exports::write_rows(&rows, buffered()).map(|()| 0))
+        }
+        ("export", []) => Some(exports::export(io::stdin().lock(), buffered()).map(|()| 0)),
         ("faults", []) => Some(faults()),
         _ => judging(name, &options(rest)?),
     }

@@ -25,7 +25,7 @@ fn text(bytes: &[u8]) -> String {
 
 #[test]
 fn unknown_arguments_get_the_usage_and_exit_2() {
-    let wrong: [&[&str]; 15] = [
+    let wrong: [&[&str]; 19] = [
         &[],
         &["help"],
         &["totals", "x"],
@@ -41,6 +41,10 @@ fn unknown_arguments_get_the_usage_and_exit_2() {
         &["amounts", "1", "x"],
         &["amounts", "-1", "5"],
         &["rebates", "6000000"],
+        &["rows", "1"],
+        &["rows", "1", "x"],
+        &["rows", "1", "4097"],
+        &["export", "5 700"],
     ];
     for arguments in wrong {
         let output = run(arguments, b"");
@@ -125,5 +129,50 @@ fn a_line_that_is_no_total_ends_the_rebates_with_1() {
         assert_eq!(output.status.code(), Some(1), "{wrong:?}");
         let error = format!("model: {wrong:?} is no total\n");
         assert_eq!(text(&output.stderr), error);
+    }
+}
+
+#[test]
+fn rows_writes_rows_and_export_their_file() {
+    let written = run(&["rows", "3", "4096"], b"");
+    assert_eq!(written.status.code(), Some(0));
+    let mut rows = model::rows::rows(3, 4_096);
+    let line = |(account, total): &(u32, i64)| format!("{account} {total}\n");
+    let lines: String = rows.iter().map(line).collect();
+    assert_eq!(text(&written.stdout), lines);
+    let exported = run(&["export"], &written.stdout);
+    assert_eq!(exported.status.code(), Some(0));
+    rows.sort_unstable();
+    assert_eq!(exported.stdout, model::export::file(&rows));
+}
+
+#[test]
+fn export_writes_the_listing_of_a_table_that_holds_the_rows() {
+    let output = run(&["export"], b"1001 7\n1000 -1205\n1001 -7\n0 0");
+    assert_eq!(output.status.code(), Some(0));
+    let file = "account,total\r\n0,0.00\r\n1000,-12.05\r\n1001,-0.07\r\n";
+    assert_eq!(text(&output.stdout), file);
+    assert_eq!(text(&run(&["export"], b"").stdout), "account,total\r\n");
+}
+
+#[test]
+fn a_line_that_is_no_row_ends_the_export_with_1() {
+    for wrong in [
+        "",
+        "5",
+        "x 7",
+        "5 x",
+        "5 7 9",
+        "-5 7",
+        "4294967296 7",
+        "5 9223372036854775808",
+    ] {
+        let output = run(&["export"], format!("7 8\n{wrong}\n8 9\n").as_bytes());
+        assert_eq!(output.status.code(), Some(1), "{wrong:?}");
+        assert_eq!(
+            text(&output.stderr),
+            format!("model: {wrong:?} is no row\n")
+        );
+        assert!(output.stdout.is_empty());
     }
 }
