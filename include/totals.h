@@ -6,23 +6,23 @@
  * What every function promises
  *   - It takes any words and any numbers. Whatever the words hold, it reads and writes nothing outside the slices it
  *     was lent, and returns.
- *   - Where it returns a refusal (1 to 8, 10), it has changed no word, no list and no report.
+ *   - Where it returns a refusal (1 to 8, 10), it has changed no word, no list, no output and no report.
  *   - It keeps nothing between calls: all of the table is in the words. It allocates nothing, and calls nothing but
  *     memcpy and memset.
  *   - Over words that totals_open accepted and that nothing but these calls has changed since, lent whole each time:
  *     TOTALS_STRANGE never comes; answers and listings are those of a plain table that serves each operation at one
- *     moment between its call and its answer, and rebates are those on the listing's totals; whatever the other workers
- *     do, a lookup is answered at the second step after its call, an update at step 2n+11, 6n+17, 8n+27 or 12n+33,
- *     which are its four checks, and with one worker at step 13 or 23.
+ *     moment between its call and its answer, rebates are those on the listing's totals, and an exported file has the
+ *     listing's rows; whatever the other workers do, a lookup is answered at the second step after its call, an update
+ *     at step 2n+11, 6n+17, 8n+27 or 12n+33, which are its four checks, and with one worker at step 13 or 23.
  *
  * What the caller owes
  *   - A slice is a pointer and a length, counted in its items. The pointer is not null, also where the length is 0, is
  *     aligned for the item's type, and as many items as the length says can be read there and, where the pointer is not
  *     const, written.
  *   - The slices of one call do not overlap.
- *   - One call at a time over the same words, totals_list and totals_rebates included. Workers are numbers and no
- *     threads: one caller interleaves their steps. Nothing here locks or waits; threads would need a lock around every
- *     call.
+ *   - One call at a time over the same words, totals_list, totals_rebates and totals_export included. Workers are
+ *     numbers and no threads: one caller interleaves their steps. Nothing here locks or waits; threads would need a
+ *     lock around every call.
  *   - The number that is returned is looked at: an insert or a post that is answered TOTALS_CROWDED, and a post that is
  *     answered TOTALS_OVERRUN, was not carried out.
  */
@@ -54,6 +54,15 @@ extern "C" {
 #define TOTALS_GREATEST_COUNT 4096
 
 /*
+ * The bytes of an exported file: of its first line; of a row's line at most; and of the whole file at most, which are
+ * TOTALS_EXPORT_HEADER + TOTALS_EXPORT_ROW * TOTALS_GREATEST_COUNT. A table of b and M needs no more than
+ * TOTALS_EXPORT_HEADER + TOTALS_EXPORT_ROW * (b << M).
+ */
+#define TOTALS_EXPORT_HEADER 15
+#define TOTALS_EXPORT_ROW 34
+#define TOTALS_GREATEST_EXPORT 139279
+
+/*
  * The greatest ticket number. Each update of a worker takes its next one, from 1 on after an opening: so this is also
  * how many updates one worker can make. And how many steps one totals_run gives at most.
  */
@@ -80,7 +89,7 @@ extern "C" {
 #define TOTALS_GREATEST_STEPS(workers) \
     ((workers) == 1 ? TOTALS_CHECK_STEPS(workers, 2) : TOTALS_CHECK_STEPS(workers, TOTALS_GREATEST_CHECK))
 
-/* Opened, accepted, listed; and of steps: made, and the operation goes on. */
+/* Opened, accepted, listed, exported; and of steps: made, and the operation goes on. */
 #define TOTALS_OK 0
 #define TOTALS_MOVED 0
 
@@ -93,7 +102,7 @@ extern "C" {
 #define TOTALS_KIND 6      /* not 1 insert, 2 delete, 3 lookup, 4 post */
 #define TOTALS_SPENT 7     /* insert, delete or post by a worker that has no ticket number left */
 #define TOTALS_STRANGE 8   /* the words are no table: see totals_call */
-#define TOTALS_NARROW 10   /* listing or rebates: a list shorter than the count */
+#define TOTALS_NARROW 10   /* listing or rebates: a list shorter than the count; export: an output than the file */
 
 /* Kinds of operations. */
 #define TOTALS_INSERT 1
@@ -201,6 +210,26 @@ uint64_t totals_list(const uint64_t *words, size_t length, uint32_t *accounts, s
  */
 uint64_t totals_rebates(const uint64_t *words, size_t length, uint32_t *accounts, size_t accounts_length,
                         uint64_t *rebates, size_t rebates_length, uint64_t *report, size_t report_length);
+
+/*
+ * Writes the listing as a file to the start of the output: RFC 4180 records, each a line that CR LF ends, the last one
+ * too. The first line is `account,total`; then comes a line for each row that totals_list writes, in its order: the
+ * account's number, a comma, and the total, which is in cents, in units with two decimals. That is a minus where the
+ * total is below 0, the units without zeros in front, a point and two digits: -12.05 for -1205, 0.07 for 7, -0.07 for
+ * -7, 0.00 for 0, -92233720368547758.08 for the lowest total. No field has quotes. A line determines its account and
+ * its total.
+ *
+ * Nothing is written past the file, no byte of 0 either; a report of one place or more has the number of the file's
+ * bytes at place 0. The words stay as they are; busy workers do not matter. An output of TOTALS_GREATEST_EXPORT bytes
+ * is long enough for every table; one of less than TOTALS_EXPORT_HEADER for none. It keeps the listing in two lists of
+ * its own and so takes about 50 kB of stack. Over words that no opening left an account may come more than once; its
+ * rows then stand in ascending order of their totals.
+ * Returns TOTALS_OK, or, tested in this order and with no byte of the output and no report changed:
+ *   TOTALS_STRANGE   as in totals_call;
+ *   TOTALS_NARROW    the output is shorter than the file.
+ */
+uint64_t totals_export(const uint64_t *words, size_t length, uint8_t *out, size_t out_length, uint64_t *report,
+                       size_t report_length);
 
 /*
  * The yearly rebate on a total in cents, in cents. Each rate, in hundredths of a percent, is for the part of the total

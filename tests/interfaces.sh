@@ -1,8 +1,9 @@
 #!/usr/bin/env bash
 # The interfaces for C and Rust: the header, the library's symbols, both examples, the Rust crate's tests, reports of
-# every length, tickets of 64 bits, places of accounts, rebates, and the rebates on random totals and the lines of
-# `totals` over the C interface against the second model. The last line is 'N passed, M failed'; the exit status is 0
-# only if M is 0.
+# every length, tickets of 64 bits, places of accounts, rebates, exports, and the rebates on random totals, the exports
+# of random rows and the lines of `totals` over the C interface against the second model. Exported files are also read
+# by Python's csv and decimal modules; where there is no python3, these tests fail. The last line is 'N passed, M
+# failed'; the exit status is 0 only if M is 0.
 # interfaces.sh [SEED LINES]...: without arguments, fixed seeds of 600,000 lines in all.
 set -u
 cd "$(dirname "$0")/.." || exit 2
@@ -126,6 +127,41 @@ rebated() {
   check $? "seed $1: the rebates on $2 totals $3, $(wc -c <"$run/output") bytes as from the model"
 }
 
+exports() { sound export "exports of a table, byte for byte, or a refusal that changes nothing" "$@"; }
+
+# exported SEED COUNT TEXT: the table of random rows that the program makes which `exports` has built last is exported
+# with the same bytes as by the model; and its file is read back as these rows by csv and decimal of Python
+exported() {
+  rm -f "$run/file" "$run/rows"
+  "$model" rows "$1" "$2" >"$run/input" && "$model" export <"$run/input" >"$run/model" &&
+    "$run/export" "$run/file" "$run/rows" <"$run/input" 2>"$run/error" && [ ! -s "$run/error" ] &&
+    cmp "$run/file" "$run/model"
+  check $? "seed $1: the export of $2 rows $3, $(wc -c <"$run/file") bytes as from the model"
+  sort -n "$run/input" | cmp - "$run/rows" && python3 tests/export.py "$run/file" "$run/rows"
+  check $? "seed $1: Python reads these $(wc -l <"$run/rows") rows in the file"
+}
+
+# unread TEXT COMMAND...: Python does not read the last rows in the file as the command changes it
+unread() {
+  local text=$1
+  shift
+  "$@" <"$run/file" >"$run/changed" && ! cmp -s "$run/file" "$run/changed" &&
+    ! python3 tests/export.py "$run/changed" "$run/rows" 2>"$run/error" && grep -q '^export.py: ' "$run/error"
+  check $? "Python does not read a file $text ($(cat "$run/error"))"
+}
+
+# what would be wrong with a file is seen
+unread_files() {
+  unread "with LF alone" tr -d '\r'
+  unread "without the header" tail -n +2
+  unread "without the last line's end" head -c -2
+  unread "without the last row" head -n -1
+  unread "with another last digit" sed '$ s/8\r$/7\r/'
+  unread "without a sign below one unit" sed 's/,-0\./,0./'
+  unread "with one decimal" sed 's/\(\.[0-9]\)[0-9]\r$/\1\r/'
+  unread "with quotes that do not end" sed '2 s/,/,"/'
+}
+
 # compare PROGRAM SEED LINES TEXT: random lines are met with the same bytes by the program and by the model
 compare() {
   "$model" lines "$2" "$3" >"$run/input" && "$model" totals <"$run/input" >"$run/model" &&
@@ -177,6 +213,8 @@ sanitized() {
   places "${checks[@]}"
   rebates "${checks[@]}"
   rebated 15 50000 "with these checks"
+  exports "${checks[@]}"
+  exported 21 4096 "with these checks"
   cc "${checks[@]}" "${strict[@]}" tests/c/lines.c "$library" -o "$run/lines"
   check $? "the program for lines is built with -fsanitize=address,undefined"
   compare "$run/lines" 14 50000 "with these checks"
@@ -193,6 +231,13 @@ tickets
 places
 rebates
 rebated 13 1000000 "over the C interface"
+exports
+exported 16 0 "over the C interface"
+exported 17 2 "over the C interface"
+exported 18 1000 "over the C interface"
+exported 19 4096 "over the C interface"
+exported 20 4096 "over the C interface"
+unread_files
 lines "$@"
 stored
 sanitized

@@ -4,9 +4,9 @@
  * three workers, and no post is lost. Worker 2 is parked in the middle of one until the others have finished: they
  * carry it out. Nothing is allocated. The steps are planned by the most that an operation takes, and the checks that
  * answered say how many were taken. Then the year is closed: what the other months came to is posted, one amount an
- * account, and the yearly rebates are shown. What a call returns is always looked at: a refusal, an invoice that the
- * table has no room for or that makes a total of more than 64 bits, and a month whose invoices and totals differ end
- * the run with a line on standard error and exit status 1.
+ * account, the yearly rebates are shown, and the accounts are exported as a CSV file. What a call returns is always
+ * looked at: a refusal, an invoice that the table has no room for or that makes a total of more than 64 bits, and a
+ * month whose invoices and totals differ end the run with a line on standard error and exit status 1.
  */
 #include <inttypes.h>
 #include <limits.h>
@@ -16,6 +16,7 @@
 
 enum { WORKERS = 3, CAPACITY = 4, DEPTH = 2, INVOICES = 4, NOBODY = WORKERS };
 enum { PLACES = CAPACITY << DEPTH }; /* the most accounts that the table can hold */
+enum { BYTES = TOTALS_EXPORT_HEADER + TOTALS_EXPORT_ROW * PLACES }; /* the most of a file of so many accounts */
 enum { UPDATE_STEPS = TOTALS_GREATEST_STEPS(WORKERS), CHECKS = TOTALS_GREATEST_CHECK };
 enum { PLANNED = WORKERS * INVOICES * UPDATE_STEPS }; /* the most steps of the month */
 
@@ -256,6 +257,18 @@ static int show_rebates(void)
     return 0;
 }
 
+/* The file's lines end with CR LF; its totals are in units. */
+static int show_file(void)
+{
+    uint8_t file[BYTES];
+    uint64_t size = 0;
+    if (refused(totals_export(words, length, file, BYTES, &size, 1), "export"))
+        return 1;
+    printf("the year as a file: %" PRIu64 " bytes\n", size);
+    fwrite(file, 1, (size_t)size, stdout);
+    return 0;
+}
+
 static int report_run(void)
 {
     int64_t sum;
@@ -263,7 +276,8 @@ static int report_run(void)
            show("worker 2 is parked, posting 450 to 1000", &sum) || dispatch(UINT_MAX, 2) ||
            show("worker 2 is still parked", &sum) || dispatch(UINT_MAX, NOBODY) ||
            show("all is posted", &sum) || check_month(sum) || show_steps() || at_once(0, TOTALS_LOOKUP, 1000, 0) ||
-           at_once(1, TOTALS_DELETE, 1006, 0) || show("at the end", &sum) || post_other_months() || show_rebates();
+           at_once(1, TOTALS_DELETE, 1006, 0) || show("at the end", &sum) || post_other_months() || show_rebates() ||
+           show_file();
 }
 
 int main(void)

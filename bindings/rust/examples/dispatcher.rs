@@ -3,14 +3,15 @@
 //! invoices from all three workers, and no post is lost. Worker 2 is parked in the middle of one until the others have
 //! finished: they carry it out. Nothing is allocated for the table. The steps are planned by the most that an operation
 //! takes, and the checks that answered say how many were taken. Then the year is closed: what the other months came to
-//! is posted, one amount an account, and the yearly rebates are shown. A refusal, an invoice that the table has no room
-//! for or that makes a total of more than 64 bits, and a month whose invoices and totals differ end the run with a line
-//! on standard error and exit status 1.
+//! is posted, one amount an account, the yearly rebates are shown, and the accounts are exported as a CSV file. A
+//! refusal, an invoice that the table has no room for or that makes a total of more than 64 bits, and a month whose
+//! invoices and totals differ end the run with a line on standard error and exit status 1.
 
 use std::error::Error;
 use std::io::{self, Write};
 use std::process::ExitCode;
 
+use totals::raw::{TOTALS_EXPORT_HEADER, TOTALS_EXPORT_ROW};
 use totals::{Answer, Ran, Settings, Table};
 
 const WORKERS: usize = 3;
@@ -20,6 +21,8 @@ const DEPTH: usize = 2;
 const WORDS: usize = 408;
 /// The most accounts that the table can hold.
 const PLACES: usize = CAPACITY << DEPTH;
+/// The most bytes of a file of so many accounts.
+const BYTES: usize = TOTALS_EXPORT_HEADER as usize + TOTALS_EXPORT_ROW as usize * PLACES;
 
 /// Accounts and cents, per worker.
 const INVOICES: [[(u32, i64); 4]; WORKERS] = [
@@ -174,6 +177,14 @@ impl<W: Write> Dispatcher<'_, W> {
         let sum: u64 = rebates.iter().take(count).sum();
         Ok(writeln!(self.out, "the rebates are {sum} in all")?)
     }
+
+    /// The file's lines end with CR LF; its totals are in units.
+    fn show_file(&mut self) -> Done {
+        let mut file = [0; BYTES];
+        let size = self.table.export_into(&mut file)?;
+        writeln!(self.out, "the year as a file: {size} bytes")?;
+        Ok(self.out.write_all(&file[..size])?)
+    }
 }
 
 fn report_run() -> Done {
@@ -197,6 +208,7 @@ fn report_run() -> Done {
     run.show("at the end")?;
     run.post_other_months()?;
     run.show_rebates()?;
+    run.show_file()?;
     Ok(run.out.flush()?)
 }
 

@@ -9,7 +9,7 @@
 //! [`Answer::Overrun`] was not carried out; a delete is never answered so. An account's bucket is chosen by the first
 //! bits of its [`place`], so that accounts numbered one after another are spread over all buckets; listings ascend by
 //! the account's number. [`rebate`] is the yearly rebate on a total in cents, and [`Table::rebates`] has those of all
-//! accounts.
+//! accounts. [`Table::export`] is the listing as a CSV file.
 //!
 //! ```
 //! use totals::{Answer, Owned, Ran, Refusal, Settings};

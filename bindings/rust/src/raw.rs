@@ -1,7 +1,7 @@
 //! The functions of the static library as C sees them; `include/totals.h` says what each promises and what it is owed.
 //! A slice is a pointer and a length. The constants are the header's.
 
-/// Opened, accepted, listed.
+/// Opened, accepted, listed, exported.
 pub const TOTALS_OK: u64 = 0;
 /// A step was made, and the operation goes on.
 pub const TOTALS_MOVED: u64 = 0;
@@ -22,7 +22,7 @@ pub const TOTALS_KIND: u64 = 6;
 pub const TOTALS_SPENT: u64 = 7;
 /// The words are no table.
 pub const TOTALS_STRANGE: u64 = 8;
-/// A list is shorter than the count.
+/// A list is shorter than the count, or the output than the file.
 pub const TOTALS_NARROW: u64 = 10;
 
 /// An insert.
@@ -61,6 +61,12 @@ pub const TOTALS_GREATEST_RUN: u64 = 256;
 pub const TOTALS_LOOKUP_STEPS: u64 = 2;
 /// The last of an update's checks. The steps at each are [`Settings::steps_at_check`](crate::Settings::steps_at_check).
 pub const TOTALS_GREATEST_CHECK: u64 = 4;
+/// The bytes of an exported file's first line.
+pub const TOTALS_EXPORT_HEADER: u64 = 15;
+/// The most bytes of a row's line in an exported file.
+pub const TOTALS_EXPORT_ROW: u64 = 34;
+/// The most bytes of an exported file.
+pub const TOTALS_GREATEST_EXPORT: u64 = 139_279;
 
 extern "C" {
     /// The words needed for settings, or 1.
@@ -106,6 +112,16 @@ extern "C" {
         accounts_length: usize,
         rebates: *mut u64,
         rebates_length: usize,
+        report: *mut u64,
+        report_length: usize,
+    ) -> u64;
+
+    /// The listing as a file: 0, or the number of a refusal. A report gets the number of its bytes.
+    pub fn totals_export(
+        words: *const u64,
+        length: usize,
+        out: *mut u8,
+        out_length: usize,
         report: *mut u64,
         report_length: usize,
     ) -> u64;

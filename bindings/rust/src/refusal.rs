@@ -3,8 +3,8 @@
 use crate::raw::*;
 use std::{error, fmt};
 
-/// Why a call was turned down. A refused call has changed no word and no list. Crowded and overrun, the numbers 9 and
-/// 11, are [`Answer`](crate::Answer)s.
+/// Why a call was turned down. A refused call has changed no word, no list and no output. Crowded and overrun, the
+/// numbers 9 and 11, are [`Answer`](crate::Answer)s.
 ///
 /// ```
 /// use totals::{Refusal, Settings};
@@ -32,7 +32,7 @@ pub enum Refusal {
     Spent,
     /// The words are no table.
     Strange,
-    /// A list is shorter than the count.
+    /// A list is shorter than the count, or the output than the exported file.
     Narrow,
 }
 
@@ -96,7 +96,7 @@ impl Refusal {
             Refusal::Kind => "not 1 insert, 2 delete, 3 lookup, 4 post",
             Refusal::Spent => "insert, delete or post by a worker that has no ticket number left",
             Refusal::Strange => "memory fails the checks",
-            Refusal::Narrow => "accounts, totals or rebates list shorter than the count",
+            Refusal::Narrow => "accounts, totals or rebates list shorter than the count, or output than the file",
         }
     }
 }

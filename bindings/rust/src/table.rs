@@ -38,6 +38,9 @@ impl<'a> Table<'a> {
     /// The most accounts that a table opened with any settings holds, and that any words list.
     pub const GREATEST_COUNT: usize = 4096;
 
+    /// The most bytes of an exported file: 15 for its first line, and 34 for each of as many rows as any words list.
+    pub const GREATEST_EXPORT: usize = 139_279;
+
     /// A fresh, empty table, whatever the words held. Refuses with [`Refusal::Short`].
     ///
     /// ```
@@ -290,6 +293,68 @@ impl<'a> Table<'a> {
         let (mut accounts, mut rebates) = (vec![0; Self::GREATEST_COUNT], vec![0; Self::GREATEST_COUNT]);
         let count = self.rebates_into(&mut accounts, &mut rebates)?;
         Ok(accounts.into_iter().zip(rebates).take(count).collect())
+    }
+
+    /// Writes the listing as a file to the start of the output, and nothing past its bytes, whose number it gives:
+    /// RFC 4180 records, each a line that CR LF ends, the last one too. The first line is `account,total`; then comes a
+    /// line for each row of [`Table::listing_into`], in its order: the account's number, a comma, and the total, which
+    /// is in cents, in units with two decimals, as -12.05 for -1205, 0.07 for 7, -0.07 for -7 and 0.00 for 0. No field
+    /// has quotes. A line determines its account and its total. Refuses with `Strange`, `Narrow`, in this order. It
+    /// takes about 50 kB of stack.
+    ///
+    /// A file has [`TOTALS_EXPORT_HEADER`](raw::TOTALS_EXPORT_HEADER) bytes, and for each row
+    /// [`TOTALS_EXPORT_ROW`](raw::TOTALS_EXPORT_ROW) more at most.
+    ///
+    /// ```
+    /// use totals::{Answer, Owned, Ran, Refusal, Settings};
+    /// let mut owned = Owned::new(Settings::new(1, 2, 1)?)?;
+    /// let mut table = owned.table();
+    /// table.insert(0, 1000, -1205)?;
+    /// assert_eq!(table.run(0, 99)?, Ran::Answered { answer: Answer::Added, steps: 13, check: 1 });
+    /// let mut out = [b'?'; 30];
+    /// assert_eq!(table.export_into(&mut out)?, 28);
+    /// assert_eq!(&out, b"account,total\r\n1000,-12.05\r\n??");
+    /// assert_eq!(table.export_into(&mut out[..27]), Err(Refusal::Narrow));
+    /// # Ok::<(), Refusal>(())
+    /// ```
+    pub fn export_into(&self, out: &mut [u8]) -> Result<usize, Refusal> {
+        let mut report = [0; 1];
+        // SAFETY: the pointers and the lengths are those of three slices that are borrowed for the call.
+        let number = unsafe {
+            raw::totals_export(
+                self.words.as_ptr(),
+                self.words.len(),
+                out.as_mut_ptr(),
+                out.len(),
+                report.as_mut_ptr(),
+                report.len(),
+            )
+        };
+        done(number)?;
+        Ok(report[0] as usize)
+    }
+
+    /// The file of [`Table::export_into`]. Refuses with `Strange`.
+    ///
+    /// ```
+    /// use totals::{Answer, Owned, Ran, Settings};
+    /// let mut owned = Owned::new(Settings::new(1, 4, 0)?)?;
+    /// let mut table = owned.table();
+    /// for (account, total) in [(1002, i64::MIN), (1001, 7), (1000, -7)] {
+    ///     table.insert(0, account, total)?;
+    ///     assert_eq!(table.run(0, 99)?, Ran::Answered { answer: Answer::Added, steps: 13, check: 1 });
+    /// }
+    /// let rows = "1000,-0.07\r\n1001,0.07\r\n1002,-92233720368547758.08\r\n";
+    /// assert_eq!(table.export()?, format!("account,total\r\n{rows}").as_bytes());
+    /// # Ok::<(), totals::Refusal>(())
+    /// ```
+    pub fn export(&self) -> Result<Vec<u8>, Refusal> {
+        // never `Narrow`: also words from elsewhere, where they are not strange, have no longer file than this, by the
+        // theorem `long-enough` of crates/export/specs/Export
+        let mut file = vec![0; Self::GREATEST_EXPORT];
+        let size = self.export_into(&mut file)?;
+        file.truncate(size);
+        Ok(file)
     }
 }
 

@@ -81,6 +81,7 @@ fn kind(c: &str) -> &'static str {
         "size_t" => "usize",
         "uint64_t *" => "*mut u64",
         "uint32_t *" => "*mut u32",
+        "uint8_t *" => "*mut u8",
         "int64_t *" => "*mut i64",
         "const uint64_t *" => "*const u64",
         other => panic!("{other} is no kind of the header"),
@@ -118,7 +119,7 @@ fn header() -> Vec<Function> {
 
 #[test]
 fn header_and_source() {
-    assert_eq!(exported().len(), 10);
+    assert_eq!(exported().len(), 11);
     assert_eq!(header(), exported());
 }
 

@@ -2,7 +2,7 @@
 
 use std::path::{Path, PathBuf};
 use std::{collections::BTreeMap, fs, process::Command};
-use totals::{raw, rebate, Refusal, Settings, Table};
+use totals::{raw, rebate, Answer, Owned, Ran, Refusal, Settings, Table};
 
 /// A file or a folder of the repository.
 fn repository(path: &str) -> PathBuf {
@@ -33,7 +33,7 @@ fn raw_constants() -> BTreeMap<String, u64> {
 #[test]
 fn constants_of_raw() {
     let (mut header, raw) = (constants(), raw_constants());
-    assert_eq!(raw.len(), 28);
+    assert_eq!(raw.len(), 31);
     header.retain(|name, _| raw.contains_key(name));
     assert_eq!(raw, header);
 }
@@ -69,6 +69,23 @@ fn refusals_and_limits() -> Result<(), Refusal> {
     assert_eq!(header["LEAST_WORDS"], needed("LEAST")?.words_needed() as u64);
     assert_eq!(header["GREATEST_WORDS"], needed("GREATEST")?.words_needed() as u64);
     assert_eq!(header["GREATEST_COUNT"], Table::GREATEST_COUNT as u64);
+    Ok(())
+}
+
+/// A file without rows has the first line alone, and one with the greatest account and the lowest total the longest
+/// row's too.
+#[test]
+fn bytes_of_an_exported_file() -> Result<(), Refusal> {
+    let header = constants();
+    let (first, row) = (header["EXPORT_HEADER"], header["EXPORT_ROW"]);
+    let mut owned = Owned::new(Settings::new(1, 2, 0)?)?;
+    let mut table = owned.table();
+    assert_eq!(table.export()?.len() as u64, first);
+    table.insert(0, u32::MAX, i64::MIN)?;
+    assert_eq!(table.run(0, 99)?, Ran::Answered { answer: Answer::Added, steps: 13, check: 1 });
+    assert_eq!(table.export()?.len() as u64, first + row);
+    assert_eq!(header["GREATEST_EXPORT"], first + row * header["GREATEST_COUNT"]);
+    assert_eq!(header["GREATEST_EXPORT"], Table::GREATEST_EXPORT as u64);
     Ok(())
 }
 

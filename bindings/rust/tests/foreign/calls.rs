@@ -6,8 +6,10 @@ use crate::listing::{listed_words, rebate_rows, sorted_rows};
 use crate::words::{any_account, any_total, any_word, bucket_swaps, directory_swaps};
 use crate::words::{posted_from, settled_from, steps_at_checks};
 use model::cents::band;
+use model::export::{export as exported, file};
 use model::prng::Prng;
 use model::rebate::BANDS;
+use model::rows::{class, CLASSES};
 use same::capi::capi as source;
 use same::capi::fields::*;
 use same::capi::interface::{Settings, ANSWER_CROWDED, GREATEST_KIND, KIND_INSERT, KIND_LOOKUP};
@@ -16,7 +18,7 @@ use same::capi::layout::shape::{settings_of, strange_words};
 use totals::raw::{self, TOTALS_ADDED, TOTALS_GREATEST_CHECK, TOTALS_GREATEST_RUN as RUN, TOTALS_IDLE, TOTALS_MOVED};
 use totals::raw::{TOTALS_NARROW, TOTALS_OK, TOTALS_OVERRUN, TOTALS_POSTED, TOTALS_SETTINGS, TOTALS_STRANGE};
 
-const NAMES: [&str; 7] = ["words_needed", "open", "call", "step", "run", "list", "rebates"];
+const NAMES: [&str; 8] = ["words_needed", "open", "call", "step", "run", "list", "rebates", "export"];
 
 /// What an answer tells: steps, total and check.
 pub type Told = [u64; 3];
@@ -26,7 +28,7 @@ pub type Told = [u64; 3];
 /// that was full at the greatest depth, how many a bucket swap settled as crowded, and how many with another answer; of
 /// runs, how many were held against single steps; of listings, in how many an account came again with another total,
 /// and in how many one had more than 32 bits; of rebates that were given, how many were on a total that is not above 0,
-/// and in each band.
+/// and in each band; of totals that were exported, how many were of each class.
 #[derive(Default)]
 pub struct Figures {
     counts: [[u64; TOTALS_OVERRUN as usize + 1]; NAMES.len()],
@@ -39,6 +41,7 @@ pub struct Figures {
     pub repeated: u64,
     pub wide: u64,
     pub bands: [u64; BANDS.len() + 1],
+    pub classes: [u64; CLASSES],
 }
 
 impl Figures {
@@ -113,14 +116,22 @@ impl Figures {
         }
     }
 
-    pub fn print(&self, class: &str) {
-        println!("{class}: {} calls; updates answered by each check {:?}", self.calls(), self.checks);
+    /// Counts the totals that were exported.
+    fn add_export(&mut self, rows: &[(u32, i64)]) {
+        for (_, total) in rows {
+            self.classes[class(*total)] += 1;
+        }
+    }
+
+    pub fn print(&self, title: &str) {
+        println!("{title}: {} calls; updates answered by each check {:?}", self.calls(), self.checks);
         println!(
             "  steps that carried out {}, that split {}; among neighbours crowded {}, corrected {}; runs compared {}",
             self.carried, self.split, self.crowded, self.corrected, self.compared
         );
         println!("  listings with an account twice {}, with one of more than 32 bits {}", self.repeated, self.wide);
         println!("  rebates on totals up to 0, and in each band {:?}", self.bands);
+        println!("  totals exported, by class {:?}", self.classes);
         for (name, counts) in NAMES.iter().zip(&self.counts) {
             let given: Vec<String> =
                 (0..).zip(counts).filter(|(_, n)| **n > 0).map(|(k, n)| format!("{k}: {n}")).collect();
@@ -256,6 +267,29 @@ impl<'a> Trial<'a> {
         number
     }
 
+    /// The export, into an output that is too short, fits, or is up to two bytes longer: the second model's file of the
+    /// rows that the words tell. The source gives the same.
+    pub fn export(&mut self) -> u64 {
+        let told = |words: &[u64]| sorted_rows(&listed_words(words));
+        let rows = (!strange_words(self.words())).then(|| told(self.words()));
+        let size = file(rows.as_deref().unwrap_or_default()).len();
+        let length = match self.prng.below(8) {
+            0 => size - 1,
+            1 => self.prng.place(size),
+            _ => size + self.prng.place(3),
+        };
+        let mut out = vec![0; length];
+        let want = exported(rows.as_deref(), &mut out).map(|size| out[..size].to_vec()).map_err(u64::from);
+        assert_eq!(export(self.words(), length), want);
+        let report = self.report();
+        let number = lent::export(&self.words, length, report, want);
+        self.figures.add("export", number);
+        if number == TOTALS_OK {
+            self.figures.add_export(&rows.unwrap_or_default());
+        }
+        number
+    }
+
     /// Of each of two lists, how many places it has: a place too few for so many rows, as many, or up to two more.
     fn places(&mut self, count: usize) -> [usize; 2] {
         let mut places = || (count + self.prng.place(3)).saturating_sub(usize::from(self.prng.one_in(4)));
@@ -288,6 +322,7 @@ impl<'a> Trial<'a> {
         match self.prng.below(16) {
             0 if self.prng.one_in(lists) => self.list(),
             1 if self.prng.one_in(lists) => self.rebates(),
+            2 if self.prng.one_in(lists) => self.export(),
             0..=3 => self.any_operation(worker),
             4 => {
                 let most = self.prng.one_of(&[0, 1, 2, 9, 60, RUN - 1, RUN, RUN + 1, u64::MAX]);
@@ -319,6 +354,15 @@ fn rebates(w: &[u64], [account_places, rebate_places]: [usize; 2]) -> Result<Vec
     let (mut accounts, mut rebates, mut report) = (vec![0; account_places], vec![0; rebate_places], [0]);
     match source::same_totals_rebates(w, &mut accounts, &mut rebates, &mut report) {
         TOTALS_OK => Ok(accounts.into_iter().zip(rebates).take(report[0] as usize).collect()),
+        number => Err(number),
+    }
+}
+
+/// The file that the source exports into an output of so many bytes, or the refusal's number.
+fn export(w: &[u64], length: usize) -> Result<Vec<u8>, u64> {
+    let (mut out, mut report) = (vec![0; length], [0]);
+    match source::same_totals_export(w, &mut out, &mut report) {
+        TOTALS_OK => Ok(out[..report[0] as usize].to_vec()),
         number => Err(number),
     }
 }

@@ -1,4 +1,4 @@
-//! A slice to lend, with guards on both sides; and a listing or rebates over such slices.
+//! A slice to lend, with guards on both sides; and a listing, rebates or an export over such slices.
 
 use totals::raw::{self, TOTALS_OK};
 
@@ -86,6 +86,26 @@ fn written<T: Copy + PartialEq + From<u8>>(
     }
     assert!(accounts.intact() && items.intact(), "a place outside the lists was written");
     assert!(accounts.items() == want_accounts && items.items() == want_items, "other rows");
+    assert!(words.intact() && words.items() == kept, "a word has changed");
+    number
+}
+
+/// The export into an output of so many bytes, held against the file or the refusal that is to come.
+pub fn export(words: &Lent<u64>, length: usize, mut report: Lent<u64>, want: Result<Vec<u8>, u64>) -> u64 {
+    let mut want_bytes = vec![b'?'; length];
+    let mut out = Lent::new(&want_bytes, b'!');
+    let (before, kept) = (report.items().to_vec(), words.items().to_vec());
+    let (w, o, r) = (words.items(), out.items_mut(), report.items_mut());
+    let (o_at, r_at) = (o.as_mut_ptr(), r.as_mut_ptr());
+    let number = unsafe { raw::totals_export(w.as_ptr(), w.len(), o_at, o.len(), r_at, r.len()) };
+    assert_eq!(number, want.as_ref().err().copied().unwrap_or(TOTALS_OK));
+    let size = want.as_ref().map(|file| vec![file.len() as u64]).unwrap_or_default();
+    told(&report, before, &size);
+    if let Ok(file) = &want {
+        want_bytes[..file.len()].copy_from_slice(file);
+    }
+    assert!(out.intact(), "a byte outside the output was written");
+    assert!(out.items() == want_bytes, "another file");
     assert!(words.intact() && words.items() == kept, "a word has changed");
     number
 }

@@ -9,6 +9,7 @@ mod words;
 use calls::{rows, Figures, Trial};
 use lent::Lent;
 use listing::rebate_rows;
+use model::export::file;
 use model::prng::Prng;
 use same::capi::fields::{RECORD_ACCOUNTS, RECORD_COUNT, WIDEST_RECORD, WORKER_KIND};
 use same::capi::interface::{Settings, KIND_INSERT, KIND_NONE};
@@ -18,7 +19,7 @@ use totals::raw::*;
 use totals::{place, Table};
 use words::{any_word, steps_at_checks, words_needed};
 
-/// What calls give over words of any kind, and what the listing and the rebates do.
+/// What calls give over words of any kind, and what the listing, the rebates and the export do.
 const CALLED: [u64; 6] = [TOTALS_OK, TOTALS_STRANGER, TOTALS_BUSY, TOTALS_KIND, TOTALS_SPENT, TOTALS_STRANGE];
 const LISTED: [u64; 3] = [TOTALS_OK, TOTALS_STRANGE, TOTALS_NARROW];
 /// What steps give where nothing ends.
@@ -71,6 +72,7 @@ fn random_words() {
     gave(&figures, "step", &[&UNENDED[..], &UPDATED, &LOOKED_UP].concat());
     gave(&figures, "list", &LISTED);
     gave(&figures, "rebates", &LISTED);
+    gave(&figures, "export", &LISTED);
     assert!(figures.carried > 1000 && figures.split > 100 && figures.compared > 1000);
     assert!(figures.crowded > 100 && figures.corrected > 100);
     assert!(figures.checks.iter().all(|updates| *updates > 100));
@@ -92,11 +94,13 @@ fn damaged_tables() {
     gave(&figures, "run", &stepped);
     gave(&figures, "list", &LISTED);
     gave(&figures, "rebates", &LISTED);
+    gave(&figures, "export", &LISTED);
     assert!(figures.carried > 1000 && figures.split > 1000 && figures.compared > 10_000);
     assert!(figures.crowded > 100 && figures.corrected > 100);
     assert!(figures.checks.iter().all(|updates| *updates > 100));
     assert!(figures.repeated > 100 && figures.wide > 100);
     assert!(figures.bands.iter().all(|totals| *totals > 100));
+    assert!(figures.classes.iter().all(|totals| *totals > 100));
 }
 
 #[test]
@@ -109,6 +113,7 @@ fn misleading_words() {
     gave(&figures, "step", &[&UNENDED[..], &LOOKED_UP, &[TOTALS_CROWDED]].concat());
     gave(&figures, "list", &LISTED);
     gave(&figures, "rebates", &LISTED);
+    gave(&figures, "export", &LISTED);
     assert!(figures.carried > 1000 && figures.split > 100 && figures.compared > 1000);
     assert!(figures.crowded > 100 && figures.corrected > 100);
     assert!(figures.checks.iter().all(|updates| *updates > 100));
@@ -131,6 +136,7 @@ fn tables_that_nothing_damaged_are_never_strange() {
     assert!(figures.carried > 1000 && figures.split > 100);
     assert!(figures.crowded > 100 && figures.corrected > 100);
     assert!(figures.bands.iter().all(|totals| *totals > 100));
+    assert!(figures.classes.iter().all(|totals| *totals > 100));
 }
 
 /// The steps and the checks that an answer may come with: of one worker's update the first two.
@@ -146,11 +152,12 @@ fn ends(s: Settings, number: u64) -> Vec<(u64, u64)> {
 fn undamaged_call(trial: &mut Trial, s: Settings, prng: &mut Prng) {
     let worker = prng.below(s.workers);
     let idle = trial.words()[worker_at(s, worker as usize) + WORKER_KIND] == KIND_NONE;
-    let number = match prng.below(41) {
+    let number = match prng.below(42) {
         0 => trial.list(),
         1 => trial.rebates(),
-        2 => trial.any_operation(worker),
-        3..=31 if idle => trial.any_operation(worker),
+        2 => trial.export(),
+        3 => trial.any_operation(worker),
+        4..=32 if idle => trial.any_operation(worker),
         _ => {
             let (number, told) = trial.step(worker);
             let told = told.map(|[steps, _, check]| (steps, check));
@@ -164,16 +171,20 @@ fn undamaged_call(trial: &mut Trial, s: Settings, prng: &mut Prng) {
     assert!(rows.len() <= (s.capacity << s.depth) as usize);
 }
 
-/// The words are listed in these rows, and with their rebates in the same order; also into lists that are longer, of
-/// which the rest stays.
+/// The words are listed in these rows, and with their rebates in the same order, and exported as their file; also into
+/// lists and an output that are longer, of which the rest stays.
 fn shows(w: &mut [u64], rows: &[(u32, i64)]) {
-    let rebates = rebate_rows(rows);
+    let (rebates, file) = (rebate_rows(rows), file(rows));
     assert_eq!(Table::over(w).listing().as_deref(), Ok(rows));
     assert_eq!(Table::over(w).rebates().as_ref(), Ok(&rebates));
+    assert_eq!(Table::over(w).export().as_ref(), Ok(&file));
     let (words, count) = (Lent::new(w, 9), rows.len());
     for places in [[count, count], [count + 2, count + 1]] {
         assert_eq!(lent::list(&words, places, Lent::new(&[1, 2], 9), Ok(rows.to_vec())), TOTALS_OK);
         assert_eq!(lent::rebates(&words, places, Lent::new(&[1, 2], 9), Ok(rebates.clone())), TOTALS_OK);
+    }
+    for length in [file.len(), file.len() + 2] {
+        assert_eq!(lent::export(&words, length, Lent::new(&[1, 2], 9), Ok(file.clone())), TOTALS_OK);
     }
 }
 
@@ -205,7 +216,8 @@ fn zeros_are_strange() {
         let w = vec![0; length];
         let mut trial = Trial::new(&w, &mut prng, &mut figures);
         let stepped = [trial.call(0, KIND_INSERT, 5, 700), trial.step(0).0, trial.run(0, 9)];
-        assert_eq!((stepped, trial.list(), trial.rebates()), ([TOTALS_STRANGE; 3], TOTALS_STRANGE, TOTALS_STRANGE));
+        let listed = [trial.list(), trial.rebates(), trial.export()];
+        assert_eq!((stepped, listed), ([TOTALS_STRANGE; 3], [TOTALS_STRANGE; 3]));
     }
     figures.print("zeros");
 }

@@ -3,6 +3,7 @@
 use crate::calls::{Figures, Trial};
 use model::cents;
 use model::prng::Prng;
+use model::rows;
 use model::starts::EDGES;
 use same::capi::fields::*;
 use same::capi::interface::{Settings, ANSWER_OVERRUN, GREATEST_KIND, GREATEST_TICKET};
@@ -34,13 +35,15 @@ pub fn any_account(prng: &mut Prng) -> u32 {
     })
 }
 
-/// Words of totals: small ones, so that many sums are totals, those at the ends, so that others are not, those that the
-/// rebate is tried on, and any.
+/// Words of totals: small ones and some about 0, so that many sums are totals, those at the ends, so that others are
+/// not, those that the rebate and the export are tried on, and any.
 pub fn any_total(prng: &mut Prng) -> u64 {
-    match prng.below(5) {
-        0 | 1 => prng.one_of(&[i64::MIN, i64::MAX]) as u64,
-        2 => prng.draw(),
-        3 => cents::any_total(prng) as u64,
+    match prng.below(8) {
+        0..=2 => prng.one_of(&[i64::MIN, i64::MAX]) as u64,
+        3 => prng.draw(),
+        4 => cents::any_total(prng) as u64,
+        5 => rows::any_total(prng) as u64,
+        6 => prng.below(21).wrapping_sub(10),
         _ => prng.below(2001).wrapping_sub(1000),
     }
 }

@@ -92,6 +92,11 @@ impl Interface for Flat {
         lent::rebates(&self.words, [accounts, rebates], report, want.map_err(u64::from));
     }
 
+    fn export(&mut self, length: usize, want: Result<Vec<u8>, u8>) {
+        let report = self.report();
+        lent::export(&self.words, length, report, want.map_err(u64::from));
+    }
+
     fn words(&mut self) -> &mut [u64] {
         self.words.items_mut()
     }

@@ -1,7 +1,7 @@
-//! Random orders of calls, single steps, runs, listings and rebates by the safe interface and by the C functions, held
-//! against the second model: every refusal, answer, step count, check and listing is the model's, and rebates are the
-//! model's on its listing. Some start with last tickets set, in the words and in the model alike. Damaged words are the
-//! business of `foreign`.
+//! Random orders of calls, single steps, runs, listings, rebates and exports by the safe interface and by the C
+//! functions, held against the second model: every refusal, answer, step count, check and listing is the model's,
+//! rebates are the model's on its listing, and exported files the model's of its listing, byte for byte. Some start
+//! with last tickets set, in the words and in the model alike. Damaged words are the business of `foreign`.
 mod flat;
 #[path = "../foreign/lent.rs"]
 mod lent;
@@ -11,17 +11,19 @@ mod tickets;
 
 use flat::Flat;
 use model::cents::band;
+use model::export::export;
 use model::machine::{Machine, Stepped};
 use model::prng::Prng;
 use model::rebate::{rebate, BANDS};
 use model::records::{Answer, GREATEST_TICKET, KIND_DELETE, KIND_INSERT, KIND_LOOKUP, KIND_POST};
+use model::rows::{class, CLASSES};
 use model::starts::EDGES;
 use orders::{Entry, Orders};
 use safe::Safe;
 use std::collections::BTreeSet;
 use tickets::last_ticket;
-use totals::account_at;
 use totals::raw::*;
+use totals::{account_at, Table};
 
 /// Accounts with their totals, or with rebates.
 pub type Rows<T = i64> = Vec<(u32, T)>;
@@ -91,6 +93,7 @@ pub trait Interface {
     fn run(&mut self, worker: u64, most: u64, want: Outcome);
     fn list(&mut self, accounts: usize, totals: usize, want: Result<Rows, u8>);
     fn rebates(&mut self, accounts: usize, rebates: usize, want: Result<Rows<u64>, u8>);
+    fn export(&mut self, length: usize, want: Result<Vec<u8>, u8>);
     fn words(&mut self) -> &mut [u64];
 }
 
@@ -105,6 +108,8 @@ struct Pair<I> {
     passed: [u64; EDGES.len()],
     /// How many rebates there were on totals that are not above 0, and in each band.
     bands: [u64; BANDS.len() + 1],
+    /// How many totals of each class were exported.
+    classes: [u64; CLASSES],
     /// Of the order under way.
     seed: u64,
 }
@@ -118,13 +123,13 @@ impl<I> Drop for Pair<I> {
     }
 }
 
-const NAMES: [&str; 6] = ["open", "call", "step", "run", "list", "rebates"];
+const NAMES: [&str; 7] = ["open", "call", "step", "run", "list", "rebates", "export"];
 
 impl<I: Interface> Pair<I> {
     fn new(table: I) -> Pair<I> {
         let machine = Machine::open(1, 2, 0, 162).expect("the least settings");
-        let (counts, checks, passed, bands) = Default::default();
-        let mut pair = Pair { table, machine, counts, checks, passed, bands, seed: 0 };
+        let (counts, checks, passed, bands, classes) = Default::default();
+        let mut pair = Pair { table, machine, counts, checks, passed, bands, classes, seed: 0 };
         pair.enter(Entry::Open([1, 2, 0], 162));
         pair
     }
@@ -154,6 +159,7 @@ impl<I: Interface> Pair<I> {
             }
             Entry::List(accounts, totals) => (4, self.list(accounts, totals)),
             Entry::Rebates(accounts, rebates) => (5, self.rebates(accounts, rebates)),
+            Entry::Export(length) => (6, self.export(length)),
         };
         self.counts[name][number as usize] += 1;
     }
@@ -174,6 +180,18 @@ impl<I: Interface> Pair<I> {
         }
         let want = listing.map(|rows| rows.into_iter().map(|(account, total)| (account, rebate(total))).collect());
         self.table.rebates(accounts, rebates, want);
+        number
+    }
+
+    /// The model's file of the model's listing.
+    fn export(&mut self, length: usize) -> u64 {
+        let (items, mut out) = (self.machine.items(), vec![0; length]);
+        let want = export(Some(&items), &mut out).map(|size| out[..size].to_vec());
+        let number = number_of(&want);
+        for (_, total) in items.iter().filter(|_| want.is_ok()) {
+            self.classes[class(*total)] += 1;
+        }
+        self.table.export(length, want);
         number
     }
 
@@ -236,6 +254,7 @@ impl<I: Interface> Pair<I> {
     fn print(&self, title: &str) {
         println!("{title}: {} calls; updates answered by each check {:?}", self.calls(), self.checks);
         println!("  rebates on totals up to 0, and in each band {:?}", self.bands);
+        println!("  totals exported, by class {:?}", self.classes);
         for (name, counts) in NAMES.iter().zip(&self.counts) {
             let given: Vec<String> =
                 (0..).zip(counts).filter(|(_, n)| **n > 0).map(|(k, n)| format!("{k}: {n}")).collect();
@@ -300,7 +319,9 @@ fn random_orders(title: &str, table: impl Interface, seeds: u64, any_kind: bool)
     pair.gave("run", &STEPPED);
     pair.gave("list", &[TOTALS_OK, TOTALS_NARROW]);
     pair.gave("rebates", &[TOTALS_OK, TOTALS_NARROW]);
+    pair.gave("export", &[TOTALS_OK, TOTALS_NARROW]);
     assert!(pair.bands.iter().all(|totals| *totals > 100), "{:?}", pair.bands);
+    assert!(pair.classes.iter().all(|totals| *totals > 100), "{:?}", pair.classes);
 }
 
 /// A call of a worker by one of these kinds, of an account whose place has any two first bits.
@@ -331,6 +352,7 @@ fn until_spent(title: &str, table: impl Interface) {
     pair.enter(Entry::Run(0, 2));
     pair.enter(Entry::List(12, 12));
     pair.enter(Entry::Rebates(12, 12));
+    pair.enter(Entry::Export(Table::GREATEST_EXPORT));
     pair.print(title);
     let spent = pair.counts[1][TOTALS_SPENT as usize];
     assert_eq!((spent, pair.tickets()[0]), (more, GREATEST_TICKET));

@@ -1,7 +1,8 @@
-//! Random orders: every setting, workers parked for long, calls that are refused, lists of any length; all a function
-//! of the seed.
+//! Random orders: every setting, workers parked for long, calls that are refused, lists and outputs of any length; all
+//! a function of the seed.
 
 use model::cents;
+use model::export::file;
 use model::lines::Line;
 use model::machine::Machine;
 use model::prng::Prng;
@@ -9,8 +10,8 @@ use model::random::Generator;
 use model::records::{KIND_DELETE, KIND_INSERT, KIND_LOOKUP, KIND_POST};
 use model::settings::Settings;
 use model::starts::EDGES;
-use totals::account_at;
 use totals::raw::TOTALS_GREATEST_RUN as RUN;
+use totals::{account_at, Table};
 
 /// One entry of an order.
 pub enum Entry {
@@ -29,6 +30,8 @@ pub enum Entry {
     List(usize, usize),
     /// Places in the accounts list, and in the rebates list.
     Rebates(usize, usize),
+    /// Bytes of the output.
+    Export(usize),
 }
 
 pub struct Orders {
@@ -154,13 +157,13 @@ impl Orders {
             true => self.prng.pick(&[workers, workers + 1, 1 << 32, u64::MAX]).unwrap_or(workers),
             false => self.prng.below(workers),
         };
-        match self.prng.below(8) {
+        match self.prng.below(9) {
             0 => Entry::Open(wrong_settings(&mut self.prng), machine.settings.words() as usize),
             1 => {
                 let settings = any_settings(&mut self.prng);
                 Entry::Open(numbers(settings), self.prng.below(settings.words().min(machine.settings.words())) as usize)
             }
-            2 => self.list(machine),
+            2 | 8 => self.list(machine),
             3 => Entry::Step(worker),
             4 => Entry::Run(worker, self.prng.pick(&[0, 1, RUN - 1, RUN, RUN + 1, u64::MAX]).unwrap_or(0)),
             5 if self.any_kind => match self.call(worker) {
@@ -173,19 +176,27 @@ impl Orders {
         }
     }
 
-    /// A listing or rebates, into lists that are a place too short, fit, are longer, or hold any listing.
+    /// A listing or rebates, into lists that are a place too short, fit, are longer, or hold any listing; or an export,
+    /// into an output of which the same can be said.
     fn list(&mut self, machine: &Machine) -> Entry {
-        let count = machine.items().len();
-        let mut places = || match self.prng.below(6) {
-            0 => count.saturating_sub(1),
-            1 => self.prng.below(count as u64 + 1) as usize,
-            2 => totals::Table::GREATEST_COUNT,
-            longer => count + longer as usize - 3,
-        };
-        let (accounts, items) = (places(), places());
-        match self.prng.percent(50) {
-            true => Entry::List(accounts, items),
-            false => Entry::Rebates(accounts, items),
+        let items = machine.items();
+        let mut places = || self.room(items.len(), Table::GREATEST_COUNT);
+        let lists = (places(), places());
+        match self.prng.below(3) {
+            0 => Entry::List(lists.0, lists.1),
+            1 => Entry::Rebates(lists.0, lists.1),
+            _ => Entry::Export(self.room(file(&items).len(), Table::GREATEST_EXPORT)),
+        }
+    }
+
+    /// A length for what takes so much: one less, any that is no greater, the most there is, this length, or one or two
+    /// more.
+    fn room(&mut self, length: usize, most: usize) -> usize {
+        match self.prng.below(6) {
+            0 => length.saturating_sub(1),
+            1 => self.prng.below(length as u64 + 1) as usize,
+            2 => most,
+            longer => length + longer as usize - 3,
         }
     }
 }

@@ -91,6 +91,18 @@ impl Interface for Safe {
         }
     }
 
+    fn export(&mut self, length: usize, want: Result<Vec<u8>, u8>) {
+        let table = Table::over(&mut self.words);
+        let mut out = vec![b'?'; length];
+        let size = numbered(table.export_into(&mut out));
+        let past = size.unwrap_or(0);
+        assert!(out[past..].iter().all(|byte| *byte == b'?'));
+        assert_eq!(size.map(|size| out[..size].to_vec()), want);
+        if want.is_ok() {
+            assert_eq!(numbered(table.export()), want);
+        }
+    }
+
     fn words(&mut self) -> &mut [u64] {
         &mut self.words
     }
