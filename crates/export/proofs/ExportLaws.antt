@@ -77,7 +77,8 @@ module _ (l out : List ℕ) (long : longestFile ≤ length out) where
   unfolding written
   written-wide passed =
       if-elim Wide (ltb (length out) (length (csvFile (rows l (shapeOf l))))) _ _
-      (λ short _. let h = ltb-true (length out) _ short in omega (arith, file-within l passed)) (λ _ e. let z : _≡_ {A = ℕ} 0 1 = cc in omega arith)
+      (λ short _. let h = ltb-true (length out) _ short in omega (arith, file-within l passed))
+      (λ _ e. let z : _≡_ {A = ℕ} 0 1 = cc in omega arith)
 
   long-enough : Wide (exportWords l out)
   unfolding exportWords

@@ -82,7 +82,8 @@ pub fn listed_number(report: &mut [u64], answer: Listed) -> u64
 
 // 0 and the bytes reported, or the refusal.
 pub fn exported_number(report: &mut [u64], answer: Exported) -> u64
-    ensures { λ r. ⌜ (now (report .exit) ≡ exportedReport (now (report .entry)) answer) × (r ≡ exportedNumber answer) ⌝ }
+    ensures { λ r. ⌜ (now (report .exit) ≡ exportedReport (now (report .entry)) answer)
+        × (r ≡ exportedNumber answer) ⌝ }
 {
     match answer {
         Exported::Bytes(k) => {
