@@ -1,7 +1,8 @@
 #!/usr/bin/env bash
 # The whole table beside the same source compiled as Rust, a hand-written twin and a locked map: instructions an
-# operation, an account of a listing and of rebates, and a rebate alone, and time ratios. callgrind counts inside the
-# compared functions only, so that the driver's loop is not in it. Needs rt, cargo and valgrind.
+# operation, an account of a listing, of rebates and of an export, which stands beside a loop of write!, and a rebate
+# alone, and time ratios. callgrind counts inside the compared functions only, so that the driver's loop is not in it.
+# Needs rt, cargo and valgrind.
 set -euo pipefail
 cd "$(dirname "$0")/.."
 folder=$(mktemp -d)
@@ -12,9 +13,10 @@ cargo build --release --offline --quiet --manifest-path bench/Cargo.toml --bin t
 # a line a case: work, workers, side, instructions an operation, an account or a total
 counted() {
   local options=() symbol work workers side operations i=0
-  for symbol in totals_call totals_step totals_run totals_list 'totals_rebate*' '*same_totals_call*' \
-    '*same_totals_step*' '*same_totals_run*' '*same_totals_list*' '*same_totals_rebate*' '*Twin::call*' \
-    '*Twin::step*' '*Twin::run*' '*Twin::rows*' '*Twin::rebate*' '*Map::operate*' '*sort_rows*'; do
+  for symbol in totals_call totals_step totals_run totals_list 'totals_rebate*' totals_export '*same_totals_call*' \
+    '*same_totals_step*' '*same_totals_run*' '*same_totals_list*' '*same_totals_rebate*' '*same_totals_export*' \
+    '*Twin::call*' '*Twin::step*' '*Twin::run*' '*Twin::rows*' '*Twin::rebate*' '*Map::operate*' '*sort_rows*' \
+    '*write_rows*'; do
     options+=("--toggle-collect=$symbol")
   done
   valgrind --tool=callgrind --callgrind-out-file="$folder/dump" --collect-atstart=no "${options[@]}" \
@@ -49,24 +51,38 @@ table() {
     }'
 }
 
-# listings PREFIX SIDES: the works whose names begin so as a table, a row for each number of accounts
+# listings PREFIX FORMAT SIDES RATIOS: the works whose names begin so as a table, a row for each number of accounts
 listings() {
-  awk -v prefix="$1" -v names="$2" '
+  awk -v prefix="$1" -v format="$2" -v names="$3" -v asked="$4" '
     !sub("^" prefix, "", $1) { next }
     { value[$1, $3] = $4; if (!($1 in seen)) { seen[$1] = 1; rows[++count] = $1 } }
     END {
       sides = split(names, side)
+      ratios = split(asked, ratio)
       printf "%-9s", "accounts"
       for (i = 1; i <= sides; i++) printf " %9s", side[i]
-      printf " %10s %10s\n", "table:same", "table:twin"
+      for (i = 1; i <= ratios; i++) printf " %11s", ratio[i]
+      print ""
       for (r = 1; r <= count; r++) {
         row = rows[r]
         printf "%-9s", row
-        for (i = 1; i <= sides; i++) printf " %9.0f", value[row, side[i]]
-        printf " %10.2f %10.2f\n", value[row, "table"] / value[row, "same"], value[row, "table"] / value[row, "twin"]
+        for (i = 1; i <= sides; i++) printf " %9" format, value[row, side[i]]
+        for (i = 1; i <= ratios; i++) {
+          split(ratio[i], of, ":")
+          printf " %11.2f", value[row, of[1]] / value[row, of[2]]
+        }
+        print ""
       }
     }'
 }
+
+# of an export also what its text takes, which is all but the listing
+texts() {
+  awk '{ print; of[$1, $3] = $4 } /^export-/ && $3 == "list" { print $1, $2, "text", of[$1, "table"] - $4 }'
+}
+
+# nanoseconds an account of an export, after its bytes, as bytes a second, in millions
+speeds() { awk '$3 == "bytes" { bytes = $4; next } sub("^export-", "speed-") { $4 = 1000 * bytes / $4; print }'; }
 
 # what is asked for, beside what was counted
 goals() {
@@ -107,11 +123,25 @@ echo "lookup by single steps at M 0, 4, 8, 4 accounts in each bucket: $depths"
 echo
 printf '%s' 'instructions an account of a listing, n 1, b 16, M 8 '
 echo '(16 and 1,000 accounts from 1000 up, 4,096 evenly spread; sort: sort_unstable of the same rows alone)'
-listings listing- 'table same twin sort' <"$folder/counts"
+listings listing- .0f 'table same twin sort' 'table:same table:twin' <"$folder/counts"
 echo
 printf '%s' 'instructions an account of the rebates, the same accounts, totals of all four bands and negative ones '
 echo '(alone: one rebate a call, a total of the 4,096; table and same first zero 48 kB, an instruction a byte)'
-listings rebates- 'table same twin' <"$folder/counts"
+listings rebates- .0f 'table same twin' 'table:same table:twin' <"$folder/counts"
+echo
+printf '%s' 'instructions an account of an export, the same accounts, totals of both signs and of up to 12 digits '
+printf '%s' '(write: the listing of table, then a loop of write!; list, loop: these alone; twin: its listing, then the '
+echo 'loop; text: table less list; table, same and text are with 48 kB that are first zeroed, an instruction a byte)'
+columns='table same twin write list text loop'
+texts <"$folder/counts" | listings export- .0f "$columns" 'table:same table:write text:loop'
+bench/target/release/table time | texts >"$folder/times"
+echo
+printf '%s' 'bytes and nanoseconds an account of an export, one run, the least of nine rounds '
+echo '(list too has 48 kB zeroed, so that text has not)'
+listings export- .1f "bytes $columns" 'table:same table:write text:loop' <"$folder/times"
+echo
+echo "millions of bytes a second of an export, by the same times"
+speeds <"$folder/times" | listings speed- .0f 'table same twin write text loop' 'table:write text:loop'
 echo
 echo "nanoseconds an operation, one run, the least of nine rounds"
-bench/target/release/table time | table .1f
+table .1f <"$folder/times"

@@ -30,6 +30,7 @@ pub const TOTALS_CROWDED: u64 = 25;
 pub const TOTALS_OVERRUN: u64 = 27;
 
 pub const TOTALS_GREATEST_COUNT: usize = 4096;
+pub const TOTALS_GREATEST_EXPORT: usize = 139_279;
 pub const TOTALS_GREATEST_RUN: u64 = 256;
 
 pub const RECORD_COUNT: usize = 0;

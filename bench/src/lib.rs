@@ -4,6 +4,7 @@ pub mod fields;
 pub mod leaf;
 pub mod places;
 pub mod sides;
+pub mod text;
 pub mod turns;
 pub mod twin;
 pub mod work;

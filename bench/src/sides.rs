@@ -1,10 +1,12 @@
 // The compared tables behind one trait, and a locked map.
 use crate::fields::*;
 use crate::same::capi::capi;
+use crate::text::write_rows;
 use crate::twin::{Answer, Kind, Stepped, Twin};
 use crate::work::Operation;
 use std::collections::HashMap;
 use std::hint::black_box;
+use std::iter::zip;
 use std::sync::Mutex;
 
 // TOTALS_MOVED, a refusal's number, or an answer's number with the steps of the operation, the total found or posted
@@ -45,6 +47,8 @@ pub trait Table {
     fn rows(&self) -> Vec<(u32, i64)>;
     fn rebates(&self) -> Vec<(u32, u64)>;
     fn rebate(total: i64) -> u64;
+    // the listing as a file at the start of the bytes: how many it takes
+    fn export(&self, out: &mut [u8]) -> usize;
 }
 
 extern "C" {
@@ -94,17 +98,39 @@ extern "C" {
         places: usize,
     ) -> u64;
     fn totals_rebate(total: i64) -> u64;
+    fn totals_export(
+        words: *const u64,
+        len: usize,
+        out: *mut u8,
+        out_len: usize,
+        report: *mut u64,
+        places: usize,
+    ) -> u64;
 }
 
 const PLACES: usize = TOTALS_GREATEST_COUNT;
 
-// The rows that are written to two lists, accounts and their totals or rebates, with the count in a report.
-fn written<T: Copy + Default>(
+// What is read from the rows that are written to two lists, accounts and their totals or rebates, with the count in a
+// report.
+fn written<T: Copy + Default, R>(
     write: impl FnOnce(&mut [u32], &mut [T], &mut [u64]) -> u64,
-) -> Vec<(u32, T)> {
+    read: impl FnOnce(&[u32], &[T]) -> R,
+) -> R {
     let (mut a, mut t, mut report) = ([0; PLACES], [T::default(); PLACES], [0; 2]);
     assert_eq!(write(&mut a, &mut t, &mut report), TOTALS_OK);
-    (0..report[0] as usize).map(|i| (a[i], t[i])).collect()
+    let count = report[0] as usize;
+    read(&a[..count], &t[..count])
+}
+
+fn pairs<T: Copy>(accounts: &[u32], beside: &[T]) -> Vec<(u32, T)> {
+    zip(accounts, beside).map(|(a, t)| (*a, *t)).collect()
+}
+
+// The bytes of a file that is written to an output, with their number in a report.
+fn filed(write: impl FnOnce(&mut [u64]) -> u64) -> usize {
+    let mut report = [0; 2];
+    assert_eq!(write(&mut report), TOTALS_OK);
+    report[0] as usize
 }
 
 // The proved library.
@@ -115,20 +141,38 @@ type Lists<T> =
     unsafe extern "C" fn(*const u64, usize, *mut u32, usize, *mut T, usize, *mut u64, usize) -> u64;
 
 impl Proved {
-    fn written<T: Copy + Default>(&self, lists: Lists<T>) -> Vec<(u32, T)> {
+    fn written<T: Copy + Default, R>(
+        &self,
+        lists: Lists<T>,
+        read: impl FnOnce(&[u32], &[T]) -> R,
+    ) -> R {
         let words = &self.0;
-        written(|a, t, report| unsafe {
-            lists(
-                words.as_ptr(),
-                words.len(),
-                a.as_mut_ptr(),
-                a.len(),
-                t.as_mut_ptr(),
-                t.len(),
-                report.as_mut_ptr(),
-                report.len(),
-            )
-        })
+        written(
+            |a, t, report| unsafe {
+                lists(
+                    words.as_ptr(),
+                    words.len(),
+                    a.as_mut_ptr(),
+                    a.len(),
+                    t.as_mut_ptr(),
+                    t.len(),
+                    report.as_mut_ptr(),
+                    report.len(),
+                )
+            },
+            read,
+        )
+    }
+
+    // Its listing alone.
+    pub fn list(&self) {
+        self.written(totals_list, |_, _| {})
+    }
+
+    // Its listing, and the file of that by a loop of `write!`: what its own export is measured beside.
+    pub fn list_and_write(&self, out: &mut [u8]) -> usize {
+        let file = |a: &[u32], t: &[i64]| write_rows(zip(a, t).map(|(a, t)| (*a, *t)), out);
+        self.written(totals_list, file)
     }
 }
 
@@ -185,15 +229,28 @@ impl Table for Proved {
     }
 
     fn rows(&self) -> Vec<(u32, i64)> {
-        self.written(totals_list)
+        self.written(totals_list, pairs)
     }
 
     fn rebates(&self) -> Vec<(u32, u64)> {
-        self.written(totals_rebates)
+        self.written(totals_rebates, pairs)
     }
 
     fn rebate(total: i64) -> u64 {
         unsafe { totals_rebate(total) }
+    }
+
+    fn export(&self, out: &mut [u8]) -> usize {
+        filed(|report| unsafe {
+            totals_export(
+                self.0.as_ptr(),
+                self.0.len(),
+                out.as_mut_ptr(),
+                out.len(),
+                report.as_mut_ptr(),
+                report.len(),
+            )
+        })
     }
 }
 
@@ -228,15 +285,25 @@ impl Table for Same {
     }
 
     fn rows(&self) -> Vec<(u32, i64)> {
-        written(|a, t, report| capi::same_totals_list(&self.0, a, t, report))
+        written(
+            |a, t, report| capi::same_totals_list(&self.0, a, t, report),
+            pairs,
+        )
     }
 
     fn rebates(&self) -> Vec<(u32, u64)> {
-        written(|a, t, report| capi::same_totals_rebates(&self.0, a, t, report))
+        written(
+            |a, t, report| capi::same_totals_rebates(&self.0, a, t, report),
+            pairs,
+        )
     }
 
     fn rebate(total: i64) -> u64 {
         capi::same_totals_rebate(total)
+    }
+
+    fn export(&self, out: &mut [u8]) -> usize {
+        filed(|report| capi::same_totals_export(&self.0, out, report))
     }
 }
 
@@ -293,6 +360,10 @@ impl Table for Twin {
 
     fn rebate(total: i64) -> u64 {
         Twin::rebate(total)
+    }
+
+    fn export(&self, out: &mut [u8]) -> usize {
+        write_rows(Twin::rows(self).into_iter(), out)
     }
 }
 

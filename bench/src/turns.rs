@@ -1,7 +1,7 @@
 // How operations are handed to the workers, and steps given to them.
 use crate::fields::{GREATEST_WORKERS, TOTALS_GREATEST_RUN, TOTALS_MOVED, TOTALS_OK};
 use crate::sides::{Map, Reply, Table};
-use crate::work::Operation;
+use crate::work::{Operation, Work};
 use std::hint::black_box;
 
 // One step a worker in turn; a worker takes the next operation as soon as its last is answered. Told: each operation's
@@ -46,6 +46,13 @@ pub fn by_run<T: Table>(
         assert_eq!(table.call(w, *o), TOTALS_OK);
         told(place, table.run(w, black_box(TOTALS_GREATEST_RUN)));
     }
+}
+
+// A table with the work's settings, filled.
+pub fn filled<T: Table>(w: &Work) -> T {
+    let mut table = T::open(w.workers, w.capacity, w.depth);
+    by_run(&mut table, w.workers, &w.filling, |_, _| {});
+    table
 }
 
 // Each operation on the map.

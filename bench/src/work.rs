@@ -167,13 +167,34 @@ pub fn total_in(band: usize, random: &mut Prng) -> i64 {
     to - random.below(to.abs_diff(above)) as i64
 }
 
-// The accounts of a listing with totals of all bands in turn.
-pub fn rebates(name: &'static str, count: u32) -> Work {
+// The accounts of a listing with other totals.
+fn with_totals(name: &'static str, count: u32, total: fn(usize, &mut Prng) -> i64) -> Work {
     let mut random = Prng::new(20261118);
     let mut w = listing(count);
     w.name = name;
     for (i, o) in w.filling.iter_mut().enumerate() {
-        o.total = total_in(i % 5, &mut random);
+        o.total = total(i, &mut random);
     }
     w
+}
+
+// With totals of all bands in turn.
+pub fn rebates(name: &'static str, count: u32) -> Work {
+    with_totals(name, count, |i, random| total_in(i % 5, random))
+}
+
+// A total of either sign, its size below 10, 100 and so on up to 10^12 equally often.
+fn sum_of_money(random: &mut Prng) -> i64 {
+    let digits = 1 + random.below(12);
+    let size = random.below(10u64.pow(digits as u32)) as i64;
+    if random.one_in(2) {
+        -size
+    } else {
+        size
+    }
+}
+
+// With totals as they may come: of both signs and of many lengths.
+pub fn exports(name: &'static str, count: u32) -> Work {
+    with_totals(name, count, |_, random| sum_of_money(random))
 }

@@ -1,12 +1,12 @@
-// Every side gives the same answers, totals, rebates and step counts on the same random work; those of whole operations
-// are a plain map's, but for new accounts where the places of as many others as the capacity agree in the first bits:
-// these are crowded.
+// Every side gives the same answers, totals, rebates, files and step counts on the same random work; those of whole
+// operations are a plain map's, but for new accounts where the places of as many others as the capacity agree in the
+// first bits: these are crowded.
 use bench::fields::*;
 use bench::places::{account_at, place};
 use bench::sides::{Map, Proved, Reply, Same, Table};
-use bench::turns::{by_run, by_steps};
+use bench::turns::{by_run, by_steps, filled};
 use bench::twin::Twin;
-use bench::work::{total_in, Operation, Prng, BAND_ENDS};
+use bench::work::{exports, total_in, Operation, Prng, Work, BAND_ENDS};
 
 struct Case {
     workers: u64,
@@ -103,6 +103,7 @@ fn single_steps_in_turn_answer_alike() {
         assert_eq!(proved.rows(), twin.rows());
         assert_eq!(proved.rebates(), same.rebates());
         assert_eq!(proved.rebates(), twin.rebates());
+        one_file(&proved, &same, &twin);
         late += ours.iter().filter(|r| r.check > 2).count();
     }
     assert!(late > 0, "no update was answered in its second pass");
@@ -119,6 +120,93 @@ fn a_rebate_alone_is_alike() {
         assert_eq!(rebate, Same::rebate(total), "{total}");
         assert_eq!(rebate, Twin::rebate(total), "{total}");
     }
+}
+
+// The file that is made, with nothing written past it.
+fn file(make: impl Fn(&mut [u8]) -> usize) -> Vec<u8> {
+    let mut out = vec![b'#'; TOTALS_GREATEST_EXPORT];
+    let size = make(&mut out);
+    assert!(out[size..].iter().all(|byte| *byte == b'#'));
+    out.truncate(size);
+    out
+}
+
+// The file of every side, which is also that of a loop of `write!` over the library's listing.
+fn one_file(proved: &Proved, same: &Same, twin: &Twin) -> String {
+    let own = file(|out| proved.export(out));
+    assert_eq!(own, file(|out| same.export(out)));
+    assert_eq!(own, file(|out| twin.export(out)));
+    assert_eq!(own, file(|out| proved.list_and_write(out)));
+    String::from_utf8(own).unwrap()
+}
+
+fn one_file_of(w: &Work) -> String {
+    one_file(&filled(w), &filled(w), &filled(w))
+}
+
+// A table of these rows, which have room, b 16, M 8.
+fn table_of(rows: impl Iterator<Item = (u32, i64)>) -> Work {
+    let insert = |(account, total)| Operation {
+        kind: KIND_INSERT,
+        account,
+        total,
+    };
+    Work {
+        name: "rows",
+        workers: 1,
+        capacity: 16,
+        depth: 8,
+        filling: rows.map(insert).collect(),
+        measured: Vec::new(),
+    }
+}
+
+// Totals as they are spelled, the accounts ascending.
+const SPELLED: [(u32, i64, &str); 12] = [
+    (0, i64::MIN, "0,-92233720368547758.08\r\n"),
+    (1, i64::MAX, "1,92233720368547758.07\r\n"),
+    (9, -1205, "9,-12.05\r\n"),
+    (10, -100, "10,-1.00\r\n"),
+    (99, -99, "99,-0.99\r\n"),
+    (100, -7, "100,-0.07\r\n"),
+    (1000, 0, "1000,0.00\r\n"),
+    (1001, 7, "1001,0.07\r\n"),
+    (1002, 10, "1002,0.10\r\n"),
+    (999_999_999, 100, "999999999,1.00\r\n"),
+    (1_000_000_000, 99_999, "1000000000,999.99\r\n"),
+    (u32::MAX, 100_000, "4294967295,1000.00\r\n"),
+];
+
+#[test]
+fn a_file_is_alike_and_as_it_is_spelled() {
+    let mut text = String::from("account,total\r\n");
+    assert_eq!(one_file_of(&table_of(std::iter::empty())), text);
+    SPELLED.iter().for_each(|row| text += row.2);
+    let descending = SPELLED.iter().rev().map(|row| (row.0, row.1));
+    assert_eq!(one_file_of(&table_of(descending)), text);
+}
+
+// The tables that are measured, and those whose file is the longest: as many accounts as there can be, all of ten
+// digits, with the lowest total.
+#[test]
+fn a_file_of_many_rows_is_alike() {
+    for (name, count) in [
+        ("export-16", 16),
+        ("export-1000", 1000),
+        ("export-4096", 4096),
+    ] {
+        let text = one_file_of(&exports(name, count));
+        assert_eq!(text.lines().count(), 1 + count as usize);
+    }
+    let of_ten_digits = |first: u32| {
+        let accounts = (first << 24..).map(account_at);
+        accounts
+            .filter(|a| *a >= 1_000_000_000)
+            .take(GREATEST_CAPACITY)
+    };
+    let accounts = (0..256).flat_map(of_ten_digits);
+    let longest = one_file_of(&table_of(accounts.map(|a| (a, i64::MIN))));
+    assert_eq!(longest.len(), TOTALS_GREATEST_EXPORT);
 }
 
 // How many rows agree with the account in the first bits of their places.

@@ -1,10 +1,13 @@
 // The same work on every side. `table count` runs each case once and names it, for callgrind, which writes one dump a
-// case; `table time` prints nanoseconds an operation. table.sh makes tables of both.
+// case; `table time` prints nanoseconds an operation, and an account of an export. table.sh makes tables of both.
+use bench::fields::TOTALS_GREATEST_EXPORT;
 use bench::places;
 use bench::sides::{Map, Proved, Same, Table};
-use bench::turns::{by_run, by_steps, on_map};
+use bench::text::write_rows;
+use bench::turns::{by_run, by_steps, filled, on_map};
 use bench::twin::Twin;
-use bench::work::{even, listing, rebates, work, Operation, Work};
+use bench::work::{even, exports, listing, rebates, work, Operation, Work};
+use std::hint::black_box;
 use std::time::Instant;
 
 // proved library, same source as Rust, hand-written twin, each by single steps and by run; then the locked map
@@ -17,6 +20,8 @@ const WORKERS: [u64; 3] = [1, 2, 8];
 const LISTED: [&str; 4] = ["table", "same", "twin", "sort"];
 // of rebates: the first three of these
 const REBATED: [&str; 3] = ["table", "same", "twin"];
+// of an export: the same three; the library's listing with a loop of `write!` after it; and both parts of that alone
+const EXPORTED: [&str; 6] = ["table", "same", "twin", "write", "list", "loop"];
 
 type Rows = Vec<(u32, i64)>;
 type Rebates = Vec<(u32, u64)>;
@@ -70,6 +75,16 @@ fn measured_alone<T: Table>(operations: &[Operation]) -> Rebates {
     operations.iter().map(rebate).collect()
 }
 
+// So often the same file at the start of the bytes: how many it takes.
+#[inline(never)]
+fn measured_file(times: usize, out: &mut [u8], make: impl Fn(&mut [u8]) -> usize) -> u64 {
+    let mut size = 0;
+    for _ in 0..times {
+        size = make(black_box(&mut *out));
+    }
+    size as u64
+}
+
 #[inline(never)]
 fn measured_sort(mut rows: Rows) -> Rows {
     sort_rows(&mut rows);
@@ -92,12 +107,6 @@ fn timed(f: impl FnOnce() -> u64) -> (f64, u64) {
     let start = Instant::now();
     let sum = f();
     (start.elapsed().as_nanos() as f64, sum)
-}
-
-fn filled<T: Table>(w: &Work) -> T {
-    let mut table = T::open(w.workers, w.capacity, w.depth);
-    by_run(&mut table, w.workers, &w.filling, |_, _| {});
-    table
 }
 
 fn on_table<T: Table>(steps: bool, w: &Work) -> (f64, u64) {
@@ -158,6 +167,39 @@ fn rebated(side: &str, alone: bool, w: &Work) -> Rebates {
     }
 }
 
+// The time of so many files that are made of one thing, and the file.
+fn files<F>(times: usize, from: F, make: fn(&F, &mut [u8]) -> usize) -> (f64, Vec<u8>) {
+    let mut out = vec![0; TOTALS_GREATEST_EXPORT];
+    let (time, size) = timed(|| measured_file(times, &mut out, |out| make(&from, out)));
+    out.truncate(size as usize);
+    (time, out)
+}
+
+// Of a listing alone the file is empty.
+fn exported(side: &str, times: usize, w: &Work) -> (f64, Vec<u8>) {
+    match side {
+        "table" => files(times, filled(w), Proved::export),
+        "same" => files(times, filled(w), Same::export),
+        "twin" => files(times, filled(w), <Twin as Table>::export),
+        "write" => files(times, filled(w), Proved::list_and_write),
+        "list" => files(times, filled(w), |table: &Proved, _| {
+            table.list();
+            0
+        }),
+        _ => files(times, filled::<Proved>(w).rows(), |rows, out| {
+            write_rows(rows.iter().copied(), out)
+        }),
+    }
+}
+
+fn export_works() -> [Work; 3] {
+    [
+        exports("export-16", 16),
+        exports("export-1000", 1000),
+        exports("export-4096", 4096),
+    ]
+}
+
 // The answers of single steps agree with each other, those of `run` with the map's.
 fn assert_equal(w: &Work, sums: &[u64; 7]) {
     let [steps, run, same, same_run, twin, twin_run, map] = *sums;
@@ -215,6 +257,26 @@ fn count_rebates(alone: bool, w: &Work) {
     assert_eq!(rows[2].len(), w.filling.len());
 }
 
+// The file of all sides that make one, which has a line for each account and one before them.
+fn one_file(w: &Work, files: [Vec<u8>; EXPORTED.len()]) -> Vec<u8> {
+    let [table, same, twin, write, list, alone] = files;
+    let others = [same, twin, write, alone];
+    assert!(others.iter().all(|other| *other == table), "{}", w.name);
+    assert!(list.is_empty());
+    let lines = table.iter().filter(|byte| **byte == b'\n').count();
+    assert_eq!(lines, w.filling.len() + 1);
+    table
+}
+
+fn count_exports(w: &Work) {
+    let files = EXPORTED.map(|side| {
+        let (_, file) = exported(side, 1, w);
+        counted(w, side, w.filling.len());
+        file
+    });
+    one_file(w, files);
+}
+
 // One line a case, in the order of callgrind's dumps: work, workers, side, operations, or accounts, or totals.
 fn count() {
     count_operations();
@@ -223,25 +285,50 @@ fn count() {
     count_rebates(false, &rebates("rebates-1000", 1000));
     count_rebates(false, &rebates("rebates-4096", 4096));
     count_rebates(true, &rebates("rebates-alone", 4096));
+    export_works().iter().for_each(count_exports);
 }
 
-// Nanoseconds an operation, the least of so many rounds in which every side has its turn.
+// A line a side: the least of nine rounds in which every side has its turn.
+fn time_sides(w: &Work, sides: &[&str], once: impl Fn(&str) -> f64) {
+    let mut least = vec![f64::MAX; sides.len()];
+    for _ in 0..9 {
+        for (i, side) in sides.iter().enumerate() {
+            least[i] = least[i].min(once(side));
+        }
+    }
+    for (side, t) in sides.iter().zip(least) {
+        println!("{} {} {side} {t:.1}", w.name, w.workers);
+    }
+}
+
+// An account's bytes, then its nanoseconds, over about as many rows of each work. The same rows come again and again:
+// where they are few, the processor learns their lengths, on every side.
+fn time_exports(w: &Work) {
+    let accounts = w.filling.len();
+    let times = 65_536 / accounts;
+    let size = one_file(w, EXPORTED.map(|side| exported(side, 1, w).1)).len();
+    println!(
+        "{} {} bytes {:.2}",
+        w.name,
+        w.workers,
+        size as f64 / accounts as f64
+    );
+    time_sides(w, &EXPORTED, |side| {
+        exported(side, times, w).0 / (times * accounts) as f64
+    });
+}
+
+// One line a case: work, workers, side, nanoseconds an operation or an account.
 fn time() {
     for name in WORKS {
         for n in WORKERS {
             let w = work(name, n, 40_000);
-            let mut least = [f64::MAX; SIDES.len()];
-            for _ in 0..9 {
-                for (i, side) in SIDES.iter().enumerate() {
-                    least[i] = least[i].min(on_side(side, &w).0 / w.measured.len() as f64);
-                }
-            }
-            SIDES
-                .iter()
-                .zip(least)
-                .for_each(|(side, t)| println!("{name} {n} {side} {t:.1}"));
+            time_sides(&w, &SIDES, |side| {
+                on_side(side, &w).0 / w.measured.len() as f64
+            });
         }
     }
+    export_works().iter().for_each(time_exports);
 }
 
 fn main() {
