@@ -13,8 +13,10 @@ use decimals::spell_decimal;
 use decimals::width;
 use printers::copy;
 
-// How many bytes the header takes.
+// How many bytes the header takes, and how many a row takes at most.
 pub const HEADER_SIZE: usize = 15;
+
+pub const LONGEST_ROW: usize = 34;
 
 pub fn write_header(out: &mut [u8])
     requires { ⌜ headerSize ≤ length (now out) ⌝ }

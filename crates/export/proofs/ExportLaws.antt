@@ -1,33 +1,32 @@
 -- A reader of the exported bytes finds the rows that a listing shows, and how long an output always suffices.
 -- Rests on the file's laws, on what a counted listing has written, and on how small rows are.
-use Prim.Native.Nat.{ℕ, _*_, _≤_}
+use Prim.Native.Nat.{ℕ, _≤_}
 use native.Mathlib.Omega.{arith}
 use mathlib.Core.Path.{_≡_, refl}
 use mathlib.Core.Logic.{_≢_}
 use mathlib.Core.Bool.{false}
-use mathlib.Core.List.{List, [], _∷_}
+use mathlib.Core.List.{List}
 use mathlib.Core.Option.{some}
 use lib.Dec.{ltb}
 use lib.IntN.{ℤ}
-use lib.ListN.{length, take, length-append}
+use lib.ListN.{length, take}
 use lib.Seq.{take-at}
 use borrow.Author.Tests.{ltb-true}
 use Rattle.interface.specs.declared.Refusal.{Refusal}
 use Rattle.interface.specs.declared.Listed.{Listed}
 use Rattle.interface.specs.declared.Exported.{Exported}
 use Rattle.machine.proofs.laws.Base.{if-elim, if-false}
-use Rattle.lists.specs.Every.{Every}
 use Rattle.lists.proofs.PartLaws.{overlay-first}
 use Rattle.layout.specs.Shape.{strange, shapeOf}
 use Rattle.sorting.specs.RowLists.{rowsAt}
 use Rattle.rows.specs.Rows.{rows, listingWords}
 use Rattle.rows.proofs.RowLaws.{rows-few}
 use Rattle.rows.proofs.AllRows.{rows-counted}
-use Rattle.rows.proofs.SmallRows.{Small, rows-small}
-use Rattle.csv.specs.Csv.{csvRow, csvRows, csvFile, longestRow}
+use Rattle.rows.proofs.SmallRows.{rows-small}
+use Rattle.csv.specs.Csv.{csvFile}
 use Rattle.csv.specs.Reading.{readFile}
 use Rattle.csv.proofs.CsvLaws.{csv-laws}
-use Rattle.export.proofs.Files.{file-size}
+use Rattle.export.proofs.Files.{small-file}
 use Rattle.export.specs.Export.{written, exportWords, longestFile, ExportLaws}
 
 -- ---- what was written is the file
@@ -56,18 +55,10 @@ as-listed l out accounts totals k n e f =
 
 -- ---- how long it is
 
-rows-within : (rs : List (ℕ × ℤ)) → Every Small rs → length (csvRows rs) ≤ longestRow * length rs
-unfolding csvRows Every
-rows-within [] h = omega arith
-rows-within (r ∷ rs) h =
-    let m = csv-laws .short (r .0) (r .1) (h .0 .account) (h .0 .total) in
-    let n = rows-within rs (h .1) in
-    omega (arith, length-append (csvRow (r .0) (r .1)) (csvRows rs))
-
 file-within : (l : List ℕ) → strange l ≡ false → length (csvFile (rows l (shapeOf l))) ≤ longestFile
 file-within l passed =
     let r = rows l (shapeOf l) in
-    omega (arith, file-size r, rows-within r (rows-small l (shapeOf l)), rows-few l passed)
+    omega (arith, small-file r (rows-small l (shapeOf l)), rows-few l passed)
 
 module _ (l out : List ℕ) (long : longestFile ≤ length out) where
   abbrev Wide : List ℕ × Exported → Type 0

@@ -1,6 +1,6 @@
 -- Files of the first rows of two lists: one row more, their lengths, and rows written behind rows.
 -- Rests on the definitions of specs/Csv of csv, and on the first rows of two lists.
-use Prim.Native.Nat.{ℕ, zero, suc, _+_, _-_, _≤_, _<_}
+use Prim.Native.Nat.{ℕ, zero, suc, _+_, _-_, _*_, _≤_, _<_}
 use native.Mathlib.Nat.{add-zero}
 use native.Mathlib.Omega.{arith}
 use mathlib.Core.Path.{_≡_, refl, sym, _∙_, ap}
@@ -8,15 +8,30 @@ use mathlib.Core.List.{List, [], _∷_, _++_, append-assoc, append-nil}
 use lib.IntN.{ℤ, pos}
 use lib.ListN.{length, getD, length-append}
 use Rattle.interface.specs.Numbers.{bytes}
+use Rattle.lists.specs.Every.{Every}
 use Rattle.lists.specs.Parts.{overlay}
 use Rattle.lists.proofs.PartLaws.{overlay-join}
 use Rattle.sorting.specs.RowLists.{rowAt, rowsAt}
 use Rattle.sorting.proofs.FirstRows.{rows-more}
-use Rattle.csv.specs.Csv.{csvRecord, header, headerSize, csvRow, csvRows, csvFile}
+use Rattle.rows.proofs.SmallRows.{Small}
+use Rattle.csv.specs.Csv.{csvRecord, header, headerSize, longestRow, csvRow, csvRows, csvFile}
+use Rattle.csv.proofs.CsvLaws.{csv-laws}
 
 pub file-size : (r : List (ℕ × ℤ)) → length (csvFile r) ≡ headerSize + length (csvRows r)
 unfolding csvFile header csvRecord bytes
 file-size r = length-append header (csvRows r)
+
+-- rows of accounts of 32 bits with totals of 64
+rows-within : (rs : List (ℕ × ℤ)) → Every Small rs → length (csvRows rs) ≤ longestRow * length rs
+unfolding csvRows Every
+rows-within [] h = omega arith
+rows-within (r ∷ rs) h =
+    let m = csv-laws .short (r .0) (r .1) (h .0 .account) (h .0 .total) in
+    let n = rows-within rs (h .1) in
+    omega (arith, length-append (csvRow (r .0) (r .1)) (csvRows rs))
+
+pub small-file : (rs : List (ℕ × ℤ)) → Every Small rs → length (csvFile rs) ≤ headerSize + longestRow * length rs
+small-file rs h = omega (arith, file-size rs, rows-within rs h)
 
 -- the rows behind the header
 pub file-written :

@@ -4,7 +4,7 @@ use Prim.Native.Nat.{ℕ}
 use native.Mathlib.Omega.{arith}
 use lib.IntN.{pos}
 use Rattle.rows.proofs.AllRows.{AllRows, rows-counted, rows-refused, zeros-long}
-use Rattle.export.proofs.Answers.{export-refused, export-narrow, export-all}
+use Rattle.export.proofs.Answers.{export-refused, all-within, export-narrow, enough, export-all}
 use borrow.Author.Needs.{needs}
 use Rattle.export.proofs.export.Statement.{statement}
 use Rattle.export.proofs.export.Tie as tie
@@ -15,22 +15,24 @@ counted : (c : tie.After-n) → let listing = c .before .before .before .before 
     (listing .listing .last .1 .1 .0)
 counted c = rows-counted _ _ _ _ _ (c .before .before .before .before .listing .ensures) (c .n .given .1)
 
-file-size-requires : tie.Need-file-size-requires
-file-size-requires c κs =
+too-short-requires : tie.Need-too-short-requires
+too-short-requires c κs =
     let all = counted (c .before .before .before) in
-    (all .few, (omega (arith, all .few), omega (arith, all .few)))
+    (all .few, (omega (arith, all .few), (omega (arith, all .few), all-within all)))
 
 returns : tie.Need-returns
 returns c =
-    let measured = c .before in
-    export-narrow (counted (measured .before .before .before .before)) _ _ (measured .file-size .ensures) (c .if1 .taken)
+    let tested = c .before in
+    export-narrow (counted (tested .before .before .before .before)) _ _ (tested .too-short .ensures) (c .if1 .taken)
 
 write-file-requires : tie.Need-write-file-requires
 write-file-requires c κs =
-    let enough = c .before .before .before in
-    let measured = enough .before in
-    let all = counted (measured .before .before .before .before) in
-    (omega (arith, all .few), (omega (arith, all .few), omega (arith, measured .file-size .ensures, enough .if1 .left)))
+    let long = c .before .before .before in
+    let tested = long .before in
+    let n = tested .before .before .before .before in
+    let s = n .before .before .before .before .before .before .before .before .before in
+    let all = counted n in
+    (omega (arith, all .few), (omega (arith, all .few), enough all (s .args .out .now) _ (tested .too-short .ensures) (long .if1 .left)))
 
 returns-2 : tie.Need-returns-2
 returns-2 c =
@@ -42,13 +44,13 @@ returns-2 c =
 returns-3 : tie.Need-returns-3
 returns-3 c =
     let written = c .before .before in
-    let enough = written .before .before .before .before in
-    let measured = enough .before in
-    export-all (counted (measured .before .before .before .before)) _ _ (measured .file-size .ensures) _ (enough .if1 .left)
-    (written .write-file .ensures)
+    let long = written .before .before .before .before in
+    let tested = long .before in
+    let file = written .write-file .ensures in
+    export-all (counted (tested .before .before .before .before)) _ _ (tested .too-short .ensures) _ _ (long .if1 .left) (file .0) (file .1)
 
 pub export-spec : {M : Type 1} → statement M
 export-spec =
     tie.close (tie.spec (λ c. search needs) (λ c. search needs) (λ c κs. search needs) (λ c. search needs) (λ c. search needs)
-    (λ c. search needs) (λ c. search needs) file-size-requires returns (λ c. search needs) (λ c. search needs) write-file-requires returns-2
+    (λ c. search needs) (λ c. search needs) too-short-requires returns (λ c. search needs) (λ c. search needs) write-file-requires returns-2
     (λ c. search needs) returns-3)

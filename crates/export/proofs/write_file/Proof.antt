@@ -65,8 +65,10 @@ same-length c = c .before .loop .inv .1 .0 ∙ c .before .before .before .before
 returns : tie.Need-returns Inv-loop μ-loop
 returns c =
     let l = c .before .loop in
-    file-written _ _ _ _ (c .before .before .before .before .write-header .ensures)
-    (rw (le-antisymm (l .inv .0) (c .loop-test .left)) at (l .inv .1 .1 .1))
+    let e = le-antisymm (l .inv .0) (c .loop-test .left) in (
+      file-written _ _ _ _ (c .before .before .before .before .write-header .ensures) (rw e at (l .inv .1 .1 .1)),
+      rw e at (l .inv .1 .1 .0) ∙ sym (file-size _),
+    )
 
 pub write-file-spec : {M : Type 1} → statement M
 write-file-spec =
