@@ -86,8 +86,8 @@ pub fn exported_number(report: &mut [u64], answer: Exported) -> u64
         × (r ≡ exportedNumber answer) ⌝ }
 {
     match answer {
-        Exported::Bytes(k) => {
-            tell_one(report, k);
+        Exported::Bytes(bytes) => {
+            tell_one(report, bytes);
             0
         }
         Exported::Refused(r) => r.number(),
