@@ -1,5 +1,5 @@
 // The exported file's header and rows: how many bytes a row takes, and both written into a caller's buffer.
-ghost use Prim.Native.Nat.{_+_, _/_, _≤_};
+ghost use Prim.Native.Nat.{_+_, _≤_};
 ghost use mathlib.Core.Path.{_≡_};
 ghost use lib.ListN.{length};
 ghost use Rattle.lists.specs.Parts.{overlay};
@@ -18,6 +18,7 @@ pub const HEADER_SIZE: usize = 15;
 
 pub const LONGEST_ROW: usize = 34;
 
+// Writes the header at the start.
 pub fn write_header(out: &mut [u8])
     requires { ⌜ headerSize ≤ length (now out) ⌝ }
     ensures { λ _. ⌜ now (out .exit) ≡ overlay (now (out .entry)) 0 header ⌝ }
@@ -25,7 +26,7 @@ pub fn write_header(out: &mut [u8])
     copy(out, 0, b"account,total\r\n");
 }
 
-// How many bytes a row takes.
+// How many bytes a row takes: an account, a comma, units with a point and two decimals, CR LF.
 pub fn row_size(account: u32, total: i64) -> usize
     ensures { λ r. ⌜ (r ≡ length (csvRow account total)) × (r ≤ longestRow) ⌝ }
 {

@@ -1,5 +1,5 @@
 -- How long the texts are: a row has at most 32 bytes, the end of a listing 25, a reply longestReply. Rests on the lines' decimals.
-use Prim.Native.Nat.{ℕ, suc, _+_, _^_, _≤_, _<_}
+use Prim.Native.Nat.{ℕ, suc, _^_, _≤_, _<_}
 use mathlib.Core.List.{[], _∷_, _++_}
 use native.Mathlib.Omega.{arith}
 use lib.IntN.{ℤ, pos, negsuc}
