@@ -8,16 +8,16 @@ use lib.IntN.{ℤ}
 use lib.ListN.{length}
 use lib.Signed.{mag}
 use Rattle.lists.specs.Every.{Every}
-use Rattle.decimals.specs.Ascii.{comma}
+use Rattle.decimals.specs.Ascii.{space, quote, comma, tilde}
 use Rattle.decimals.specs.Decimals.{decimal}
 use Rattle.csv.specs.Csv.{totalField, csvRow, csvFile, longestRow}
 use Rattle.csv.specs.Reading.{readRows, readFile}
 
 -- RFC 4180's TEXTDATA, of which a field without quotes is made: any character from space to tilde but quote and comma
 pub record TextData (b : ℕ) : Type 0 where
-  pub from : 32 ≤ b
-  pub upTo : b ≤ 126
-  pub no-quote : b ≢ 34
+  pub from : space ≤ b
+  pub upTo : b ≤ tilde
+  pub no-quote : b ≢ quote
   pub no-comma : b ≢ comma
 
 pub record CsvLaws : Type 0 where

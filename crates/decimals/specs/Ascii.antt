@@ -10,6 +10,9 @@ carriageReturn = 13
 abbrev pub space : ℕ
 space = 32
 
+abbrev pub quote : ℕ
+quote = 34
+
 abbrev pub comma : ℕ
 comma = 44
 
@@ -25,3 +28,6 @@ zeroDigit = 48
 
 abbrev pub nineDigit : ℕ
 nineDigit = 57
+
+abbrev pub tilde : ℕ
+tilde = 126

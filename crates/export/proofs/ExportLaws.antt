@@ -35,7 +35,7 @@ module _ (out file : List ℕ) (k : ℕ) where
   abbrev Holds : List ℕ × Exported → Type 0
   Holds x = x .1 ≡ Exported.Bytes k → take k (x .0) ≡ file
 
-  pub written-holds : Holds (written out file)
+  written-holds : Holds (written out file)
   unfolding written
   written-holds =
       if-elim Holds (ltb (length out) (length file)) _ _ (λ _ e. let z : _≡_ {A = ℕ} 0 1 = cc in absurd (omega arith))

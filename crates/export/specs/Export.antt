@@ -15,7 +15,7 @@ use Rattle.lists.specs.Parts.{overlay}
 use Rattle.machine.specs.Choice.{if_then_else_}
 use Rattle.layout.specs.Shape.{strange, shapeOf}
 use Rattle.sorting.specs.RowLists.{rowsAt}
-use Rattle.rows.specs.Rows.{rows, listingWords}
+use Rattle.rows.specs.Rows.{rows, greatestCount, listingWords}
 use Rattle.csv.specs.Csv.{csvFile, headerSize, longestRow}
 use Rattle.csv.specs.Reading.{readFile}
 
@@ -34,7 +34,7 @@ exportWords l out =
 
 -- the longest file: 4,096 rows of 34 bytes each, and the header
 abbrev pub longestFile : ℕ
-longestFile = headerSize + longestRow * 4_096
+longestFile = headerSize + longestRow * greatestCount
 
 pub record ExportLaws : Type 0 where
   -- Beside a listing of the same words: a reader of the bytes written finds the rows that the listing shows.

@@ -6,6 +6,7 @@ ghost use lib.Dec.{ltb};
 ghost use lib.ListN.{length};
 ghost use Rattle.lists.specs.Parts.{overlay};
 ghost use Rattle.sorting.specs.RowLists.{rowsAt};
+ghost use Rattle.rows.specs.Rows.{greatestCount};
 ghost use Rattle.csv.specs.Csv.{csvFile, headerSize, longestRow};
 ghost use Rattle.export.specs.Export.{exportWords};
 use csv::HEADER_SIZE;
@@ -21,7 +22,7 @@ use rows::listing;
 
 // How many bytes the file of the first k rows takes.
 fn file_size(accounts: &[u32], totals: &[i64], k: usize) -> usize
-    requires { ⌜ (k ≤ 4_096) × ((k ≤ length (now accounts)) × (k ≤ length (now totals))) ⌝ }
+    requires { ⌜ (k ≤ greatestCount) × ((k ≤ length (now accounts)) × (k ≤ length (now totals))) ⌝ }
     ensures { λ r. ⌜ r ≡ length (csvFile (rowsAt (now (accounts .entry)) (now (totals .entry)) 0 k)) ⌝ }
 {
     let mut size = HEADER_SIZE;
@@ -36,7 +37,7 @@ fn file_size(accounts: &[u32], totals: &[i64], k: usize) -> usize
 // Whether so many bytes are too few for the file of the first k rows. It is measured only where k rows of the longest
 // sort would not fit, which saves 119 of 813 instructions an account.
 fn too_short(accounts: &[u32], totals: &[i64], k: usize, bytes: usize) -> bool
-    requires { ⌜ (k ≤ 4_096) × ((k ≤ length (now accounts)) × ((k ≤ length (now totals))
+    requires { ⌜ (k ≤ greatestCount) × ((k ≤ length (now accounts)) × ((k ≤ length (now totals))
         × (length (csvFile (rowsAt (now accounts) (now totals) 0 k)) ≤ headerSize + longestRow * k))) ⌝ }
     ensures { λ r. ⌜ r ≡ ltb bytes (length (csvFile (rowsAt (now (accounts .entry)) (now (totals .entry)) 0 k))) ⌝ }
 {

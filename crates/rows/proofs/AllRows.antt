@@ -15,14 +15,14 @@ use Rattle.machine.proofs.laws.Base.{if-elim, no-both}
 use Rattle.layout.specs.Shape.{strange, shapeOf}
 use Rattle.sorting.specs.RowLists.{rowsAt}
 use Rattle.sorting.proofs.Rows.{rows-read}
-use Rattle.rows.specs.Rows.{rows, Shown, shown, listingWords}
+use Rattle.rows.specs.Rows.{rows, greatestCount, Shown, shown, listingWords}
 use Rattle.rows.proofs.RowLaws.{rows-few}
 
 -- every row of words that pass 8 is among the first n of two lists
 pub record AllRows (l : List ℕ) (n : ℕ) (accounts : List ℕ) (totals : List ℤ) : Type 0 where
   pub passed : strange l ≡ false
   pub count : n ≡ length (rows l (shapeOf l))
-  pub few : n ≤ 4_096
+  pub few : n ≤ greatestCount
   pub read : rowsAt accounts totals 0 n ≡ rows l (shapeOf l)
 
 -- the words are strange, and that is why
@@ -54,7 +54,7 @@ module _ (l accounts : List ℕ) (totals : List ℤ) where
     unfolding listingWords
     rows-counted x made = rw made (if-elim Counted (strange l) _ _ (λ _. refused-counted Refusal.Strange) shown-counted)
 
-  module _ (why : Refusal) (long : 4_096 ≤ length accounts) (long′ : 4_096 ≤ length totals) where
+  module _ (why : Refusal) (long : greatestCount ≤ length accounts) (long′ : greatestCount ≤ length totals) where
     abbrev Refused : Shown → Type 0
     Refused x = x .listed ≡ Listed.Refused why → OnlyStrange l why
 
@@ -72,5 +72,5 @@ module _ (l accounts : List ℕ) (totals : List ℤ) where
     rows-refused x made = rw made (if-elim Refused (strange l) _ _ (λ t e. record { fails = t; reason = cc }) shown-refused)
 
 -- zeros for every table's rows; that it holds for any length spares computing them
-pub zeros-long : {A : Type 0} (x : A) → 4_096 ≤ length (replicate 4_096 x)
-zeros-long x = omega (arith, length-replicate 4_096 x)
+pub zeros-long : {A : Type 0} (x : A) → greatestCount ≤ length (replicate greatestCount x)
+zeros-long x = omega (arith, length-replicate greatestCount x)

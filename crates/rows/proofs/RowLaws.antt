@@ -24,7 +24,7 @@ use Rattle.sorting.specs.Sorting.{sorted}
 use Rattle.sorting.specs.RowLists.{RowsWritten, rowsAt}
 use Rattle.sorting.proofs.Insertion.{sorted-length}
 use Rattle.sorting.proofs.Rows.{written-sorted}
-use Rattle.rows.specs.Rows.{rowsFrom, unsorted, rows, shown, listingWords}
+use Rattle.rows.specs.Rows.{rowsFrom, unsorted, rows, greatestCount, shown, listingWords}
 use Rattle.entries.specs.Entries.{rowsOf}
 use Rattle.entries.proofs.EntryLaws.{entry-limit, span-limit}
 use Rattle.lists.proofs.PartLaws.{overlay-join, length-overlay}
@@ -74,7 +74,7 @@ module _ (l : List ℕ) (s : Settings) where
       rw length-append (omega arith)
 
 -- words that pass 8 have no more rows than 256 buckets of 16
-pub rows-few : (l : List ℕ) → strange l ≡ false → length (rows l (shapeOf l)) ≤ 4_096
+pub rows-few : (l : List ℕ) → strange l ≡ false → length (rows l (shapeOf l)) ≤ greatestCount
 unfolding rows unsorted
 rows-few l e =
     let n : 2 ^ shapeOf l .depth ≤ 256 = pow-mono (depth-of l e) in

@@ -27,6 +27,10 @@ unsorted l s = rowsFrom l s 0 (2 ^ s .depth)
 unfoldable pub rows : List ℕ → Settings → List (ℕ × ℤ)
 rows l s = sorted (unsorted l s)
 
+-- the most rows that words which pass 8 have: 256 buckets of 16
+abbrev pub greatestCount : ℕ
+greatestCount = 4_096
+
 -- the two lists and the answer
 pub record Shown : Type 0 where
   pub accounts : List ℕ
