@@ -6,7 +6,7 @@ use interface::Answer;
 use interface::Completion;
 
 // Answers are this and their number, past every refusal's.
-const ANSWER_BASE: u64 = 16;
+pub const ANSWER_BASE: u64 = 16;
 
 // A word at the start of a report that has room for it.
 pub fn tell_one(report: &mut [u64], first: u64)

@@ -1,0 +1,4 @@
+pub mod Log
+pub mod Orders
+pub mod Search
+pub mod Judging
