@@ -104,7 +104,7 @@ ascending-changed (post a v) t h = if-elim Ascending _ _ _ (λ e. ascending-put 
 
 -- ---- what is found
 
-find-above : (x : ℕ) (t : Table) (a : ℕ) → a ≤ x → AccountsAbove x t → find t a ≡ none
+pub find-above : (x : ℕ) (t : Table) (a : ℕ) → a ≤ x → AccountsAbove x t → find t a ≡ none
 unfolding find
 find-above x [] a l h = refl
 find-above x (e ∷ t) a l h = find-tail e t a (λ q. omega (arith, h .0)) ∙ find-above x t a l (h .1)
