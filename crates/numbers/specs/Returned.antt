@@ -10,7 +10,8 @@ use Rattle.interface.specs.declared.Stepped.{Stepped}
 use Rattle.interface.specs.declared.Ran.{Ran}
 use Rattle.interface.specs.declared.Listed.{Listed}
 use Rattle.interface.specs.declared.Exported.{Exported}
-use Rattle.report.specs.Report.{endedNumber, told, toldThree, endedReport}
+use Rattle.interface.specs.declared.Verdict.{Verdict}
+use Rattle.report.specs.Report.{answerBase, endedNumber, told, toldThree, endedReport}
 
 -- ---- numbers
 
@@ -44,6 +45,15 @@ listedNumber (Listed.Refused r) = numberOf r
 unfoldable pub exportedNumber : Exported → ℕ
 exportedNumber (Exported.Bytes k) = 0
 exportedNumber (Exported.Refused r) = numberOf r
+
+-- 0 for an order, and for none a number past every refusal's that no answer has
+abbrev pub noOrder : ℕ
+noOrder = answerBase
+
+unfoldable pub verdictNumber : Verdict → ℕ
+verdictNumber Verdict.Accepted = 0
+verdictNumber Verdict.No = noOrder
+verdictNumber (Verdict.Refused r) = numberOf r
 
 -- ---- reports
 

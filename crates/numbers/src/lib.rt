@@ -2,7 +2,7 @@
 // it.
 // Rests on the reports of crate report.
 ghost use mathlib.Core.Path.{_≡_};
-ghost use Rattle.numbers.specs.Returned.{neededNumber, openedNumber, calledNumber, steppedNumber, ranNumber, listedNumber, steppedReport, ranReport, listedReport, exportedNumber, exportedReport};
+ghost use Rattle.numbers.specs.Returned.{neededNumber, openedNumber, calledNumber, steppedNumber, ranNumber, listedNumber, steppedReport, ranReport, listedReport, exportedNumber, exportedReport, verdictNumber};
 use interface::Called;
 use interface::Exported;
 use interface::Listed;
@@ -10,6 +10,8 @@ use interface::Needed;
 use interface::Opened;
 use interface::Ran;
 use interface::Stepped;
+use interface::Verdict;
+use report::ANSWER_BASE;
 use report::ended;
 use report::tell;
 use report::tell_one;
@@ -91,5 +93,16 @@ pub fn exported_number(report: &mut [u64], answer: Exported) -> u64
             0
         }
         Exported::Refused(r) => r.number(),
+    }
+}
+
+// 0 where an order explains the log; where none does, a number past every refusal's that no answer has; or the refusal.
+pub fn verdict_number(verdict: Verdict) -> u64
+    ensures { λ r. ⌜ r ≡ verdictNumber verdict ⌝ }
+{
+    match verdict {
+        Verdict::Accepted => 0,
+        Verdict::No => ANSWER_BASE,
+        Verdict::Refused(r) => r.number(),
     }
 }
