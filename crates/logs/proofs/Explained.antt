@@ -2,11 +2,12 @@
 use Prim.Native.Nat.{ℕ, _≤_, _<_}
 use native.Mathlib.Omega.{arith}
 use native.Mathlib.Decide.{ℕ-discrete}
-use mathlib.Core.Path.{_≡_, refl, subst}
+use mathlib.Core.Path.{_≡_, refl, _∙_, subst}
 use mathlib.Core.Logic.{inl, inr, by-cases}
 use mathlib.Core.Bool.{Bool, true, false}
 use mathlib.Core.List.{List, [], _∷_}
 use lib.Dec.{leb}
+use lib.ListN.{length}
 use borrow.Author.Tests.{leb-true, ltb-true, lt-ltb, le-ltb}
 use Rattle.machine.specs.Choice.{assign}
 use Rattle.machine.specs.Sequential.{Table}
@@ -17,7 +18,7 @@ use Rattle.logs.specs.Orders.{fed, InTime, GivesAll, Explains}
 use Rattle.logs.specs.Search.{leftOf, ready, Completes}
 use Rattle.logs.specs.Judging.{earlierIn, placesOf, orderOf, AllExplained}
 use Rattle.logs.proofs.Left.{all-at, left-before, not-taken, others-left, left-below}
-use Rattle.logs.proofs.SearchLaws.{ready-at, ready-of, sound-at, complete-at}
+use Rattle.logs.proofs.SearchLaws.{ready-at, ready-of, sound-at, complete-at, order-length}
 
 -- ---- good logs
 
@@ -139,6 +140,12 @@ module _ (b M : ℕ) (log : Log) where
         order-of o (placesOf log) [] (x .once .distinct)
         (λ i m. let l = x .once .places i m in (omega (arith, fewer), (lt-ltb i (log .count) l, not-before-itself log good i l)))
         (λ i l e. x .once .all-places i (ltb-true i (log .count) e)) (x .in-time) (x .answers)
+
+-- an order that explains a log has as many places
+pub explained-length : (b M : ℕ) (log : Log) → isLog log ≡ true → (o : List ℕ) → Explains b M log o → length o ≡ log .count
+explained-length b M log good o x =
+    order-length Table greatestOperations (fed b M log) (earlierIn log) (placesOf log) [] o (explains-order b M log good o x)
+    ∙ count b M log good
 
 -- what the search finds explains the log, and where an order does, it finds one
 pub all-explained : AllExplained

@@ -2,11 +2,12 @@
 use Prim.Native.Nat.{ℕ, zero, suc, _+_, _≤_, _<_}
 use native.Mathlib.Omega.{arith}
 use native.Mathlib.Decide.{ℕ-discrete}
-use mathlib.Core.Path.{_≡_, refl, ap, _∙_, subst}
+use mathlib.Core.Path.{_≡_, refl, sym, ap, _∙_, subst}
 use mathlib.Core.Logic.{by-cases}
 use mathlib.Core.Bool.{Bool, true, false, not}
 use mathlib.Core.List.{List, [], _∷_}
 use mathlib.Core.Option.{Option, none, some}
+use lib.ListN.{length}
 use borrow.Author.Tests.{not-true}
 use Rattle.machine.specs.Choice.{_and_, assign}
 use Rattle.machine.proofs.laws.Base.{none-some, if-elim, if-true, and-true, and-parts, and-right}
@@ -134,3 +135,11 @@ module _ (T : Type 0) (n : ℕ) (fits : T → ℕ → Option T) (earlier : ℕ �
       let f = opened-is left t y u (h .1 .0) (h .1 .1 .0) (h .1 .1 .1 .1 .0) in
       tries-found (search T n fits earlier m) left t y (y ∷ c .0)
       (begun-is (search T n fits earlier m) left t y u (c .0) f (c .1)) n 0 (omega arith) (omega arith)
+
+  -- an order has as many places as are left
+  pub order-length : (left : ℕ → Bool) (t : T) (o : List ℕ) → Order left t o → length o ≡ leftOf n left
+  order-length left t [] h = sym (all-taken n left h)
+  order-length left t (i ∷ o) h =
+      let e = order-length (assign left i false) (h .1 .1 .1 .0) o (h .1 .1 .1 .1 .1) in
+      let k = left-less n left i (h .0) (h .1 .0) in
+      omega arith

@@ -53,7 +53,7 @@ refusal l b M places =
     else if ltb places (countOf l) then some Refusal.Narrow
     else none
 
--- By the verdict: the list for the order, before and after, is written where the log is accepted, and else is as it was.
+-- By the verdict: the list for the order, before and after, is written where the log is accepted, else is as it was.
 abbrev pub Judged : List ℕ → ℕ → ℕ → List ℕ → List ℕ → Verdict → Type 0
 Judged l b M before after (Refused r) = (refusal l b M (length before) ≡ some r) × (after ≡ before)
 Judged l b M before after Accepted =

@@ -125,4 +125,5 @@ pub record SearchLaws (T : Type 0) (n : ℕ) (fits : T → ℕ → Option T) (ea
       → ((i : ℕ) (t t′ : T) → still i ≡ true → fits t i ≡ some t′ → t′ ≡ t)
       → ((t t′ : T) → same t t′ ≡ true → t ≡ t′)
       → (left : ℕ → Bool) (t₀ t : T)
-      → cutSearch T n fits earlier still same (leftOf n left) t₀ 0 left t ≡ search T n fits earlier (leftOf n left) left t
+      → cutSearch T n fits earlier still same (leftOf n left) t₀ 0 left t
+      ≡ search T n fits earlier (leftOf n left) left t

@@ -13,13 +13,12 @@ use Rattle.interface.specs.declared.Settings.{Settings}
 use Rattle.fields.specs.Fields.{slotKind, slotAccount, slotTicket, workerMarks}
 use Rattle.fields.specs.Regions.{readAt}
 use Rattle.machine.specs.Choice.{_and_}
-use Rattle.machine.proofs.laws.Base.{if-true, if-false, and-true, and-left-false}
+use Rattle.machine.proofs.laws.Base.{if-true, if-false, and-true, and-left-false, and-no}
 use Rattle.rules.specs.Rules.{bit, withBit}
 use Rattle.layout.specs.Shape.{word}
 use Rattle.layout.specs.Addresses.{recordOf, markedAt, recordFor}
 use Rattle.record.specs.Bucket.{splittableAt, settledTicket}
 use Rattle.marks.specs.StateStep.{foundBefore, splitsAt, marks, stateStepAt}
-use Rattle.renumbering.proofs.Searches.{and-no}
 use Rattle.rules.proofs.Bits.{mark-kept}
 
 -- ---- a state step's test

@@ -8,7 +8,7 @@ use mathlib.Core.Bool.{Bool, true, false}
 use mathlib.Core.List.{List}
 use lib.Dec.{eqb}
 use Rattle.machine.specs.Choice.{_and_}
-use Rattle.machine.proofs.laws.Base.{if-true, if-false, and-right-false}
+use Rattle.machine.proofs.laws.Base.{if-true, if-false}
 use Rattle.layout.specs.Shape.{word}
 use Rattle.fields.specs.Fields.{workerHeld, workerState}
 use Rattle.fields.specs.Regions.{workerAt}
@@ -44,9 +44,6 @@ module _ (f : ℕ → Bool) where
   pub least-end : (i n : ℕ) → n ≤ i → leastFree f i (n - i) ≡ i
   unfolding leastFree
   least-end i n h = let k : n - i ≡ 0 = omega arith in rw k
-
-pub and-no : (x : Bool) {y : Bool} → y ≡ false → x and y ≡ false
-and-no x e = rw e (and-right-false x)
 
 -- ---- the tests of the searches among the workers
 

@@ -44,6 +44,7 @@ isStrange (some Refusal.Kind) = false
 isStrange (some Refusal.Spent) = false
 isStrange (some Refusal.Strange) = true
 isStrange (some Refusal.Narrow) = false
+isStrange (some Refusal.BadLog) = false
 
 module _ (s : Settings) (m : Machine) where
   call-recognised : (j kind a : ℕ) (v : ℤ) → isStrange (refusalOf (toCall (call s m j kind a v .1))) ≡ false

@@ -4,9 +4,9 @@ use Prim.Native.Nat.{_≤_}
 use mathlib.Core.Path.{_≡_, refl, sym, _∙_}
 use borrow.Author.Needs.{needs}
 use borrow.Author.Tests.{eq-eqb, ne-eqb}
-use Rattle.machine.proofs.laws.Base.{and-true, and-left-false}
+use Rattle.machine.proofs.laws.Base.{and-true, and-left-false, and-no}
 use Rattle.renumbering.specs.Numbers.{any, numberTaken}
-use Rattle.renumbering.proofs.Searches.{readNumber, and-no, any-hit, any-turn, any-none}
+use Rattle.renumbering.proofs.Searches.{readNumber, any-hit, any-turn, any-none}
 use Rattle.renumbering.proofs.number_taken.Statement.{statement}
 use Rattle.renumbering.proofs.number_taken.Tie as tie
 

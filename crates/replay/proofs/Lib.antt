@@ -1,0 +1,9 @@
+pub mod PlaceLaws
+pub mod Words
+pub mod Alone
+pub mod Outcomes
+pub mod Afterwards
+pub mod FirstPlaces
+pub mod Counts
+pub mod Updates
+pub mod PlainTable

@@ -1,0 +1,6 @@
+mod Fits
+mod Tries
+mod Written
+pub mod SameWords
+mod Ends
+mod Candidates
