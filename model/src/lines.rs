@@ -66,7 +66,7 @@ fn call(kind: Kind, w: &[u8], account: &[u8], total: i64) -> Option<Line> {
     })
 }
 
-fn small(field: &[u8]) -> Option<u64> {
+pub(crate) fn small(field: &[u8]) -> Option<u64> {
     between(field, 0, MOST_SMALL)
 }
 
@@ -75,7 +75,7 @@ fn between(field: &[u8], least: u64, most: u64) -> Option<u64> {
 }
 
 /// Decimal digits without leading zeros.
-fn unsigned(field: &[u8]) -> Option<u64> {
+pub(crate) fn unsigned(field: &[u8]) -> Option<u64> {
     if field.is_empty() || (field[0] == b'0' && field.len() > 1) {
         return None;
     }
@@ -92,7 +92,7 @@ fn unsigned(field: &[u8]) -> Option<u64> {
 }
 
 /// As `unsigned`, but may start with a minus; `-0` is no number.
-fn signed(field: &[u8]) -> Option<i64> {
+pub(crate) fn signed(field: &[u8]) -> Option<i64> {
     match field.strip_prefix(b"-") {
         None => i64::try_from(unsigned(field)?).ok(),
         Some(digits) => match unsigned(digits)? {

@@ -1,4 +1,5 @@
-//! The commands: totals, lines, search, replay, faults, trace, amounts, rebates, rows, export.
+//! The commands: totals, lines, search, replay, faults, trace, amounts, rebates, rows, export,
+//! logs, judge, verdicts, page.
 #![forbid(unsafe_code)]
 
 use model::check::Counts;
@@ -6,13 +7,14 @@ use model::explain::UNDECIDED;
 use model::exports;
 use model::fault::Fault;
 use model::input::Input;
+use model::judges::{self, Sort};
 use model::lines::{read_line, Line};
 use model::rebates;
 use model::rows;
 use model::search::{search, verdict, By, Failure};
 use model::totals::{self, next_line};
-use model::trace::command::trace;
-use std::io::{self, Write};
+use model::trace::command::{log, trace};
+use std::io::{self, Read, Write};
 use std::process::ExitCode;
 
 const USAGE: &str = "usage:
@@ -26,6 +28,10 @@ const USAGE: &str = "usage:
   model rebates
   model rows SEED COUNT
   model export
+  model logs SEED COUNT [--runs | --unread]
+  model judge
+  model verdicts LOGS VERDICTS
+  model page FILE
 ";
 
 /// The options that may follow a command.
@@ -65,6 +71,10 @@ fn command(name: &str, rest: &[String]) -> Option<io::Result<u8>> {
         }
         ("export", []) => Some(exports::export(io::stdin().lock(), buffered()).map(|()| 0)),
         ("faults", []) => Some(faults()),
+        ("logs", _) => logs(rest),
+        ("page", [file]) => Some(log(file)),
+        ("judge", []) => Some(judge()),
+        ("verdicts", [logs, verdicts]) => Some(compare(logs, verdicts)),
         _ => judging(name, &options(rest)?),
     }
 }
@@ -140,6 +150,31 @@ fn write_lines(mut input: Input, seed: u64, count: u64) -> io::Result<u8> {
     }
     out.flush()?;
     Ok(0)
+}
+
+/// Writes so many logs of the sort that an option names.
+fn logs(arguments: &[String]) -> Option<io::Result<u8>> {
+    let (words, sort) = match arguments {
+        [words @ .., last] if last == "--runs" => (words, Sort::Runs),
+        [words @ .., last] if last == "--unread" => (words, Sort::Unread),
+        words => (words, Sort::Any),
+    };
+    let numbers: Option<Vec<u64>> = words.iter().map(|word| word.parse().ok()).collect();
+    match numbers?[..] {
+        [seed, count] => Some(judges::logs(seed, count, sort, buffered()).map(|()| 0)),
+        _ => None,
+    }
+}
+
+fn judge() -> io::Result<u8> {
+    let mut text = Vec::new();
+    io::stdin().read_to_end(&mut text)?;
+    judges::judge(&text, buffered()).map(|()| 0)
+}
+
+fn compare(logs: &str, verdicts: &str) -> io::Result<u8> {
+    let (logs, verdicts) = (std::fs::read(logs)?, std::fs::read(verdicts)?);
+    judges::verdicts(&logs, &verdicts, buffered())
 }
 
 fn run_search(seed: u64, steps: u64, options: &Options) -> io::Result<u8> {

@@ -9,3 +9,4 @@ pub const KIND: u8 = 6;
 pub const SPENT: u8 = 7;
 pub const STRANGE: u8 = 8;
 pub const NARROW: u8 = 10;
+pub const BAD_LOG: u8 = 14;

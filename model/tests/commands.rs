@@ -25,7 +25,7 @@ fn text(bytes: &[u8]) -> String {
 
 #[test]
 fn unknown_arguments_get_the_usage_and_exit_2() {
-    let wrong: [&[&str]; 19] = [
+    let wrong: [&[&str]; 27] = [
         &[],
         &["help"],
         &["totals", "x"],
@@ -45,6 +45,14 @@ fn unknown_arguments_get_the_usage_and_exit_2() {
         &["rows", "1", "x"],
         &["rows", "1", "4097"],
         &["export", "5 700"],
+        &["logs"],
+        &["logs", "1"],
+        &["logs", "1", "x"],
+        &["logs", "1", "--runs"],
+        &["judge", "x"],
+        &["verdicts", "x"],
+        &["verdicts"],
+        &["page"],
     ];
     for arguments in wrong {
         let output = run(arguments, b"");

@@ -1,8 +1,9 @@
 //! The chart of one list: a row per worker, and rows for the plain table, the directory,
 //! listings and refused lines. A column is a place of the list.
 
+use super::drawn::{frame, mark, rules, text};
 use super::labels::{escape, width, Levels};
-use super::looks::{self, Look};
+use super::looks;
 use super::marks::{self, middle, Mark, COLUMN, MARGIN};
 use super::{words, List, Operation};
 
@@ -81,18 +82,6 @@ fn left(place: usize) -> i32 {
 
 fn right(place: usize) -> i32 {
     middle(place) + COLUMN / 2
-}
-
-fn text(class: &str, x: i32, y: i32, words: &str) -> String {
-    let words = escape(words);
-    format!("<text class=\"{class}\" x=\"{x}\" y=\"{y}\">{words}</text>\n")
-}
-
-fn mark(look: &Look, class: &str, x: i32, y: i32, title: &str) -> String {
-    let (id, title) = (look.id, escape(title));
-    format!(
-        "<use class=\"{class}\" href=\"#{id}\" x=\"{x}\" y=\"{y}\"><title>{title}</title></use>\n"
-    )
 }
 
 impl Chart<'_> {
@@ -296,24 +285,13 @@ impl Chart<'_> {
 
     fn element(self) -> String {
         let (height, wide) = (self.y + 1, self.right + MARGIN);
-        let rules = |width: i32| -> String {
-            let rule = |y: &i32| format!("<path class=\"rule\" d=\"M0,{y}H{width}\"/>\n");
-            self.rules.iter().map(rule).collect()
-        };
+        let rules = rules(&self.rules, wide);
         let mut grid = String::new();
         for place in (NUMBERED..=self.list.places).step_by(NUMBERED) {
             let x = middle(place);
             grid += &format!("<path class=\"grid\" d=\"M{x},18V{height}\"/>\n");
         }
-        format!(
-            "<div class=\"chart\">\n<svg class=\"names\" width=\"{NAMES}\" height=\"{height}\">\n{}{}</svg>\n\
-             <div class=\"scroll\"><svg width=\"{wide}\" height=\"{height}\">\n{grid}{}{}{}{}</svg></div>\n</div>\n",
-            rules(NAMES),
-            self.names,
-            rules(wide),
-            self.under,
-            self.rows,
-            self.over
-        )
+        let drawn = [grid, rules, self.under, self.rows, self.over].concat();
+        frame(&self.rules, (NAMES, &self.names), (wide, &drawn), height)
     }
 }

@@ -1,10 +1,13 @@
 //! A run as it is shown: the operations, steps, moments, listings and refused lines that an
-//! input of driver lines makes.
+//! input of driver lines makes. `log_page` and `log_chart` show a log of the sister product.
 
 mod chart;
 pub mod command;
+mod drawn;
 mod labels;
 mod leaf;
+mod log_chart;
+pub mod log_page;
 mod looks;
 mod marks;
 pub mod page;

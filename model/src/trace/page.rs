@@ -43,15 +43,20 @@ li { display: flex; align-items: center; gap: 5px; }
 
 /// The page of a recorded run under this title.
 pub fn page(title: &str, lists: &[List]) -> String {
-    let title = escape(title);
-    let looks = STEPS.iter().chain(&OTHERS);
-    let shapes: String = looks.map(|look| shape(look)).collect();
     let sections: String = lists.iter().map(section).collect();
+    let looks: Vec<&Look> = STEPS.iter().chain(&OTHERS).copied().collect();
     let legend = legend();
+    whole(title, &looks, &format!("{sections}{legend}"))
+}
+
+/// A page under this title, with the shapes that it uses.
+pub fn whole(title: &str, looks: &[&Look], body: &str) -> String {
+    let title = escape(title);
+    let shapes: String = looks.iter().map(|look| shape(look)).collect();
     format!(
         "<!DOCTYPE html>\n<html lang=\"en\">\n<head>\n<meta charset=\"utf-8\"/>\n<title>{title}</title>\n\
          <style>{STYLE}</style>\n</head>\n<body>\n<svg class=\"shapes\"><defs>\n{shapes}</defs></svg>\n\
-         <h1>{title}</h1>\n{sections}{legend}</body>\n</html>\n"
+         <h1>{title}</h1>\n{body}</body>\n</html>\n"
     )
 }
 
@@ -103,15 +108,15 @@ fn counts(list: &List) -> String {
     )
 }
 
+/// A mark with its words in the legend.
+pub fn key(look: &Look, words: &str) -> String {
+    let id = look.id;
+    format!("<li><svg width=\"16\" height=\"24\"><use href=\"#{id}\" x=\"8\" y=\"12\"/></svg>{words}</li>\n")
+}
+
 fn legend() -> String {
-    let key = |look: &&Look| {
-        format!(
-            "<li><svg width=\"16\" height=\"24\"><use href=\"#{}\" x=\"8\" y=\"12\"/></svg>{}</li>\n",
-            look.id, look.words
-        )
-    };
-    let steps: String = STEPS.iter().map(key).collect();
-    let others: String = OTHERS.iter().map(key).collect();
+    let steps: String = STEPS.iter().map(|look| key(look, look.words)).collect();
+    let others: String = OTHERS.iter().map(|look| key(look, look.words)).collect();
     format!(
         "<h2>Legend</h2>\n<ul>\n{steps}</ul>\n<ul>\n{others}</ul>\n\
          <p class=\"notes\">A bar runs from its call (thick edge) to its answer; \

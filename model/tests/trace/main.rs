@@ -1,7 +1,8 @@
 //! The pages of `trace`: well-formed, self-contained, with every worker, operation, step and
-//! moment of the run, no labels over each other; and the examples in docs.
+//! moment of the run, no labels over each other; the pages of logs; and the examples in docs.
 
 mod examples;
+mod logs;
 #[path = "../placed/mod.rs"]
 mod placed;
 mod reader;
@@ -134,21 +135,24 @@ fn random_runs_are_shown_whole() {
 #[test]
 fn a_page_refers_to_its_own_shapes_and_to_nothing_else() {
     for input in random_inputs() {
-        let elements = elements(&input);
-        let ids: Vec<&str> = elements.iter().filter_map(|e| e.get("id")).collect();
-        let mut once = ids.clone();
-        once.sort_unstable();
-        once.dedup();
-        assert_eq!(once.len(), ids.len());
-        for element in &elements {
-            if let Some(shape) = element.get("href") {
-                let id = shape.strip_prefix('#').expect("of this page");
-                assert!(ids.contains(&id), "{shape}");
-            }
-            assert!(element.get("src").is_none());
-            let style = element.name == "style" || element.get("style").is_some();
-            assert!(!style || !element.text.contains("url") && !element.text.contains('@'));
+        assert_self_contained(&elements(&input));
+    }
+}
+
+fn assert_self_contained(elements: &[Element]) {
+    let ids: Vec<&str> = elements.iter().filter_map(|e| e.get("id")).collect();
+    let mut once = ids.clone();
+    once.sort_unstable();
+    once.dedup();
+    assert_eq!(once.len(), ids.len());
+    for element in elements {
+        if let Some(shape) = element.get("href") {
+            let id = shape.strip_prefix('#').expect("of this page");
+            assert!(ids.contains(&id), "{shape}");
         }
+        assert!(element.get("src").is_none());
+        let style = element.name == "style" || element.get("style").is_some();
+        assert!(!style || !element.text.contains("url") && !element.text.contains('@'));
     }
 }
 
@@ -170,32 +174,38 @@ fn no_label_stands_over_another_or_outside() {
     for input in random_inputs() {
         let elements = elements(&input);
         let pictures = elements.iter().filter(|e| e.name == "svg");
-        let pictures: Vec<&Element> = pictures.filter(|e| e.get("width").is_some()).collect();
-        let mut boxes: Vec<(i32, i32, i32, i32, i32)> = Vec::new();
-        for element in elements.iter().filter(|e| e.name == "text") {
-            let picture = picture_of(&elements, element);
-            let (left, right, y) = text_box(element);
-            let wide = elements[picture as usize].number("width");
-            let high = elements[picture as usize].number("height");
-            assert!(
-                0 <= left && right <= wide && 9 <= y && y + 2 <= high,
-                "{element:?}"
-            );
-            boxes.push((picture, y, left, right, y));
-        }
-        assert!(pictures.len() > 2);
-        for (i, one) in boxes.iter().enumerate() {
-            for other in &boxes[i + 1..] {
-                let apart = one.0 != other.0
-                    || (one.1 - other.1).abs() >= 11
-                    || one.3 <= other.2
-                    || other.3 <= one.2;
-                assert!(apart, "{one:?} {other:?}");
-                compared += 1;
-            }
-        }
+        assert!(pictures.filter(|e| e.get("width").is_some()).count() > 2);
+        compared += assert_labels_apart(&elements);
     }
     assert!(compared > 10_000);
+}
+
+/// No label stands over another or outside; answers how many pairs were compared.
+fn assert_labels_apart(elements: &[Element]) -> usize {
+    let mut boxes: Vec<(i32, i32, i32, i32)> = Vec::new();
+    for element in elements.iter().filter(|e| e.name == "text") {
+        let picture = picture_of(elements, element);
+        let (left, right, y) = text_box(element);
+        let wide = elements[picture as usize].number("width");
+        let high = elements[picture as usize].number("height");
+        assert!(
+            0 <= left && right <= wide && 9 <= y && y + 2 <= high,
+            "{element:?}"
+        );
+        boxes.push((picture, y, left, right));
+    }
+    let mut compared = 0;
+    for (i, one) in boxes.iter().enumerate() {
+        for other in &boxes[i + 1..] {
+            let apart = one.0 != other.0
+                || (one.1 - other.1).abs() >= 11
+                || one.3 <= other.2
+                || other.3 <= one.2;
+            assert!(apart, "{one:?} {other:?}");
+            compared += 1;
+        }
+    }
+    compared
 }
 
 /// The picture that an element stands in.
@@ -218,20 +228,24 @@ fn edges(bar: &Element) -> [i32; 3] {
 #[test]
 fn a_moment_stands_on_a_bar() {
     for input in random_inputs() {
-        let elements = elements(&input);
-        let bars: Vec<(i32, [i32; 3])> = elements
-            .iter()
-            .filter(|e| e.has_class("bar"))
-            .map(|bar| (picture_of(&elements, bar), edges(bar)))
-            .collect();
-        for mark in elements.iter().filter(|e| e.has_class("effect")) {
-            let (x, y) = (mark.number("x"), mark.number("y"));
-            let picture = picture_of(&elements, mark);
-            let under = |(p, [right, left, low]): &(i32, [i32; 3])| {
-                *p == picture && *low == y && *left < x && x < *right
-            };
-            assert_eq!(bars.iter().filter(|bar| under(bar)).count(), 1, "{mark:?}");
-        }
+        assert_moments_on_bars(&elements(&input));
+    }
+}
+
+/// Each moment stands on one bar.
+fn assert_moments_on_bars(elements: &[Element]) {
+    let bars: Vec<(i32, [i32; 3])> = elements
+        .iter()
+        .filter(|e| e.has_class("bar"))
+        .map(|bar| (picture_of(elements, bar), edges(bar)))
+        .collect();
+    for mark in elements.iter().filter(|e| e.has_class("effect")) {
+        let (x, y) = (mark.number("x"), mark.number("y"));
+        let picture = picture_of(elements, mark);
+        let under = |(p, [right, left, low]): &(i32, [i32; 3])| {
+            *p == picture && *low == y && *left < x && x < *right
+        };
+        assert_eq!(bars.iter().filter(|bar| under(bar)).count(), 1, "{mark:?}");
     }
 }
 
