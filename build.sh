@@ -1,7 +1,7 @@
 #!/usr/bin/env bash
-# Builds the static library, the C example linked with it, and the Rust crate with its example, and says what it built.
-# It needs the Rattle toolchain (rt), a C compiler and cargo, and no network. The library is proved first, which takes
-# minutes where `rt check` has not been run.
+# Builds the static library, the C examples linked with it, and the Rust crate with its examples, and says what it
+# built. It needs the Rattle toolchain (rt), a C compiler and cargo, and no network. The library is proved first, which
+# takes minutes where `rt check` has not been run.
 set -eu
 cd "$(dirname "$0")"
 for tool in rt cc cargo; do
@@ -15,12 +15,14 @@ quiet() { "$@" >"$log" 2>&1 || { cat "$log" >&2 && exit 1; }; }
 
 quiet tests/built.sh capi
 mkdir -p target/examples
-quiet cc -std=c99 -O2 -Wall -Wextra -pedantic -Iinclude examples/c/dispatcher.c target/staticlib/libcapi.a \
-  -o target/examples/dispatcher
+for example in dispatcher check_log; do
+  quiet cc -std=c99 -O2 -Wall -Wextra -pedantic -Iinclude "examples/c/$example.c" target/staticlib/libcapi.a \
+    -o "target/examples/$example"
+done
 quiet cargo build --release --offline --manifest-path bindings/rust/Cargo.toml --target-dir bindings/rust/target \
   --lib --examples
 
-for built in target/staticlib/libcapi.a target/examples/dispatcher \
-  bindings/rust/target/release/{libtotals.rlib,examples/dispatcher}; do
+for built in target/staticlib/libcapi.a target/examples/{dispatcher,check_log} \
+  bindings/rust/target/release/{libtotals.rlib,examples/dispatcher,examples/check_log}; do
   [ -e "$built" ] && echo "built $built ($(wc -c <"$built") bytes)"
 done

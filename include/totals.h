@@ -6,9 +6,9 @@
  * What every function promises
  *   - It takes any words and any numbers. Whatever the words hold, it reads and writes nothing outside the slices it
  *     was lent, and returns.
- *   - Where it returns a refusal (1 to 8, 10), it has changed no word, no list, no output and no report.
- *   - It keeps nothing between calls: all of the table is in the words. It allocates nothing, and calls nothing but
- *     memcpy and memset.
+ *   - Where it returns a refusal (1 to 8, 10, 14), it has changed no word, no list, no output and no report.
+ *   - It keeps nothing between calls: all of the table is in the words; totals_check_log takes a log and no table's
+ *     words. It allocates nothing, and calls nothing but memcpy and memset.
  *   - Over words that totals_open accepted and that nothing but these calls has changed since, lent whole each time:
  *     TOTALS_STRANGE never comes; answers and listings are those of a plain table that serves each operation at one
  *     moment between its call and its answer, rebates are those on the listing's totals, and an exported file has the
@@ -62,6 +62,10 @@ extern "C" {
 #define TOTALS_EXPORT_ROW 34
 #define TOTALS_GREATEST_EXPORT 139279
 
+/* A log for totals_check_log: the words of an operation, and the most operations. */
+#define TOTALS_LOGGED_WORDS 8
+#define TOTALS_GREATEST_LOGGED 12
+
 /*
  * The greatest ticket number. Each update of a worker takes its next one, from 1 on after an opening: so this is also
  * how many updates one worker can make. And how many steps one totals_run gives at most.
@@ -89,7 +93,7 @@ extern "C" {
 #define TOTALS_GREATEST_STEPS(workers) \
     ((workers) == 1 ? TOTALS_CHECK_STEPS(workers, 2) : TOTALS_CHECK_STEPS(workers, TOTALS_GREATEST_CHECK))
 
-/* Opened, accepted, listed, exported; and of steps: made, and the operation goes on. */
+/* Opened, accepted, listed, exported, an order found; and of steps: made, and the operation goes on. */
 #define TOTALS_OK 0
 #define TOTALS_MOVED 0
 
@@ -102,7 +106,12 @@ extern "C" {
 #define TOTALS_KIND 6      /* not 1 insert, 2 delete, 3 lookup, 4 post */
 #define TOTALS_SPENT 7     /* insert, delete or post by a worker that has no ticket number left */
 #define TOTALS_STRANGE 8   /* the words are no table: see totals_call */
-#define TOTALS_NARROW 10   /* listing or rebates: a list shorter than the count; export: an output than the file */
+#define TOTALS_NARROW 10   /* listing or rebates: a list shorter than the count; export: an output than the file;
+                              judging a log: the list for the order shorter than the log */
+#define TOTALS_BAD_LOG 14  /* the words are no log: see totals_check_log */
+
+/* Judging a log: no order explains it. This is no refusal. */
+#define TOTALS_NO 16
 
 /* Kinds of operations. */
 #define TOTALS_INSERT 1
@@ -110,7 +119,7 @@ extern "C" {
 #define TOTALS_LOOKUP 3
 #define TOTALS_POST 4
 
-/* Answers: every number from 16 on that a step or a run returns. Found and posted have a total, in the report. */
+/* Answers: every number from 17 on that a step or a run returns. Found and posted have a total, in the report. */
 #define TOTALS_ADDED 17    /* insert: the account was not there */
 #define TOTALS_REPLACED 18 /* insert: the account was there */
 #define TOTALS_REMOVED 19  /* delete: the account was there */
@@ -261,6 +270,45 @@ uint32_t totals_place(uint32_t account);
  * accounts share a bucket. Takes any number and is never refused.
  */
 uint32_t totals_account_at(uint32_t place);
+
+/*
+ * An operation of a log, as eight words. An array of such structs is lent to totals_check_log by a cast to
+ * const uint64_t *, with TOTALS_LOGGED_WORDS times their number for the length. As a word a total is one of two's
+ * complement, (uint64_t)total. Workers are any numbers; only which of them are equal counts. Positions are any numbers,
+ * none twice; only which of them is greater counts.
+ */
+struct totals_logged {
+    uint64_t worker;
+    uint64_t kind;        /* TOTALS_INSERT, TOTALS_DELETE, TOTALS_LOOKUP or TOTALS_POST */
+    uint64_t account;     /* of 32 bits */
+    int64_t total;        /* an insert's total or a post's amount; ignored for a delete and a lookup */
+    uint64_t answer;      /* as a step returns it: TOTALS_ADDED to TOTALS_OVERRUN */
+    int64_t answer_total; /* the total of TOTALS_FOUND or TOTALS_POSTED; ignored for the other answers */
+    uint64_t call;        /* the call's position */
+    uint64_t end;         /* the answer's position */
+};
+
+/*
+ * Judges a log of up to TOTALS_GREATEST_LOGGED answered operations, of this table or another: whether some order of
+ * them explains it. Such an order has each operation once, and none before one that was answered before its call, whose
+ * end is below its call. A plain table that starts empty, fed the operations in this order, gives all the answers of
+ * the log. It has the rule of TOTALS_CROWDED, with capacity for b and depth for M.
+ *
+ * Returns TOTALS_OK where there is such an order. One of them is then written to the start of the list: the places of
+ * the operations in the log, counted from 0. Nothing is written past their number. Where there are several such orders,
+ * it is not promised which one is written. An empty log is explained by the empty order.
+ * Returns TOTALS_NO where there is none, with the list as it was. So it does for an answer's number that no operation
+ * gives.
+ * Or, tested in this order, before the search and with the list as it was:
+ *   TOTALS_SETTINGS  capacity or depth is outside its range;
+ *   TOTALS_BAD_LOG   length is no multiple of TOTALS_LOGGED_WORDS; there are more than TOTALS_GREATEST_LOGGED
+ *                    operations; two of all positions, calls and ends, are equal; an end is not after its call; two
+ *                    operations of one worker overlap, neither answered before the other's call; a kind is none of the
+ *                    four; or an account has more than 32 bits;
+ *   TOTALS_NARROW    the list is shorter than the number of operations.
+ */
+uint64_t totals_check_log(const uint64_t *log, size_t length, uint64_t capacity, uint64_t depth, uint64_t *order,
+                          size_t order_length);
 
 #ifdef __cplusplus
 }

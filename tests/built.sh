@@ -1,7 +1,7 @@
 #!/usr/bin/env bash
-# built.sh NAME...: builds what is missing or older than a Rattle file: the program for `totals`, and for any other
-# crate its static library, target/staticlib/libNAME.a. It says something only where that fails. Whoever else asks
-# waits: two runs of rt would write to the same files of target/.
+# built.sh NAME...: builds what is missing or older than a Rattle file: the program for `totals` and `judge`, and for
+# any other crate its static library, target/staticlib/libNAME.a. It says something only where that fails. Whoever else
+# asks waits: two runs of rt would write to the same files of target/.
 set -u
 cd "$(dirname "$0")/.." || exit 2
 exec 9<crates.txt
@@ -22,7 +22,7 @@ build() {
 
 for name; do
   case $name in
-  totals) build target/bin/totals rt check totals || exit 1 ;;
+  totals | judge) build "target/bin/$name" rt check "$name" || exit 1 ;;
   *) build "target/staticlib/lib$name.a" rt staticlib "$name" || exit 1 ;;
   esac
 done

@@ -1,9 +1,9 @@
 #!/usr/bin/env bash
-# The interfaces for C and Rust: the header, the library's symbols, both examples, the Rust crate's tests, reports of
-# every length, tickets of 64 bits, places of accounts, rebates, exports, and the rebates on random totals, the exports
-# of random rows and the lines of `totals` over the C interface against the second model. Exported files are also read
-# by Python's csv and decimal modules; where there is no python3, these tests fail. The last line is 'N passed, M
-# failed'; the exit status is 0 only if M is 0.
+# The interfaces for C and Rust: the header, the library's symbols, the examples, the Rust crate's tests, reports of
+# every length, tickets of 64 bits, places of accounts, rebates, exports, logs, and the rebates on random totals, the
+# exports of random rows, the verdicts on random logs and the lines of `totals` over the C interface against the second
+# model. Exported files are also read by Python's csv and decimal modules; where there is no python3, these tests fail.
+# The last line is 'N passed, M failed'; the exit status is 0 only if M is 0.
 # interfaces.sh [SEED LINES]...: without arguments, fixed seeds of 600,000 lines in all.
 set -u
 cd "$(dirname "$0")/.." || exit 2
@@ -33,6 +33,7 @@ header() {
   {
     echo '#include "totals.h"'
     echo 'static_assert(TOTALS_GREATEST_UPDATES == UINT64_MAX, "the greatest ticket number");'
+    echo 'static_assert(sizeof(totals_logged) == 64 && offsetof(totals_logged, end) == 56, "an operation of a log");'
     echo 'int main() { return totals_words_needed(1, 2, 0) != TOTALS_LEAST_WORDS; }'
   } >"$run/linked.cc"
   for compiler in c++ clang++; do
@@ -61,15 +62,18 @@ symbols() {
   check $? "the library calls memcpy and memset only"
 }
 
-# example PROGRAM TEXT: the program prints the stored output, and nothing to standard error
+# example PROGRAM NAME TEXT: the program prints the stored output of this name, and nothing to standard error
 example() {
-  "$1" >"$run/output" 2>"$run/error" && [ ! -s "$run/error" ] && diff "$run/output" examples/dispatcher.out
-  check $? "$2"
+  "$1" >"$run/output" 2>"$run/error" && [ ! -s "$run/error" ] && diff "$run/output" "examples/$2.out"
+  check $? "$3"
 }
 
 examples() {
-  example target/examples/dispatcher "the C example prints the stored output"
-  example bindings/rust/target/release/examples/dispatcher "the Rust example prints the stored output"
+  local name
+  for name in dispatcher check_log; do
+    example "target/examples/$name" "$name" "the C example $name prints the stored output"
+    example "bindings/rust/target/release/examples/$name" "$name" "the Rust example $name prints the stored output"
+  done
 }
 
 # readme LANGUAGE: the README's text in that language
@@ -162,6 +166,27 @@ unread_files() {
   unread "with quotes that do not end" sed '2 s/,/,"/'
 }
 
+logs() { sound logs "a log's order, or a verdict that writes nothing" "$@"; }
+
+# judged SEED COUNT TEXT OPTION...: random logs are judged by totals_check_log, in the program that `logs` has built
+# last, as by the model, and every order is one by the model
+judged() {
+  local status seed=$1 count=$2 text=$3
+  shift 3
+  "$model" logs "$seed" "$count" "$@" >"$run/input" &&
+    "$run/logs" judge <"$run/input" >"$run/output" 2>"$run/error" && [ ! -s "$run/error" ] &&
+    "$model" verdicts "$run/input" "$run/output" >"$run/model" && [ "$(wc -l <"$run/output")" -eq "$count" ]
+  status=$?
+  [ "$status" -eq 0 ] || head -n 20 "$run/error" "$run/model"
+  check "$status" "seed $seed: the verdicts on $count logs $text, $(grep -c '^order' "$run/output") orders"
+}
+
+# verdicts SORT...: the last logs had all of these verdicts, and no other
+verdicts() {
+  [ "$(sed 's/^order.*$/order/' "$run/output" | sort -u)" = "$(printf '%s\n' "$@")" ]
+  check $? "verdicts on these logs: $(printf '%s, ' "$@")and no other"
+}
+
 # compare PROGRAM SEED LINES TEXT: random lines are met with the same bytes by the program and by the model
 compare() {
   "$model" lines "$2" "$3" >"$run/input" && "$model" totals <"$run/input" >"$run/model" &&
@@ -199,15 +224,17 @@ stored() {
 
 # the C programs once more with the compiler's own checks of memory and arithmetic
 sanitized() {
-  local checks=(-fsanitize=address,undefined -fno-sanitize-recover=all -std=c99 -g)
+  local name checks=(-fsanitize=address,undefined -fno-sanitize-recover=all -std=c99 -g)
   printf 'int main(void) { return 0; }\n' >"$run/nothing.c"
   if ! { cc "${checks[@]}" "$run/nothing.c" -o "$run/nothing" && "$run/nothing"; } >/dev/null 2>&1; then
     echo "        -fsanitize=address,undefined is not available: not tried"
     return
   fi
-  cc "${checks[@]}" "${strict[@]}" examples/c/dispatcher.c "$library" -o "$run/dispatcher"
-  check $? "the C example is built with -fsanitize=address,undefined"
-  example "$run/dispatcher" "it prints the stored output"
+  for name in dispatcher check_log; do
+    cc "${checks[@]}" "${strict[@]}" "examples/c/$name.c" "$library" -o "$run/$name"
+    check $? "the C example $name is built with -fsanitize=address,undefined"
+    example "$run/$name" "$name" "it prints the stored output"
+  done
   reports "${checks[@]}"
   tickets "${checks[@]}"
   places "${checks[@]}"
@@ -215,6 +242,8 @@ sanitized() {
   rebated 15 50000 "with these checks"
   exports "${checks[@]}"
   exported 21 4096 "with these checks"
+  logs "${checks[@]}"
+  judged 25 10000 "with these checks"
   cc "${checks[@]}" "${strict[@]}" tests/c/lines.c "$library" -o "$run/lines"
   check $? "the program for lines is built with -fsanitize=address,undefined"
   compare "$run/lines" 14 50000 "with these checks"
@@ -238,6 +267,11 @@ exported 18 1000 "over the C interface"
 exported 19 4096 "over the C interface"
 exported 20 4096 "over the C interface"
 unread_files
+logs
+judged 22 100000 "over the C interface"
+verdicts no order "refused 1" "refused 14"
+judged 23 10000 "of runs" --runs
+verdicts order
 lines "$@"
 stored
 sanitized

@@ -52,11 +52,12 @@ impl Crates {
     }
 }
 
-/// A source's lines without contracts, which may go over lines, and without what is said to the prover or the linker.
+/// A source's lines without contracts, which may have names and go over lines, and without what is said to the prover
+/// or the linker.
 pub fn plain_lines(source: &str) -> Vec<&str> {
     let mut open = 0;
     let mut in_contract = |line: &&str| {
-        let starts = ["requires {", "ensures {"]
+        let starts = ["requires ", "ensures "]
             .iter()
             .any(|word| line.trim_start().starts_with(word));
         let contract = starts || open > 0;

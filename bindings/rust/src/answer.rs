@@ -48,6 +48,21 @@ impl Answer {
             _ => unreachable!("{number} is no answer of the library"),
         }
     }
+
+    /// The number that a step returns with the answer, and the word that tells its total, 0 where it has none.
+    pub(crate) fn words(self) -> [u64; 2] {
+        match self {
+            Answer::Added => [TOTALS_ADDED, 0],
+            Answer::Replaced => [TOTALS_REPLACED, 0],
+            Answer::Removed => [TOTALS_REMOVED, 0],
+            Answer::Absent => [TOTALS_ABSENT, 0],
+            Answer::Found(total) => [TOTALS_FOUND, total as u64],
+            Answer::None => [TOTALS_NONE, 0],
+            Answer::Posted(total) => [TOTALS_POSTED, total as u64],
+            Answer::Crowded => [TOTALS_CROWDED, 0],
+            Answer::Overrun => [TOTALS_OVERRUN, 0],
+        }
+    }
 }
 
 /// The answer's word, and the total where there is one: `found 700`, `posted 700`.

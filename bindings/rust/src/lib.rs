@@ -9,7 +9,8 @@
 //! [`Answer::Overrun`] was not carried out; a delete is never answered so. An account's bucket is chosen by the first
 //! bits of its [`place`], so that accounts numbered one after another are spread over all buckets; listings ascend by
 //! the account's number. [`rebate`] is the yearly rebate on a total in cents, and [`Table::rebates`] has those of all
-//! accounts. [`Table::export`] is the listing as a CSV file.
+//! accounts. [`Table::export`] is the listing as a CSV file. [`check_log`] judges a log of answered operations, of this
+//! table or another: whether some order of a plain table explains it.
 //!
 //! ```
 //! use totals::{Answer, Owned, Ran, Refusal, Settings};
@@ -27,6 +28,7 @@
 #![deny(missing_docs, unsafe_op_in_unsafe_fn)]
 
 mod answer;
+mod logs;
 mod places;
 pub mod raw;
 mod rebate;
@@ -35,6 +37,7 @@ mod settings;
 mod table;
 
 pub use answer::{Answer, Ran, Stepped};
+pub use logs::{check_log, check_log_into, Logged, Operation};
 pub use places::{account_at, place};
 pub use rebate::rebate;
 pub use refusal::Refusal;

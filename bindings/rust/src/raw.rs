@@ -1,7 +1,7 @@
 //! The functions of the static library as C sees them; `include/totals.h` says what each promises and what it is owed.
 //! A slice is a pointer and a length. The constants are the header's.
 
-/// Opened, accepted, listed, exported.
+/// Opened, accepted, listed, exported, an order found.
 pub const TOTALS_OK: u64 = 0;
 /// A step was made, and the operation goes on.
 pub const TOTALS_MOVED: u64 = 0;
@@ -22,8 +22,12 @@ pub const TOTALS_KIND: u64 = 6;
 pub const TOTALS_SPENT: u64 = 7;
 /// The words are no table.
 pub const TOTALS_STRANGE: u64 = 8;
-/// A list is shorter than the count, or the output than the file.
+/// A list is shorter than the count, the output than the file, or the list for the order than the log.
 pub const TOTALS_NARROW: u64 = 10;
+/// The words are no log.
+pub const TOTALS_BAD_LOG: u64 = 14;
+/// No order explains the log. This is no refusal.
+pub const TOTALS_NO: u64 = 16;
 
 /// An insert.
 pub const TOTALS_INSERT: u64 = 1;
@@ -67,6 +71,10 @@ pub const TOTALS_EXPORT_HEADER: u64 = 15;
 pub const TOTALS_EXPORT_ROW: u64 = 34;
 /// The most bytes of an exported file.
 pub const TOTALS_GREATEST_EXPORT: u64 = 139_279;
+/// The words of an operation in a log.
+pub const TOTALS_LOGGED_WORDS: u64 = 8;
+/// The most operations of a log.
+pub const TOTALS_GREATEST_LOGGED: u64 = 12;
 
 extern "C" {
     /// The words needed for settings, or 1.
@@ -134,4 +142,15 @@ extern "C" {
 
     /// The account at a place.
     pub fn totals_account_at(place: u32) -> u32;
+
+    /// Whether some order explains a log of eight words an operation: 0 and an order, 16 where none does, or the number
+    /// of a refusal.
+    pub fn totals_check_log(
+        log: *const u64,
+        length: usize,
+        capacity: u64,
+        depth: u64,
+        order: *mut u64,
+        order_length: usize,
+    ) -> u64;
 }

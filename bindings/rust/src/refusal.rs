@@ -32,12 +32,16 @@ pub enum Refusal {
     Spent,
     /// The words are no table.
     Strange,
-    /// A list is shorter than the count, or the output than the exported file.
+    /// A list is shorter than the count, the output than the exported file, or the list for the order than the log.
     Narrow,
+    /// The words are no log: they make no whole operations; there are more than 12; two of all positions are equal; an
+    /// end is not after its call; two operations of one worker overlap; a kind is none of the four; or an account has
+    /// more than 32 bits.
+    BadLog,
 }
 
 impl Refusal {
-    const ALL: [Refusal; 9] = [
+    const ALL: [Refusal; 10] = [
         Refusal::Settings,
         Refusal::Short,
         Refusal::Stranger,
@@ -47,6 +51,7 @@ impl Refusal {
         Refusal::Spent,
         Refusal::Strange,
         Refusal::Narrow,
+        Refusal::BadLog,
     ];
 
     /// The refusal that a number other than 0 and below the answers is; the contracts leave no other.
@@ -67,6 +72,7 @@ impl Refusal {
             Refusal::Spent => TOTALS_SPENT,
             Refusal::Strange => TOTALS_STRANGE,
             Refusal::Narrow => TOTALS_NARROW,
+            Refusal::BadLog => TOTALS_BAD_LOG,
         }
     }
 
@@ -82,6 +88,7 @@ impl Refusal {
             Refusal::Spent => "spent",
             Refusal::Strange => "strange",
             Refusal::Narrow => "narrow",
+            Refusal::BadLog => "bad log",
         }
     }
 
@@ -96,7 +103,11 @@ impl Refusal {
             Refusal::Kind => "not 1 insert, 2 delete, 3 lookup, 4 post",
             Refusal::Spent => "insert, delete or post by a worker that has no ticket number left",
             Refusal::Strange => "memory fails the checks",
-            Refusal::Narrow => "accounts, totals or rebates list shorter than the count, or output than the file",
+            Refusal::Narrow => "a list shorter than what is to be written to it, or output than the file",
+            Refusal::BadLog => {
+                "more than 12 operations, a position twice, an end not after its call, \
+                 operations of one worker that overlap, or what is no operation"
+            }
         }
     }
 }

@@ -489,6 +489,7 @@ fn words_and_numbers_of_refusals_and_answers() {
         (Refusal::Spent, 7, "spent"),
         (Refusal::Strange, 8, "strange"),
         (Refusal::Narrow, 10, "narrow"),
+        (Refusal::BadLog, 14, "bad log"),
     ];
     for (refusal, number, word) in all {
         assert_eq!((refusal.number(), refusal.word()), (number, word));

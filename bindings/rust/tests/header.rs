@@ -2,7 +2,7 @@
 
 use std::path::{Path, PathBuf};
 use std::{collections::BTreeMap, fs, process::Command};
-use totals::{raw, rebate, Answer, Owned, Ran, Refusal, Settings, Table};
+use totals::{raw, rebate, Answer, Logged, Owned, Ran, Refusal, Settings, Table};
 
 /// A file or a folder of the repository.
 fn repository(path: &str) -> PathBuf {
@@ -33,7 +33,7 @@ fn raw_constants() -> BTreeMap<String, u64> {
 #[test]
 fn constants_of_raw() {
     let (mut header, raw) = (constants(), raw_constants());
-    assert_eq!(raw.len(), 31);
+    assert_eq!(raw.len(), 35);
     header.retain(|name, _| raw.contains_key(name));
     assert_eq!(raw, header);
 }
@@ -46,9 +46,10 @@ fn refusals_and_limits() -> Result<(), Refusal> {
         Refusal::Spent,
         Refusal::Strange,
         Refusal::Narrow,
+        Refusal::BadLog,
     ]);
     for refusal in all {
-        assert_eq!(header[&refusal.word().to_uppercase()], refusal.number());
+        assert_eq!(header[&refusal.word().to_uppercase().replace(' ', "_")], refusal.number());
     }
     assert_eq!(
         (header["LEAST_WORKERS"], header["GREATEST_WORKERS"]),
@@ -69,6 +70,10 @@ fn refusals_and_limits() -> Result<(), Refusal> {
     assert_eq!(header["LEAST_WORDS"], needed("LEAST")?.words_needed() as u64);
     assert_eq!(header["GREATEST_WORDS"], needed("GREATEST")?.words_needed() as u64);
     assert_eq!(header["GREATEST_COUNT"], Table::GREATEST_COUNT as u64);
+    assert_eq!(
+        (header["LOGGED_WORDS"], header["GREATEST_LOGGED"]),
+        (Logged::WORDS as u64, Logged::GREATEST_COUNT as u64)
+    );
     Ok(())
 }
 
