@@ -32,9 +32,9 @@ pub enum Command {
 }
 
 // The limits of specs/Commands, by the same names: the greatest w, n, b and M; of accounts; of steps.
-const GREATEST_SMALL: u64 = 65535;
+pub const GREATEST_SMALL: u64 = 65535;
 
-const GREATEST_ACCOUNT: u64 = 4294967295;
+pub const GREATEST_ACCOUNT: u64 = 4294967295;
 
 const LEAST_STEPS: u64 = 1;
 
@@ -113,7 +113,7 @@ fn steps(x: &[u8], y: &[u8]) -> Command
 }
 
 // The first number of a command and the one after it, which is at most `most`.
-fn read_pair(x: &[u8], y: &[u8], most: u64) -> Pair
+pub fn read_pair(x: &[u8], y: &[u8], most: u64) -> Pair
     ensures { λ r. ⌜ r ≡ asPair (smallOf (now (x .entry))) (upTo most (numeral (now (y .entry)))) ⌝ }
 {
     let Number::Value(first) = read_number(x, GREATEST_SMALL) else {

@@ -19,7 +19,7 @@ use Rattle.machine.specs.Choice.{if_then_else_, _and_}
 use Rattle.machine.specs.Sequential.{Table}
 use Rattle.machine.proofs.laws.Base.{if-true, if-false, none-some, and-parts}
 use Rattle.logs.specs.Log.{areLog, countOf, logOf, isLog, operationWords}
-use Rattle.logs.specs.Orders.{fed}
+use Rattle.logs.specs.Orders.{servedAt}
 use Rattle.logs.specs.Judging.{earlierIn, placesOf, orderOf, refusal, Judged}
 use Rattle.logs.proofs.Cuts.{search-laws}
 use Rattle.logs.proofs.Related.{search-related}
@@ -79,7 +79,7 @@ module _ (l : List ℕ) (b M : ℕ) where
       let places = placesOf (logOf l) in
       let cut = search-laws (List ℕ) 12 (replayed l b M) (earlierIn (logOf l)) .cuts (stillAt l) sameWords
       (λ i t t′ s e. still-keeps l b M i t t′ s e) same-words places zeros zeros in
-      let plain = search-related (List ℕ) Table 12 (replayed l b M) (fed b M (logOf l)) (earlierIn (logOf l)) (Means l M) places
+      let plain = search-related (List ℕ) Table 12 (replayed l b M) (servedAt b M (logOf l)) (earlierIn (logOf l)) (Means l M) places
       (λ t t′ i r e. replay-means l b M few t t′ i r (ltb-true i (countOf l) e)) (countOf l) places (λ i e. e) zeros [] (empty-means l M) in
       ap (λ (left : ℕ → Bool). searchIn l b M (countOf l) zeros 0 left zeros) (all-left (countOf l))
       ∙ (rw (places-count (logOf l) few) at cut) ∙ plain

@@ -72,7 +72,7 @@ numeral-length k (b ∷ f) v e h = by (eqb b zeroDigit) refl e
     by false q p = first-digit k b f v p (eqb-false b zeroDigit q) h
 
 -- within a limit of the grammar
-limited-length : (most k : ℕ) (f : List ℕ) (v : ℕ) → most < 10 ^ suc k → upTo most (numeral f) ≡ some v → length f ≤ suc k
+pub limited-length : (most k : ℕ) (f : List ℕ) (v : ℕ) → most < 10 ^ suc k → upTo most (numeral f) ≡ some v → length f ≤ suc k
 unfolding upTo
 limited-length most k f v h e = by (numeral f) refl e
   where
@@ -102,11 +102,11 @@ sizeLength = 19
 abbrev totalLength : ℕ
 totalLength = suc sizeLength
 
-small-length : (f : List ℕ) (v : ℕ) → smallOf f ≡ some v → length f ≤ smallLength
+pub small-length : (f : List ℕ) (v : ℕ) → smallOf f ≡ some v → length f ≤ smallLength
 unfolding smallOf
 small-length f v e = limited-length greatestSmall 4 f v (lit< tt) e
 
-account-length : (f : List ℕ) (v : ℕ) → accountOf f ≡ some v → length f ≤ accountLength
+pub account-length : (f : List ℕ) (v : ℕ) → accountOf f ≡ some v → length f ≤ accountLength
 unfolding accountOf
 account-length f v e = limited-length greatestAccount 9 f v (lit< tt) e
 
@@ -133,7 +133,7 @@ negative-length f (some (suc n)) z q p =
     let h = leb-true (suc n) leastTotalSize (passed (leb (suc n) leastTotalSize) (some (negsuc n)) z p .0) in
     numeral-length 18 f (suc n) q (omega arith)
 
-total-length : (f : List ℕ) (z : ℤ) → totalOf f ≡ some z → length f ≤ totalLength
+pub total-length : (f : List ℕ) (z : ℤ) → totalOf f ≡ some z → length f ≤ totalLength
 unfolding totalOf signedNumeral if_then_else_
 total-length [] z e = omega arith
 total-length (b ∷ f) z e = by (eqb b minusSign) e
@@ -191,7 +191,7 @@ long-four letter x y z h =
 -- ---- lines
 
 -- the bytes of the fields, and one for the end of each
-abbrev span : List (List ℕ) → ℕ
+abbrev pub span : List (List ℕ) → ℕ
 span [] = 0
 span (f ∷ fs) = suc (length f) + span fs
 
@@ -201,7 +201,7 @@ span-step true b n ps e = omega arith
 span-step false b n [] e = absurd (omega arith)
 span-step false b n (p ∷ ps) e = omega arith
 
-span-of : (l : List ℕ) → suc (length l) ≡ span (fieldsOf l)
+pub span-of : (l : List ℕ) → suc (length l) ≡ span (fieldsOf l)
 unfolding fieldsOf partsAt
 span-of [] = omega arith
 span-of (b ∷ bs) = span-step (eqb b space) b (length bs) (fieldsOf bs) (span-of bs)

@@ -74,7 +74,7 @@ module _ (b : ℕ) where
   begins true ps = ([], ps, refl)
   begins false ps = starts ps
 
-some-field : (l : List ℕ) → (p : List ℕ) × (qs : List (List ℕ)) × (fieldsOf l ≡ p ∷ qs)
+pub some-field : (l : List ℕ) → (p : List ℕ) × (qs : List (List ℕ)) × (fieldsOf l ≡ p ∷ qs)
 unfolding fieldsOf partsAt
 some-field [] = ([], [], refl)
 some-field (b ∷ bs) = begins b (eqb b space) (fieldsOf bs)

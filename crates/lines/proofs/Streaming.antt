@@ -116,21 +116,21 @@ module _ (r : Reader) (xs : List ℕ) (h : HoldsBytes r xs) where
 -- ---- the lines of an input
 
 -- xs put before the first line
-front : List ℕ → List (List ℕ) → List (List ℕ)
+unfoldable pub front : List ℕ → List (List ℕ) → List (List ℕ)
 front [] ls = ls
 front (x ∷ xs) ls = before x (front xs ls)
 
-front-end : (xs : List ℕ) (b : ℕ) (ls : List (List ℕ)) → front (xs ++ b ∷ []) ls ≡ front xs (before b ls)
+pub front-end : (xs : List ℕ) (b : ℕ) (ls : List (List ℕ)) → front (xs ++ b ∷ []) ls ≡ front xs (before b ls)
 unfolding front
 front-end [] b ls = refl
 front-end (x ∷ xs) b ls = ap (before x) (front-end xs b ls)
 
-front-line : (xs : List ℕ) (ls : List (List ℕ)) → front xs ([] ∷ ls) ≡ xs ∷ ls
+pub front-line : (xs : List ℕ) (ls : List (List ℕ)) → front xs ([] ∷ ls) ≡ xs ∷ ls
 unfolding front before
 front-line [] ls = refl
 front-line (x ∷ xs) ls = rw (front-line xs ls)
 
-front-nil : (x : ℕ) (xs : List ℕ) → front (x ∷ xs) [] ≡ (x ∷ xs) ∷ []
+pub front-nil : (x : ℕ) (xs : List ℕ) → front (x ∷ xs) [] ≡ (x ∷ xs) ∷ []
 unfolding front before
 front-nil x [] = refl
 front-nil x (y ∷ xs) = rw (front-nil y xs)

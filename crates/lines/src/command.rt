@@ -57,7 +57,7 @@ fn after_fields(letter: u8, x: &[u8], y: &[u8], rest: &[u8]) -> Command
 }
 
 // How long the first field is: up to the first space, or to the end.
-fn first_field(bytes: &[u8]) -> usize
+pub fn first_field(bytes: &[u8]) -> usize
     ensures { λ r. ⌜ r ≡ firstField (now (bytes .entry)) ⌝ }
 {
     let mut i = 0;

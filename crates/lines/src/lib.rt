@@ -4,5 +4,6 @@
 mod command;
 mod reader;
 
+pub use command::first_field;
 pub use command::parse;
 pub use reader::Reader;

@@ -14,7 +14,7 @@ use Rattle.machine.specs.Sequential.{Table}
 use Rattle.machine.specs.History.{Member, Distinct}
 use Rattle.machine.proofs.laws.Base.{no-both, is-false, and-parts}
 use Rattle.logs.specs.Log.{Log, greatestOperations, all, isOperation, precedes, isLog}
-use Rattle.logs.specs.Orders.{fed, InTime, GivesAll, Explains}
+use Rattle.logs.specs.Orders.{servedAt, InTime, GivesAll, Explains}
 use Rattle.logs.specs.Search.{leftOf, ready, Completes}
 use Rattle.logs.specs.Judging.{earlierIn, placesOf, orderOf, AllExplained}
 use Rattle.logs.proofs.Left.{all-at, left-before, not-taken, others-left, left-below}
@@ -43,7 +43,7 @@ places-count log l =
 
 module _ (b M : ℕ) (log : Log) where
   abbrev Order : (ℕ → Bool) → Table → List ℕ → Type 0
-  Order = Completes Table greatestOperations (fed b M log) (earlierIn log)
+  Order = Completes Table greatestOperations (servedAt b M log) (earlierIn log)
 
   -- ---- what an order of all that is left gives
 
@@ -74,7 +74,7 @@ module _ (b M : ℕ) (log : Log) where
   order-in-time (j ∷ o) left t c = (
     λ k m.
         let z = order-members (j ∷ o) left t c k (inr m) in
-        ready-at Table greatestOperations (fed b M log) (earlierIn log) left j (c .1 .1 .0) k (z .0) (z .1),
+        ready-at Table greatestOperations (servedAt b M log) (earlierIn log) left j (c .1 .1 .0) k (z .0) (z .1),
     order-in-time o (assign left j false) (c .1 .1 .1 .0) (c .1 .1 .1 .1 .1),
   )
 
@@ -95,8 +95,8 @@ module _ (b M : ℕ) (log : Log) where
       let rest = order-of o (assign left j false) (gives .0) (d .1) members′ every′ (time .1) (gives .1 .1) in
       (h .0, (h .1 .0, (isReady, (gives .0, (gives .1 .0, rest)))))
     where
-      isReady : ready Table greatestOperations (fed b M log) (earlierIn log) left j ≡ true
-      isReady = ready-of Table greatestOperations (fed b M log) (earlierIn log) left j (λ k l e. at k (every k l e))
+      isReady : ready Table greatestOperations (servedAt b M log) (earlierIn log) left j ≡ true
+      isReady = ready-of Table greatestOperations (servedAt b M log) (earlierIn log) left j (λ k l e. at k (every k l e))
         where
           at : (k : ℕ) → Member k (j ∷ o) → earlierIn log k j ≡ false
           at k (inl z) = rw z (members j (inl refl) .1 .1)
@@ -144,7 +144,7 @@ module _ (b M : ℕ) (log : Log) where
 -- an order that explains a log has as many places
 pub explained-length : (b M : ℕ) (log : Log) → isLog log ≡ true → (o : List ℕ) → Explains b M log o → length o ≡ log .count
 explained-length b M log good o x =
-    order-length Table greatestOperations (fed b M log) (earlierIn log) (placesOf log) [] o (explains-order b M log good o x)
+    order-length Table greatestOperations (servedAt b M log) (earlierIn log) (placesOf log) [] o (explains-order b M log good o x)
     ∙ count b M log good
 
 -- what the search finds explains the log, and where an order does, it finds one
@@ -153,7 +153,7 @@ unfolding orderOf
 all-explained b M log good =
     record {
       explained = λ o e. order-explains b M log good o
-          (sound-at Table greatestOperations (fed b M log) (earlierIn log) (log .count) (placesOf log) [] o (count b M log good) e);
-      found = λ o x. complete-at Table greatestOperations (fed b M log) (earlierIn log) (log .count) (placesOf log) [] o
+          (sound-at Table greatestOperations (servedAt b M log) (earlierIn log) (log .count) (placesOf log) [] o (count b M log good) e);
+      found = λ o x. complete-at Table greatestOperations (servedAt b M log) (earlierIn log) (log .count) (placesOf log) [] o
           (count b M log good) (explains-order b M log good o x);
     }

@@ -10,13 +10,13 @@ use Rattle.interface.specs.declared.Answer.the-variants.{Added, Found, None, Cr
 use Rattle.machine.specs.Computing.{computing}
 use Rattle.report.specs.Report.{answerBase}
 use Rattle.logs.specs.Log.{Logged, Log, all, precedes}
-use Rattle.logs.specs.Orders.{equalZ, sameTotal, gives, afterGiving, feeding, fed}
+use Rattle.logs.specs.Orders.{equalZ, sameTotal, gives, afterGiving, servedIf, servedAt}
 use Rattle.logs.specs.Search.{starting, orElse, ready, begun, opened, tries, search}
 use Rattle.logs.specs.Judging.{earlierIn, placesOf, orderOf}
 
 -- A marker: a declaration that says `unfolding judging` computes the search over a log.
 unfoldable pub judging : Unit {0}
-unfolding computing answerTotal all precedes equalZ sameTotal gives afterGiving feeding fed starting orElse ready begun opened tries
+unfolding computing answerTotal all precedes equalZ sameTotal gives afterGiving servedIf servedAt starting orElse ready begun opened tries
     search earlierIn placesOf orderOf
 judging = tt
 

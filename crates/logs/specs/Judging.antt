@@ -16,7 +16,7 @@ use Rattle.lists.specs.Parts.{overlay}
 use Rattle.machine.specs.Choice.{if_then_else_}
 use Rattle.machine.specs.Sequential.{Table}
 use Rattle.logs.specs.Log.{Log, isLog, areLog, countOf, logOf, precedes, greatestOperations}
-use Rattle.logs.specs.Orders.{fed, Explains}
+use Rattle.logs.specs.Orders.{servedAt, Explains}
 use Rattle.logs.specs.Search.{search}
 
 -- ---- the search over a log
@@ -32,7 +32,7 @@ placesOf log i = ltb i (log .count)
 -- an order, searched for from the empty table
 unfoldable pub orderOf : ℕ → ℕ → Log → Option (List ℕ)
 orderOf b M log =
-    search Table greatestOperations (fed b M log) (earlierIn log) (log .count) (placesOf log) []
+    search Table greatestOperations (servedAt b M log) (earlierIn log) (log .count) (placesOf log) []
 
 -- for a good log: what the search finds explains the log, and where an order does, it finds one
 pub record SearchExplains (b M : ℕ) (log : Log) : Type 0 where

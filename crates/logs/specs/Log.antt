@@ -64,6 +64,10 @@ loggedEnd = 7
 unfoldable pub wordAt : List ℕ → ℕ → ℕ → ℕ
 wordAt l i k = getD l (i * operationWords + k) 0
 
+-- no position is greater
+abbrev pub greatestWord : ℕ
+greatestWord = 18_446_744_073_709_551_615
+
 -- totals are words of two's complement
 unfoldable pub loggedAt : List ℕ → ℕ → Logged
 loggedAt l i =

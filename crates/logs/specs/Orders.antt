@@ -39,13 +39,13 @@ unfoldable pub afterGiving : Logged → Answer × Table → Option Table
 afterGiving x r = if gives x (r .0) then some (r .1) else none
 
 -- the plain table, with b and M, fed a logged operation: the table afterwards, where it gives the answer logged
-unfoldable pub feeding : ℕ → ℕ → Logged → Table → Option Operation → Option Table
-feeding b M x t none = none
-feeding b M x t (some o) = afterGiving x (serve b M o t)
+unfoldable pub servedIf : ℕ → ℕ → Logged → Table → Option Operation → Option Table
+servedIf b M x t none = none
+servedIf b M x t (some o) = afterGiving x (serve b M o t)
 
-unfoldable pub fed : ℕ → ℕ → Log → Table → ℕ → Option Table
-fed b M log t i =
-    feeding b M (log .at i) t (operationOf (log .at i .kind) (log .at i .account) (log .at i .total))
+unfoldable pub servedAt : ℕ → ℕ → Log → Table → ℕ → Option Table
+servedAt b M log t i =
+    servedIf b M (log .at i) t (operationOf (log .at i .kind) (log .at i .account) (log .at i .total))
 
 -- ---- orders
 
@@ -63,7 +63,7 @@ InTime log (i ∷ o) = ((j : ℕ) → Member j o → precedes (log .at j) (log .
 -- the plain table, fed in this order, gives each answer
 abbrev pub GivesAll : ℕ → ℕ → Log → Table → List ℕ → Type 0
 GivesAll b M log t [] = Unit {0}
-GivesAll b M log t (i ∷ o) = (t′ : Table) × ((fed b M log t i ≡ some t′) × GivesAll b M log t′ o)
+GivesAll b M log t (i ∷ o) = (t′ : Table) × ((servedAt b M log t i ≡ some t′) × GivesAll b M log t′ o)
 
 -- "The plain table starts empty."
 pub record Explains (b M : ℕ) (log : Log) (o : List ℕ) : Type 0 where

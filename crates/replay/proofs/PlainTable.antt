@@ -25,7 +25,7 @@ use Rattle.machine.proofs.laws.Tables.{ascending-changed, tried-elim}
 use Rattle.memory.proofs.Totals.{total-back}
 use Rattle.report.specs.Report.{answerBase}
 use Rattle.logs.specs.Log.{loggedAt, logOf, wordAt, loggedKind, loggedAccount, loggedTotal, loggedAnswer, countOf}
-use Rattle.logs.specs.Orders.{gives, afterGiving, feeding, fed}
+use Rattle.logs.specs.Orders.{gives, afterGiving, servedIf, servedAt}
 use Rattle.logs.proofs.Related.{SameFit}
 use Rattle.replay.specs.Balances.{accountLogged, firstPlace, thereAt, totalAt, balanceOf, balanceAt, putBalance, agreeing, crowdsAt}
 use Rattle.replay.specs.Replay.{servedAlone, givenAlone, outcomeIf, outcomeOf, isStill, putIf, stillAt, replayed}
@@ -153,7 +153,7 @@ module _ (l : List ℕ) (b M : ℕ) (few : countOf l ≤ 12) (x : List ℕ) (t :
   -- the operation gives the same on both
   abbrev OperationFits : Option Operation → Type 0
   OperationFits o =
-      OutcomeFits (outcomeIf (loggedAt l i) (crowdsAt l b M x i) (balanceAt x (firstPlace l i)) o) (feeding b M (loggedAt l i) t o)
+      OutcomeFits (outcomeIf (loggedAt l i) (crowdsAt l b M x i) (balanceAt x (firstPlace l i)) o) (servedIf b M (loggedAt l i) t o)
 
   crowded-same : (a : ℕ) → accountLogged l i ≡ a → crowdsAt l b M x i ≡ crowds b M a t
   unfolding crowdsAt crowds
@@ -161,7 +161,7 @@ module _ (l : List ℕ) (b M : ℕ) (few : countOf l ≤ 12) (x : List ℕ) (t :
       ap (leb b) (sym (m .counted (firstBits M (accountLogged l i)))) ∙ ap (λ (a : ℕ). leb b (length (having M (firstBits M a) t))) e
 
   update-fits : (u : Update) → accountLogged l i ≡ account u → KeptBy u → OperationFits (some (update u))
-  unfolding outcomeIf feeding serve isStill if_then_else_
+  unfolding outcomeIf servedIf serve isStill if_then_else_
   update-fits u e k =
       rw (crowded-same (account u) e, alone-same _ u t _ (m .ascending) (ap (find t) (sym e) ∙ m .held i at))
       (tried-elim P _ u t (stays Crowded refl) (changed-elim P t stays u k sets))
@@ -179,7 +179,7 @@ module _ (l : List ℕ) (b M : ℕ) (few : countOf l ≤ 12) (x : List ℕ) (t :
           (subst (λ (a : ℕ). Means l M (putBalance x (firstPlace l i) s) (withTotal t a s)) e (put-means l M x t i s few at h m)))
 
   lookup-fits : OperationFits (some (lookup (accountLogged l i)))
-  unfolding outcomeIf feeding serve servedAlone looked isStill if_then_else_
+  unfolding outcomeIf servedIf serve servedAlone looked isStill if_then_else_
   lookup-fits = rw (m .held i at) (go (balanceAt x (firstPlace l i)))
     where
       go : (s : Option ℤ) → OutcomeFits (givenAlone (loggedAt l i) (looked s, s)) (afterGiving (loggedAt l i) (looked s, t))
@@ -187,8 +187,8 @@ module _ (l : List ℕ) (b M : ℕ) (few : countOf l ≤ 12) (x : List ℕ) (t :
       go (some v) = given-fit (looked (some v)) (some v) t (λ _. m) (λ p. absurd (no-both refl p))
 
   -- a logged operation fits the balances exactly where it fits the table, and leaves balances that mean the table left
-  pub replay-means : SameFit (Means l M) (replayed l b M x i) (fed b M (logOf l) t i)
-  unfolding replayed outcomeOf fed logOf loggedAt accountLogged putIf outcomeIf feeding wordAt
+  pub replay-means : SameFit (Means l M) (replayed l b M x i) (servedAt b M (logOf l) t i)
+  unfolding replayed outcomeOf servedAt logOf loggedAt accountLogged putIf outcomeIf servedIf wordAt
   replay-means =
       operation-elim OperationFits (wordAt l i loggedKind) (wordAt l i loggedAccount) (toZ w64 (wordAt l i loggedTotal))
       (update-fits (insert _ _) refl (total-back _ (total-fits (wordAt l i loggedTotal))))

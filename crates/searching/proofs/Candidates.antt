@@ -9,12 +9,12 @@ use lib.Dec.{eqb, leb}
 use lib.ListN.{getD}
 use borrow.Author.Tests.{lt-ltb, le-ltb}
 use Rattle.machine.specs.Choice.{if_then_else_, _and_}
-use Rattle.logs.specs.Log.{logOf, loggedAt, wordAt, loggedCall, loggedEnd, precedes, greatestOperations}
+use Rattle.logs.specs.Log.{logOf, loggedAt, wordAt, loggedCall, loggedEnd, precedes, greatestOperations, greatestWord}
 use Rattle.logs.specs.Judging.{earlierIn}
 use Rattle.logs.specs.Search.{opened, isSame, exchangedFrom, exchanged, unlessExchanged, candidate}
 use Rattle.replay.specs.declared.Replayed.{Replayed}
 use Rattle.replay.specs.Replay.{replayed, asReplayed, stillAt}
-use Rattle.searching.specs.Searching.{isLeft, leastEnd, sameWords, exchangedIn, attemptIn, candidateIn, greatestWord}
+use Rattle.searching.specs.Searching.{isLeft, leastEnd, sameWords, exchangedIn, attemptIn, candidateIn}
 use Rattle.searching.proofs.Fits.{fits-some, fits-none}
 use Rattle.searching.proofs.Ends.{in-time-ready}
 

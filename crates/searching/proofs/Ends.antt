@@ -12,11 +12,11 @@ use lib.ListN.{getD}
 use borrow.Author.Tests.{eq-eqb, ne-eqb, le-leb, lt-leb, ltb-true, ltb-false, leb-true, leb-false}
 use Rattle.machine.specs.Choice.{if_then_else_, _and_}
 use Rattle.memory.specs.Words.{least}
-use Rattle.logs.specs.Log.{logOf, loggedAt, wordAt, loggedCall, loggedEnd, all, precedes, greatestOperations}
+use Rattle.logs.specs.Log.{logOf, loggedAt, wordAt, loggedCall, loggedEnd, all, precedes, greatestOperations, greatestWord}
 use Rattle.logs.specs.Judging.{earlierIn}
 use Rattle.logs.specs.Search.{ready}
 use Rattle.replay.specs.Replay.{replayed}
-use Rattle.searching.specs.Searching.{isLeft, leastEnd, greatestWord}
+use Rattle.searching.specs.Searching.{isLeft, leastEnd}
 
 -- ---- one place more
 

@@ -9,7 +9,7 @@ use lib.ListN.{getD}
 use Rattle.lists.specs.Parts.{overlay}
 use Rattle.machine.specs.Choice.{if_then_else_, _and_}
 use Rattle.memory.specs.Words.{least}
-use Rattle.logs.specs.Log.{wordAt, loggedEnd, logOf, greatestOperations}
+use Rattle.logs.specs.Log.{wordAt, loggedEnd, logOf, greatestOperations, greatestWord}
 use Rattle.logs.specs.Search.{exchanged, unlessExchanged, candidate, cutSearch}
 use Rattle.logs.specs.Judging.{earlierIn}
 use Rattle.replay.specs.Replay.{replayed, stillAt}
@@ -24,9 +24,6 @@ sameWords [] [] = true
 sameWords [] (y ∷ ys) = false
 sameWords (x ∷ xs) [] = false
 sameWords (x ∷ xs) (y ∷ ys) = eqb x y and sameWords xs ys
-
-abbrev pub greatestWord : ℕ
-greatestWord = 18_446_744_073_709_551_615
 
 -- the least end of what is left of the first n: an operation is ready where its call is no later
 unfoldable pub leastEnd : List ℕ → List ℕ → ℕ → ℕ

@@ -1,0 +1,108 @@
+// A field of an operation's line, read as a word: a number, a total, an answer's word. Rests on crate numerals.
+ghost use mathlib.Core.Path.{_≡_};
+ghost use Rattle.numerals.specs.Numerals.{asNumber};
+ghost use Rattle.commands.specs.Commands.{totalOf};
+ghost use Rattle.loglines.specs.Fields.{asWord, sameBytes, answerNamed, fieldWord};
+use commands::GREATEST_ACCOUNT;
+use interface::ANSWER_ABSENT;
+use interface::ANSWER_ADDED;
+use interface::ANSWER_CROWDED;
+use interface::ANSWER_FOUND;
+use interface::ANSWER_NONE;
+use interface::ANSWER_OVERRUN;
+use interface::ANSWER_POSTED;
+use interface::ANSWER_REMOVED;
+use interface::ANSWER_REPLACED;
+use logs::LOGGED_ACCOUNT;
+use logs::LOGGED_ANSWER;
+use logs::LOGGED_ANSWER_TOTAL;
+use logs::LOGGED_TOTAL;
+use memory::word_of;
+use numerals::Number;
+use numerals::Signed;
+use numerals::read_number;
+use numerals::read_signed;
+use report::ANSWER_BASE;
+
+// As specs/Fields has it.
+const GREATEST_WORD: u64 = u64::MAX;
+
+// The word of the field at k, counted from 0.
+pub fn read_field(k: usize, field: &[u8]) -> Number
+    ensures { λ r. ⌜ r ≡ asNumber (fieldWord k (now (field .entry))) ⌝ }
+{
+    if k == LOGGED_ACCOUNT {
+        return read_number(field, GREATEST_ACCOUNT);
+    }
+    if k == LOGGED_TOTAL {
+        return read_total(field);
+    }
+    if k == LOGGED_ANSWER {
+        return read_answer(field);
+    }
+    if k == LOGGED_ANSWER_TOTAL {
+        return read_total(field);
+    }
+    read_number(field, GREATEST_WORD)
+}
+
+// A total, as a word of two's complement.
+fn read_total(field: &[u8]) -> Number
+    ensures { λ r. ⌜ r ≡ asNumber (asWord (totalOf (now (field .entry)))) ⌝ }
+{
+    let Signed::Value(total) = read_signed(field) else {
+        return Number::Nothing;
+    };
+    Number::Value(word_of(total))
+}
+
+// The number of the answer whose word the field is.
+fn read_answer(field: &[u8]) -> Number
+    ensures { λ r. ⌜ r ≡ asNumber (answerNamed (now (field .entry))) ⌝ }
+{
+    if same(field, b"added") {
+        return Number::Value(ANSWER_BASE + ANSWER_ADDED);
+    }
+    if same(field, b"replaced") {
+        return Number::Value(ANSWER_BASE + ANSWER_REPLACED);
+    }
+    if same(field, b"removed") {
+        return Number::Value(ANSWER_BASE + ANSWER_REMOVED);
+    }
+    if same(field, b"absent") {
+        return Number::Value(ANSWER_BASE + ANSWER_ABSENT);
+    }
+    if same(field, b"found") {
+        return Number::Value(ANSWER_BASE + ANSWER_FOUND);
+    }
+    if same(field, b"none") {
+        return Number::Value(ANSWER_BASE + ANSWER_NONE);
+    }
+    if same(field, b"posted") {
+        return Number::Value(ANSWER_BASE + ANSWER_POSTED);
+    }
+    if same(field, b"crowded") {
+        return Number::Value(ANSWER_BASE + ANSWER_CROWDED);
+    }
+    if same(field, b"overrun") {
+        return Number::Value(ANSWER_BASE + ANSWER_OVERRUN);
+    }
+    Number::Nothing
+}
+
+// Whether the bytes are the same.
+fn same(field: &[u8], word: &[u8]) -> bool
+    ensures { λ r. ⌜ r ≡ sameBytes (now (field .entry)) (now (word .entry)) ⌝ }
+{
+    if field.len() != word.len() {
+        return false;
+    }
+    let mut i = 0;
+    while i < field.len() {
+        if field[i] != word[i] {
+            return false;
+        }
+        i += 1;
+    }
+    true
+}
