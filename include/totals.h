@@ -306,6 +306,9 @@ struct totals_logged {
  *                    operations of one worker overlap, neither answered before the other's call; a kind is none of the
  *                    four; or an account has more than 32 bits;
  *   TOTALS_NARROW    the list is shorter than the number of operations.
+ *
+ * It takes about 15 kB of stack. Most logs take microseconds; the longest search known takes three seconds
+ * (docs/USING.md).
  */
 uint64_t totals_check_log(const uint64_t *log, size_t length, uint64_t capacity, uint64_t depth, uint64_t *order,
                           size_t order_length);

@@ -1,7 +1,7 @@
 -- Fields read: bytes compared one by one, and the answers' words one after the other. Rests on the definitions of specs/Fields.
 use Prim.Native.Nat.{ℕ, suc, _+_, _≤_, _<_}
 use mathlib.Core.Path.{_≡_, refl, sym, _∙_, ap}
-use mathlib.Core.Bool.{Bool, true, false}
+use mathlib.Core.Bool.{true, false}
 use mathlib.Core.List.{List, [], _∷_}
 use mathlib.Core.Option.{some}
 use native.Mathlib.Omega.{arith}
@@ -13,7 +13,10 @@ use borrow.Author.Tests.{eq-eqb, ne-eqb}
 use Rattle.interface.specs.Numbers.{answerWord, answerNumber}
 use Rattle.interface.specs.declared.Answer.{Answer}
 use Rattle.machine.specs.Choice.{if_then_else_, _and_}
-use Rattle.machine.proofs.laws.Base.{and-right-false}
+use Rattle.machine.proofs.laws.Base.{and-right-false, if-ap}
+use Rattle.numerals.specs.declared.Number.{Number}
+use Rattle.numerals.specs.declared.Number.the-variants.{Value}
+use Rattle.numerals.specs.Numerals.{asNumber}
 use Rattle.report.specs.Report.{answerBase}
 use Rattle.loglines.specs.Fields.{sameBytes, numberAmong}
 
@@ -41,11 +44,10 @@ same-ends xs ys i h k = let j : length ys ≤ i = omega arith in rw (drop-of-len
 
 -- ---- answers
 
-module _ (f : List ℕ) (a : Answer) (answers : List Answer) (t : Bool) (e : t ≡ sameBytes f (answerWord a)) where
-  pub named-here : t ≡ true → numberAmong f (a ∷ answers) ≡ some (answerBase + answerNumber a)
-  unfolding numberAmong if_then_else_
-  named-here h = rw (← e, h)
-
-  pub named-later : t ≡ false → numberAmong f (a ∷ answers) ≡ numberAmong f answers
-  unfolding numberAmong if_then_else_
-  named-later h = rw (← e, h)
+-- an answer's word before those of others
+pub answer-first : (f : List ℕ) (a : Answer) (answers : List Answer) {rest r : Number}
+    → r ≡ if sameBytes f (answerWord a) then Value (answerBase + answerNumber a) else rest → rest ≡ asNumber (numberAmong f answers)
+    → r ≡ asNumber (numberAmong f (a ∷ answers))
+unfolding numberAmong asNumber
+answer-first f a answers e g =
+    e ∙ rw g (sym (if-ap asNumber (sameBytes f (answerWord a)) (some (answerBase + answerNumber a)) (numberAmong f answers)))

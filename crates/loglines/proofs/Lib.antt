@@ -7,3 +7,4 @@ pub mod Reading
 pub mod TextLaws
 pub mod TooMany
 pub mod AllAnswered
+pub mod Examples

@@ -1,7 +1,6 @@
 -- Lines of two fields and of eight, field by field. Rests on the definitions of specs/Lines and on crate lines' laws of fields.
 use Prim.Native.Nat.{ℕ, suc, _+_, _≤_, _<_}
 use mathlib.Core.Path.{_≡_, refl, sym, _∙_, ap}
-use mathlib.Core.Bool.{Bool}
 use mathlib.Core.List.{List, [], _∷_, _++_}
 use mathlib.Core.Option.{Option, none, some}
 use native.Mathlib.Omega.{arith}
@@ -10,7 +9,7 @@ use native.Mathlib.Numerals.{add-one}
 use lib.Dec.{eqb}
 use lib.ListN.{length, take, drop}
 use lib.Seq.{append-snoc, drop-drop}
-use borrow.Author.Tests.{eq-eqb, ne-eqb}
+use borrow.Author.Tests.{ne-eqb}
 use Rattle.machine.specs.Choice.{if_then_else_}
 use Rattle.machine.proofs.laws.Base.{if-same}
 use Rattle.numerals.specs.Numerals.{asPair}

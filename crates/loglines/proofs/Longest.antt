@@ -2,7 +2,7 @@
 -- crate lines' lengths of numbers.
 use Prim.Native.Nat.{ℕ, suc, _+_, _*_, _≤_, _<_}
 use mathlib.Core.Path.{_≡_, refl, sym, _∙_, ap}
-use mathlib.Core.Bool.{Bool, true, false}
+use mathlib.Core.Bool.{true}
 use mathlib.Core.List.{List, [], _∷_}
 use mathlib.Core.Option.{Option, none, some}
 use native.Mathlib.Omega.{arith}
@@ -13,12 +13,11 @@ use borrow.Author.Tests.{eqb-true}
 use Rattle.interface.specs.Numbers.{bytes, answerWord}
 use Rattle.interface.specs.declared.Answer.{Answer}
 use Rattle.interface.specs.declared.Answer.the-variants.{Added, Replaced, Removed, Absent, Found, None, Posted, Crowded, Overrun}
-use Rattle.machine.specs.Choice.{if_then_else_, _and_}
 use Rattle.machine.proofs.laws.Base.{if-elim, and-parts, no-both}
 use Rattle.numerals.specs.declared.Pair.{Pair}
 use Rattle.numerals.specs.declared.Pair.the-variants.{Values, Nothing}
 use Rattle.numerals.proofs.NumeralLaws.{some-none, passed}
-use Rattle.commands.specs.Commands.{smallOf, accountOf, totalOf}
+use Rattle.commands.specs.Commands.{smallOf, totalOf}
 use Rattle.commands.proofs.Pairs.{pair-some}
 use Rattle.lines.specs.Grammar.{fieldsOf}
 use Rattle.lines.proofs.Longest.{limited-length, small-length, account-length, total-length, span, span-of}

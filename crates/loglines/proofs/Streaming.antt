@@ -18,8 +18,7 @@ use Rattle.lines.proofs.Streaming.{front, front-end, front-line, front-nil}
 use Rattle.loglines.specs.declared.progress.Line.{Line}
 use Rattle.loglines.specs.declared.progress.Progress.{Progress}
 use Rattle.loglines.specs.declared.progress.Feeding.{Feeding}
-use Rattle.loglines.specs.Lines.{settingsLine, operationLine}
-use Rattle.loglines.specs.Holding.{longestLine, lineRoom, noLine, pushed, lineIn, withLine, start, begin, took, fed, ended}
+use Rattle.loglines.specs.Holding.{lineRoom, noLine, pushed, lineIn, withLine, start, begin, took, fed, ended}
 use Rattle.loglines.specs.Feeding.{joined, fedAll}
 use Rattle.loglines.proofs.Longest.{no-operation, no-settings}
 
@@ -141,7 +140,8 @@ module _ (l : Line) (xs : List ℕ) (h : HoldsBytes l xs) (p : Progress) where
   read-byte : (t : Bool) (b : ℕ) (bs : List ℕ)
       → ended (fed (record { line = noLine; progress = withLine p (lineIn l) }) bs) ≡ allLines (withLine p (lineIn l)) (linesOf bs)
       → ended (fed (record { line = pushed l b; progress = p }) bs) ≡ allLines p (front (xs ++ b ∷ []) (linesOf bs))
-      → ended (fed (if t then record { line = noLine; progress = withLine p (lineIn l) } else record { line = pushed l b; progress = p }) bs)
+      → ended
+      (fed (if t then record { line = noLine; progress = withLine p (lineIn l) } else record { line = pushed l b; progress = p }) bs)
       ≡ allLines p (front xs (if t then [] ∷ linesOf bs else before b (linesOf bs)))
   unfolding if_then_else_ allLines
   read-byte true b bs e f =

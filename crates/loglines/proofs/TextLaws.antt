@@ -1,4 +1,5 @@
--- Texts at the start of a buffer, and an order's places one behind the other. Rests on the definitions of specs/Texts and of crate printers.
+-- Texts at the start of a buffer, and an order's places one behind the other. Rests on the definitions of specs/Texts and of crate
+-- printers.
 use Prim.Native.Nat.{ℕ, _+_, _^_, _≤_, _<_}
 use mathlib.Core.Path.{_≡_, refl, sym, _∙_, ap}
 use mathlib.Core.List.{List, [], _∷_, _++_, map, append-assoc, append-nil}

@@ -1,22 +1,22 @@
 -- More than 12 operations are a bad log, whatever they are; and so the first 13 are refused like all. Rests on crate logs' refusals.
 use Prim.Native.Nat.{ℕ, _/_, _%_, _≤_, _<_}
-use mathlib.Core.Path.{_≡_, refl, sym, _∙_, ap}
+use mathlib.Core.Path.{_≡_, refl, sym, _∙_}
 use mathlib.Core.Bool.{Bool, true, false, not}
 use mathlib.Core.List.{List}
-use mathlib.Core.Option.{Option, none, some}
+use mathlib.Core.Option.{none, some}
 use native.Mathlib.Omega.{arith}
 use lib.Dec.{leb, eqb}
-use lib.ListN.{length, take, replicate}
+use lib.ListN.{length, take}
 use lib.Seq.{length-take-le, take-all}
 use borrow.Author.Tests.{lt-leb, leb-true, leb-false}
 use Rattle.interface.specs.Limits.{leastWorkers, inRange}
 use Rattle.interface.specs.declared.Refusal.{Refusal}
 use Rattle.interface.specs.declared.Verdict.the-variants.{Accepted, No, Refused}
 use Rattle.machine.specs.Choice.{if_then_else_, _and_}
-use Rattle.machine.proofs.laws.Base.{and-right-false, if-elim, none-some}
+use Rattle.machine.proofs.laws.Base.{and-right-false, none-some}
 use Rattle.logs.specs.Log.{operationWords, greatestOperations, countOf, logOf, isLog, areLog}
-use Rattle.logs.specs.Judging.{Judged, refusal}
-use Rattle.loglines.specs.Inputs.{Input, log, AnswersInput}
+use Rattle.logs.specs.Judging.{refusal}
+use Rattle.loglines.specs.Inputs.{log, AnswersInput}
 use Rattle.loglines.specs.Texts.{verdictText}
 use Rattle.loglines.specs.Holding.{keptWords}
 

@@ -1,5 +1,5 @@
--- The theorem on an input that comes in parts: whatever they are, what is printed at its end answers the input. Rests on
--- specs/Inputs and specs/Holding.
+-- The theorem on an input that comes in parts: whatever they are, what is printed at its end answers the input. Rests
+-- on specs/Inputs and specs/Holding.
 use Prim.Native.Nat.{ℕ, _^_, _≤_, _<_}
 use mathlib.Core.List.{List, [], _∷_, _++_}
 use lib.ListN.{length, take}

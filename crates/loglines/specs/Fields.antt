@@ -38,7 +38,8 @@ sameBytes (x ∷ xs) (y ∷ ys) = eqb x y and sameBytes xs ys
 -- the number of the first of the answers whose word the field is
 unfoldable pub numberAmong : List ℕ → List Answer → Option ℕ
 numberAmong f [] = none
-numberAmong f (a ∷ answers) = if sameBytes f (answerWord a) then some (answerBase + answerNumber a) else numberAmong f answers
+numberAmong f (a ∷ answers) =
+    if sameBytes f (answerWord a) then some (answerBase + answerNumber a) else numberAmong f answers
 
 -- each answer once; neither word nor number depends on a total
 unfoldable pub allAnswers : List Answer

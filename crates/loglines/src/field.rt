@@ -1,7 +1,13 @@
 // A field of an operation's line, read as a word: a number, a total, an answer's word. Rests on crate numerals.
+ghost use Prim.Native.Nat.{_+_, _≤_};
 ghost use mathlib.Core.Path.{_≡_};
+ghost use Rattle.interface.specs.Numbers.{answerNumber};
+ghost use Rattle.interface.specs.declared.Answer.the-variants.{Overrun};
+ghost use Rattle.machine.specs.Choice.{if_then_else_};
+ghost use Rattle.numerals.specs.declared.Number.the-variants.{Value};
 ghost use Rattle.numerals.specs.Numerals.{asNumber};
 ghost use Rattle.commands.specs.Commands.{totalOf};
+ghost use Rattle.report.specs.Report.{answerBase};
 ghost use Rattle.loglines.specs.Fields.{asWord, sameBytes, answerNamed, fieldWord};
 use commands::GREATEST_ACCOUNT;
 use interface::ANSWER_ABSENT;
@@ -56,38 +62,32 @@ fn read_total(field: &[u8]) -> Number
     Number::Value(word_of(total))
 }
 
-// The number of the answer whose word the field is.
+// The number of the answer whose word the field is: the words from the last to the first.
 fn read_answer(field: &[u8]) -> Number
     ensures { λ r. ⌜ r ≡ asNumber (answerNamed (now (field .entry))) ⌝ }
 {
-    if same(field, b"added") {
-        return Number::Value(ANSWER_BASE + ANSWER_ADDED);
+    let rest = Number::Nothing;
+    let rest = answer_or(field, b"overrun", ANSWER_OVERRUN, rest);
+    let rest = answer_or(field, b"crowded", ANSWER_CROWDED, rest);
+    let rest = answer_or(field, b"posted", ANSWER_POSTED, rest);
+    let rest = answer_or(field, b"none", ANSWER_NONE, rest);
+    let rest = answer_or(field, b"found", ANSWER_FOUND, rest);
+    let rest = answer_or(field, b"absent", ANSWER_ABSENT, rest);
+    let rest = answer_or(field, b"removed", ANSWER_REMOVED, rest);
+    let rest = answer_or(field, b"replaced", ANSWER_REPLACED, rest);
+    answer_or(field, b"added", ANSWER_ADDED, rest)
+}
+
+// The number of an answer, where the field is its word, or else the rest.
+fn answer_or(field: &[u8], word: &[u8], answer: u64, rest: Number) -> Number
+    requires { ⌜ answer ≤ answerNumber Overrun ⌝ }
+    ensures { λ r. ⌜ r ≡ if sameBytes (now (field .entry)) (now (word .entry)) then Value (answerBase + answer)
+        else rest ⌝ }
+{
+    if same(field, word) {
+        return Number::Value(ANSWER_BASE + answer);
     }
-    if same(field, b"replaced") {
-        return Number::Value(ANSWER_BASE + ANSWER_REPLACED);
-    }
-    if same(field, b"removed") {
-        return Number::Value(ANSWER_BASE + ANSWER_REMOVED);
-    }
-    if same(field, b"absent") {
-        return Number::Value(ANSWER_BASE + ANSWER_ABSENT);
-    }
-    if same(field, b"found") {
-        return Number::Value(ANSWER_BASE + ANSWER_FOUND);
-    }
-    if same(field, b"none") {
-        return Number::Value(ANSWER_BASE + ANSWER_NONE);
-    }
-    if same(field, b"posted") {
-        return Number::Value(ANSWER_BASE + ANSWER_POSTED);
-    }
-    if same(field, b"crowded") {
-        return Number::Value(ANSWER_BASE + ANSWER_CROWDED);
-    }
-    if same(field, b"overrun") {
-        return Number::Value(ANSWER_BASE + ANSWER_OVERRUN);
-    }
-    Number::Nothing
+    rest
 }
 
 // Whether the bytes are the same.

@@ -1,5 +1,5 @@
-// What is printed at the end of the input: the order, `no`, `refused` and the number, or `unread` and the line. Rests on
-// the judgement, on printers and on decimals.
+// What is printed at the end of the input: the order, `no`, `refused` and the number, or `unread` and the line. Rests
+// on the judgement, on printers and on decimals.
 ghost use Prim.Native.Nat.{ℕ, _+_, _*_, _≤_};
 ghost use mathlib.Core.Path.{_≡_};
 ghost use mathlib.Core.List.{List};

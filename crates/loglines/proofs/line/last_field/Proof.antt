@@ -1,8 +1,6 @@
 -- `last_field`: one field, and its word behind the others.
 -- Rests on the laws that it cites and on the contracts of what is called.
-use Prim.Native.Nat.{ℕ}
 use mathlib.Core.Path.{_≡_, sym, _∙_, ap}
-use mathlib.Core.List.{List}
 use mathlib.Core.Option.{some}
 use native.Mathlib.Omega.{arith}
 use lib.ListN.{length, set, length-set}

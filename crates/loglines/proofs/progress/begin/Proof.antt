@@ -1,6 +1,5 @@
 -- `begin`: nothing is held.
 -- Rests on the laws that it cites and on the contracts of what is called.
-use mathlib.Core.Path.{_≡_}
 use borrow.Author.Needs.{needs}
 use Rattle.loglines.specs.Holding.{begin, start, noneKept}
 use Rattle.loglines.proofs.progress.begin.Statement.{statement}

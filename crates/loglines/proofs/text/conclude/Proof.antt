@@ -1,13 +1,10 @@
 -- `conclude`: no room, a line that is none of a log, or a log.
 -- Rests on the laws that it cites and on the contracts of what is called.
-use mathlib.Core.Path.{_≡_, sym, _∙_, ap}
 use native.Mathlib.Omega.{arith}
 use borrow.Author.Needs.{needs}
 use Rattle.interface.specs.Numbers.{bytes}
 use Rattle.replies.specs.Printed.{printedLine}
-use Rattle.loglines.specs.Inputs.{AnswersInput}
 use Rattle.loglines.specs.Texts.{unreadText}
-use Rattle.loglines.specs.Feeding.{Concluded}
 use Rattle.loglines.proofs.TextLaws.{shown-wrote, counted-length}
 use Rattle.loglines.proofs.Reading.{some-unread, none-unread}
 use Rattle.loglines.proofs.text.conclude.Statement.{statement}
@@ -27,7 +24,10 @@ returns-2 c =
     let t = shown-wrote (o .print-counted .ensures) (omega arith) in
     record {
       within = t .0;
-      answers = λ h. rw (← f .end .ensures, some-unread (f .end .result) n (u .unread .ensures) (o .before .before .before .if2 .taken)) (t .1);
+      answers = λ h. rw (
+        ← f .end .ensures,
+        some-unread (f .end .result) n (u .unread .ensures) (o .before .before .before .if2 .taken),
+      ) (t .1);
     }
 
 print-judged-requires : tie.Need-print-judged-requires

@@ -2,7 +2,6 @@
 -- Rests on the laws that it cites and on the contracts of what is called.
 use Prim.Native.Nat.{_/_, _≤_}
 use mathlib.Core.Path.{_≡_, sym, _∙_, ap}
-use mathlib.Core.List.{List}
 use native.Mathlib.Omega.{arith}
 use lib.ListN.{length, take, replicate}
 use lib.Seq.{length-take-le}
@@ -13,7 +12,7 @@ use Rattle.replies.specs.Printed.{printedLine}
 use Rattle.logs.specs.Log.{operationWords, greatestOperations, countOf}
 use Rattle.logs.specs.Judging.{Judged}
 use Rattle.loglines.specs.declared.progress.Progress.{Progress}
-use Rattle.loglines.specs.Texts.{orderText, verdictText}
+use Rattle.loglines.specs.Texts.{verdictText}
 use Rattle.loglines.specs.Holding.{keptWords, keptLog}
 use Rattle.loglines.proofs.TextLaws.{shown, shown-wrote, counted-length, number-fits}
 use Rattle.loglines.proofs.TooMany.{count-taken, few}
@@ -46,7 +45,8 @@ judged : (k : tie.After-check-log)
 judged k = rw (same-words (k .before .before .before)) at (k .check-log .ensures)
 
 -- an order has at most 12 places
-places-in : (c : tie.After-enum-told) → c .before .before .before .before .before .before .within .result / operationWords ≤ greatestOperations
+places-in : (c : tie.After-enum-told)
+    → c .before .before .before .before .before .before .within .result / operationWords ≤ greatestOperations
 places-in c =
     let k = c .before .before .before in
     rw (count-in (k .before .before .before)) at (few _ _ _ _ ((rw (c .enum-told .given .1) at (judged k)) .0))
@@ -60,7 +60,8 @@ slice-aggregate-check-log : tie.Need-slice-aggregate-check-log
 slice-aggregate-check-log c = sym (length-take-le _ _ (filled-in (c .before)))
 
 array-share-prefix-order : tie.Need-array-share-prefix-order
-array-share-prefix-order c = let k = c .before .before .before .before in omega (arith, places-in (c .before), k .check-log .kept .1 .1 .1 .0)
+array-share-prefix-order c =
+    omega (arith, places-in (c .before), c .before .before .before .before .check-log .kept .1 .1 .1 .0)
 
 slice-aggregate-print-order : tie.Need-slice-aggregate-print-order
 slice-aggregate-print-order c = sym (length-take-le _ _ (array-share-prefix-order (c .before)))

@@ -83,8 +83,9 @@ loop-again c =
       (
         t .kept .0 ∙ a .loop .inv .1 .0,
         (
-          next l at (spaced (take i ps)) (a .loop .at) (placeText (getD ps i 0)) (omega (arith, a .loop .inv .1 .0, a .loop .inv .1 .1 .1 .0))
-              (a .loop .inv .1 .1 .0) (t .ensures .0) (sym (a .loop .inv .1 .1 .1 .0))
+          next l at (spaced (take i ps)) (a .loop .at) (placeText (getD ps i 0))
+              (omega (arith, a .loop .inv .1 .0, a .loop .inv .1 .1 .1 .0)) (a .loop .inv .1 .1 .0) (t .ensures .0)
+              (sym (a .loop .inv .1 .1 .1 .0))
               ∙ ap (overlay l at) e,
           (
             omega (arith, t .ensures .1 .0, a .loop .inv .1 .1 .1 .0),
@@ -101,7 +102,8 @@ add-result : tie.Need-add-result Inv-loop μ-loop
 add-result c =
     let a = c .before in
     let p = a .before .before .before in
-    record { fits = omega (arith, room-for a, a .loop .inv .1 .0, p .print-word .kept .0, p .before .before .before .before .before .good .0 .0) }
+    let s = p .before .before .before .before .before in
+    record { fits = omega (arith, room-for a, a .loop .inv .1 .0, p .print-word .kept .0, s .good .0 .0) }
 
 same-length : tie.Need-same-length Inv-loop μ-loop
 same-length c =

@@ -1,6 +1,5 @@
 -- `Progress::settle`: settings that were read, or none.
 -- Rests on the laws that it cites and on the contracts of what is called.
-use mathlib.Core.Path.{sym}
 use borrow.Author.Needs.{needs}
 use Rattle.loglines.specs.Holding.{withSettings}
 use Rattle.loglines.proofs.progress.Progress.settle.Statement.{statement}
