@@ -10,9 +10,12 @@ use crate::refusal;
 
 const NOTES: &str =
     "A bar runs from its call (thick edge) to its answer; in front of its operation \
-stands its place in the log, counted from 0. A column is a position. In the row of the plain table \
-the operations stand in the order found, each as early as its call and those before it allow. \
-Pointing at a mark shows what the plain table then holds.";
+stands its place in the log, counted from 0. A column is a position.";
+
+const ORDER_NOTES: &str =
+    " In the row of the plain table the operations stand in the order found, \
+each as early as its call and those before it allow. Pointing at a mark shows what the plain table \
+then holds.";
 
 /// The page of an input of `judge` under this title.
 pub fn log_page(title: &str, input: &[u8]) -> String {
@@ -63,13 +66,13 @@ fn counts(log: &Log) -> String {
 }
 
 fn legend(verdict: &Verdict) -> String {
-    let key = match verdict {
-        Verdict::Order(_) => key(
-            &MOMENT,
-            "in the order found the operation takes effect here",
-        ),
-        Verdict::No => String::new(),
+    let (keys, notes) = match verdict {
+        Verdict::Order(_) => {
+            let taken = "in the order found the operation takes effect here";
+            (format!("<ul>\n{}</ul>\n", key(&MOMENT, taken)), ORDER_NOTES)
+        }
+        Verdict::No => (String::new(), ""),
         _ => return String::new(),
     };
-    format!("<h2>Legend</h2>\n<ul>\n{key}</ul>\n<p class=\"notes\">{NOTES}</p>\n")
+    format!("<h2>Legend</h2>\n{keys}<p class=\"notes\">{NOTES}{notes}</p>\n")
 }
