@@ -1,6 +1,6 @@
 -- The search for an order of what is left of a log, lowest place first, over any table; and the same search with two
 -- cuts. 01, Where each form goes: "Recursive search over remaining logged operations, the number remaining falling,
--- trying lowest place first". Rests on nothing.
+-- trying lowest place first". Rests on the test of all numbers below one, specs/Log.
 use Prim.Native.Nat.{ℕ, zero, suc, _<_}
 use mathlib.Core.Path.{_≡_}
 use mathlib.Core.Bool.{Bool, true, false, not}

@@ -3,10 +3,8 @@
 // The words of one operation: worker, kind, account, total, answer, the answer's total, call and end.
 pub const OPERATION_WORDS: usize = 8;
 
-// The most operations of a log, and the most words.
+// The most operations of a log.
 pub const GREATEST_OPERATIONS: usize = 12;
-
-pub const GREATEST_LOG: usize = 96;
 
 // Where each field of an operation stands among its words.
 pub const LOGGED_WORKER: usize = 0;
