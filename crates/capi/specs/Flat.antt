@@ -1,17 +1,14 @@
 -- What each flat function leaves and returns, from what the call of `table` that it stands for leaves and answers.
 -- Rests on the number and the report of an answer, specs/Returned of crate numbers.
 use Prim.Native.Nat.{ℕ}
-use mathlib.Core.Path.{_≡_}
 use mathlib.Core.List.{List}
 use lib.IntN.{ℤ}
-use Rattle.interface.specs.declared.Verdict.{Verdict}
 use Rattle.rows.specs.Rows.{Shown, listingWords}
 use Rattle.rebates.specs.Rebates.{Rebated, rebatesWords}
 use Rattle.export.specs.Export.{exportWords}
 use Rattle.turns.specs.Turns.{stepWords}
 use Rattle.runs.specs.Runs.{runWords}
-use Rattle.logs.specs.Judging.{Judged}
-use Rattle.numbers.specs.Returned.{steppedNumber, ranNumber, listedNumber, exportedNumber, verdictNumber, steppedReport, ranReport, listedReport, exportedReport}
+use Rattle.numbers.specs.Returned.{steppedNumber, ranNumber, listedNumber, exportedNumber, steppedReport, ranReport, listedReport, exportedReport}
 
 -- the words, and an answer's number
 unfoldable pub flat : {A : Type 0} → (A → ℕ) → List ℕ × A → List ℕ × ℕ
@@ -76,7 +73,3 @@ writtenRebates before x =
 -- what the rebates leave and return, over these words, lists and report
 abbrev pub rebatesWritten : List ℕ → List ℕ → List ℕ → List ℕ → WrittenRebates
 rebatesWritten words accounts rebates report = writtenRebates report (rebatesWords words accounts rebates)
-
--- what judging a log leaves, the list for the order before and after, and returns: a verdict's number
-abbrev pub CheckedLog : List ℕ → ℕ → ℕ → List ℕ → List ℕ → ℕ → Type 0
-CheckedLog l b M before after number = (v : Verdict) × (Judged l b M before after v × (number ≡ verdictNumber v))

@@ -1,15 +1,15 @@
 // The calls of `table`, and the judgement of a log, as flat C functions: a slice is a pointer and a length, an answer
 // is a number, and what does not fit into the number goes into a report, both by crate numbers. Each takes any words
-// and any arguments; its contract equals a definition of specs/Flat, or for a judgement is one. include/totals.h
-// declares them.
+// and any arguments; its contract is an equality with a definition. include/totals.h declares them.
 ghost use mathlib.Core.Path.{_≡_};
 ghost use Rattle.interface.specs.Limits.{built};
 ghost use Rattle.machine.specs.Sequential.{place, accountAt};
 ghost use Rattle.rebate.specs.Rebate.{rebateOn};
 ghost use Rattle.opening.specs.Opening.{neededFor, openWords};
 ghost use Rattle.calls.specs.Calls.{callWords};
-ghost use Rattle.numbers.specs.Returned.{neededNumber, openedNumber, calledNumber};
-ghost use Rattle.capi.specs.Flat.{flat, stepLeft, runLeft, exportLeft, listWritten, rebatesWritten, CheckedLog};
+ghost use Rattle.logs.specs.Judging.{checkLogWords};
+ghost use Rattle.numbers.specs.Returned.{neededNumber, openedNumber, calledNumber, verdictNumber};
+ghost use Rattle.capi.specs.Flat.{flat, stepLeft, runLeft, exportLeft, listWritten, rebatesWritten};
 use numbers::called_number;
 use numbers::exported_number;
 use numbers::listed_number;
@@ -147,10 +147,12 @@ pub extern "C" fn totals_account_at(place: u32) -> u32
     table::account_at(place)
 }
 
-// Whether some order explains a log: 0 and an order at the start of the list, 16 where none does, or 1, 14, 10.
+// Whether some order explains a log: 0 and the first such order at the start of the list, 16 where none does, or 1, 14,
+// 10.
 #[no_mangle]
 pub extern "C" fn totals_check_log(log: &[u64], capacity: u64, depth: u64, order: &mut [u64]) -> u64
-    ensures { λ r. ⌜ CheckedLog (now (log .entry)) capacity depth (now (order .entry)) (now (order .exit)) r ⌝ }
+    ensures { λ r. ⌜ (now (order .exit), r)
+        ≡ flat verdictNumber (checkLogWords (now (log .entry)) capacity depth (now (order .entry))) ⌝ }
 {
     let verdict = judging::check_log(log, capacity, depth, order);
     verdict_number(verdict)

@@ -1,14 +1,13 @@
 -- The search in words from empty balances, with its cuts, is the plain search over the log from the empty table; so its verdict is the
 -- one promised. Rests on the laws of the search, crate logs, and on the meaning of balances, crate replay.
-use Prim.Native.Nat.{ℕ, _/_, _%_, _≤_, _<_}
+use Prim.Native.Nat.{ℕ, _/_, _≤_, _<_}
 use native.Mathlib.Omega.{arith}
 use mathlib.Core.Path.{refl, _≡_, sym, ap, _∙_}
 use mathlib.Core.Bool.{Bool, true, false, not}
 use mathlib.Core.List.{List, []}
 use mathlib.Core.Option.{Option, none, some}
-use lib.Dec.{eqb}
 use lib.ListN.{length, replicate}
-use borrow.Author.Tests.{eqb-true, ltb-true, leb-true, lt-ltb, le-ltb}
+use borrow.Author.Tests.{ltb-true, lt-ltb, le-ltb}
 use Rattle.interface.specs.Limits.{leastWorkers, inRange, built}
 use Rattle.interface.specs.declared.Settings.{Settings}
 use Rattle.interface.specs.declared.Built.{Built}
@@ -17,17 +16,19 @@ use Rattle.interface.specs.declared.Verdict.{Verdict}
 use Rattle.interface.proofs.Laws.{wrong-settings as outside-range, right-settings}
 use Rattle.machine.specs.Choice.{if_then_else_, _and_}
 use Rattle.machine.specs.Sequential.{Table}
-use Rattle.machine.proofs.laws.Base.{if-true, if-false, none-some, and-parts}
-use Rattle.logs.specs.Log.{areLog, countOf, logOf, isLog, operationWords}
+use Rattle.machine.proofs.laws.Base.{if-true, if-false}
+use Rattle.logs.specs.Log.{areLog, countOf, logOf}
 use Rattle.logs.specs.Orders.{servedAt}
-use Rattle.logs.specs.Judging.{earlierIn, placesOf, orderOf, refusal, Judged}
+use Rattle.logs.specs.Same.{sameNumbers}
+use Rattle.logs.specs.Judging.{earlierIn, placesOf, orderOf, refusal, verdictOn, checkLogWords}
 use Rattle.logs.proofs.Cuts.{search-laws}
 use Rattle.logs.proofs.Related.{search-related}
-use Rattle.logs.proofs.Explained.{places-count, all-explained}
+use Rattle.logs.proofs.Explained.{places-count}
+use Rattle.logs.proofs.Judgements.{whole, few, unrefused, refused}
 use Rattle.replay.specs.Replay.{replayed, stillAt}
 use Rattle.replay.proofs.PlainTable.{Means, empty-means, replay-means, still-keeps}
-use Rattle.searching.specs.Searching.{isLeft, sameWords, searchIn, writtenIn, isFound}
-use Rattle.searching.proofs.SameWords.{same-words}
+use Rattle.searching.specs.Searching.{isLeft, searchIn, writtenIn, isFound}
+use Rattle.logs.proofs.SameLaws.{same-numbers}
 use Rattle.judging.specs.Places.{allLeft}
 use Rattle.judging.proofs.AllLeft.{all-left}
 
@@ -53,21 +54,12 @@ module _ (b M : ℕ) where
 
 -- ---- good logs
 
-module _ (l : List ℕ) (good : areLog l ≡ true) where
-  is-log : isLog (logOf l) ≡ true
-  unfolding areLog
-  is-log = and-parts (eqb (length l % operationWords) 0) (isLog (logOf l)) good .1
-
-  pub few : countOf l ≤ 12
-  unfolding isLog logOf
-  few = leb-true (countOf l) 12 (and-parts _ _ (and-parts _ _ is-log .0) .0)
-
-  pub short : length l ≤ 96
-  unfolding areLog countOf
-  short =
-      let whole = eqb-true (length l % 8) 0 (and-parts (eqb (length l % operationWords) 0) (isLog (logOf l)) good .0) in
-      let c : length l / 8 ≤ 12 = few in
-      omega arith
+pub short : (l : List ℕ) → areLog l ≡ true → length l ≤ 96
+unfolding countOf
+short l good =
+    let w = whole l good in
+    let c : length l / 8 ≤ 12 = few l good in
+    omega arith
 
 -- ---- the search
 
@@ -77,8 +69,8 @@ module _ (l : List ℕ) (b M : ℕ) where
   unfolding orderOf logOf placesOf
   judged-by-search few =
       let places = placesOf (logOf l) in
-      let cut = search-laws (List ℕ) 12 (replayed l b M) (earlierIn (logOf l)) .cuts (stillAt l) sameWords
-      (λ i t t′ s e. still-keeps l b M i t t′ s e) same-words places zeros zeros in
+      let cut = search-laws (List ℕ) 12 (replayed l b M) (earlierIn (logOf l)) .cuts (stillAt l) sameNumbers
+      (λ i t t′ s e. still-keeps l b M i t t′ s e) same-numbers .as-plain places zeros zeros in
       let plain = search-related (List ℕ) Table 12 (replayed l b M) (servedAt b M (logOf l)) (earlierIn (logOf l)) (Means l M) places
       (λ t t′ i r e. replay-means l b M few t t′ i r (ltb-true i (countOf l) e)) (countOf l) places (λ i e. e) zeros [] (empty-means l M) in
       ap (λ (left : ℕ → Bool). searchIn l b M (countOf l) zeros 0 left zeros) (all-left (countOf l))
@@ -105,28 +97,25 @@ module _ (l : List ℕ) (b M : ℕ) where
         unfolding refusal
         no-refusal room = if-false _ _ (ap not range) ∙ if-false _ _ (ap not good) ∙ if-false _ _ (le-ltb _ _ room)
 
-  module _ (range : inRange leastWorkers b M ≡ true) (good : areLog l ≡ true) (before : List ℕ) (room : countOf l ≤ length before) where
-    -- the verdict on what the search found
-    by-order : (r : Option (List ℕ)) → orderOf b M (logOf l) ≡ r → (after : List ℕ) → after ≡ writtenIn before r
-        → Judged l b M before after (if isFound r then Verdict.Accepted else Verdict.No)
-    unfolding writtenIn isFound if_then_else_
-    by-order none e after w =
-        (no-refusal (length before) range good room, ((λ o x. none-some e (all-explained b M (logOf l) (is-log l good) .found o x .1)), w))
-    by-order (some o) e after w =
-        (no-refusal (length before) range good room, (o, (all-explained b M (logOf l) (is-log l good) .explained o e, w)))
+  module _ (before : List ℕ) where
+    pub refused-as : (r : Refusal) → refusal l b M (length before) ≡ some r → (before, Verdict.Refused r) ≡ checkLogWords l b M before
+    refused-as r e = sym (refused l b M before r e)
 
-    module _ (left after : List ℕ) (all : left ≡ allLeft (countOf l)) where
+    module _ (range : inRange leastWorkers b M ≡ true) (good : areLog l ≡ true) (room : countOf l ≤ length before) (left after : List ℕ)
+        (all : left ≡ allLeft (countOf l)) where
       abbrev found : Option (List ℕ)
       found = searchIn l b M (countOf l) zeros 0 (isLeft left) zeros
 
-      is-order : orderOf b M (logOf l) ≡ found
-      is-order = sym (rw all (judged-by-search (few l good)))
+      by-search : checkLogWords l b M before ≡ verdictOn before found
+      by-search =
+          unrefused l b M before (no-refusal (length before) range good room)
+          ∙ ap (verdictOn before) (sym (rw all (judged-by-search (few l good))))
 
-      module _ (written : after ≡ writtenIn before found) (r : Bool) (e : r ≡ isFound found) where
-        pub accepted : r ≡ true → Judged l b M before after Verdict.Accepted
-        unfolding if_then_else_
-        accepted f = rw (← e, f) at (by-order found is-order after written)
+      by-order : (f : Option (List ℕ)) → (writtenIn before f, if isFound f then Verdict.Accepted else Verdict.No) ≡ verdictOn before f
+      unfolding writtenIn isFound if_then_else_ verdictOn
+      by-order none = refl
+      by-order (some o) = refl
 
-        pub answered-no : r ≡ false → Judged l b M before after Verdict.No
-        unfolding if_then_else_
-        answered-no f = rw (← e, f) at (by-order found is-order after written)
+      pub answered : after ≡ writtenIn before found → (r : Bool) → r ≡ isFound found
+          → (after, if r then Verdict.Accepted else Verdict.No) ≡ checkLogWords l b M before
+      answered w r e = rw (w, e) (by-order found ∙ sym by-search)

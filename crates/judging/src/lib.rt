@@ -2,7 +2,7 @@
 // and on the search, crate searching.
 ghost use mathlib.Core.Path.{_≡_};
 ghost use Prim.Native.Nat.{_≤_};
-ghost use Rattle.logs.specs.Judging.{Judged};
+ghost use Rattle.logs.specs.Judging.{checkLogWords};
 ghost use Rattle.logs.specs.Log.{greatestOperations};
 ghost use Rattle.judging.specs.Places.{allLeft};
 use interface::Built;
@@ -29,10 +29,11 @@ fn all_left(n: usize) -> [u64; GREATEST_OPERATIONS]
     left
 }
 
-// Whether some order explains the log, as crate logs defines it; the first places of `order` then hold one. Checks 1,
-// 14, 10; a refusal and a no leave `order` as it is.
+// Whether some order explains the log, as crate logs defines it; `order` then begins with the first of all that do.
+// Checks 1, 14, 10; a refusal and a no leave `order` as it is.
 pub fn check_log(log: &[u64], capacity: u64, depth: u64, order: &mut [u64]) -> Verdict
-    ensures { λ r. ⌜ Judged (now (log .entry)) capacity depth (now (order .entry)) (now (order .exit)) r ⌝ }
+    ensures { λ r. ⌜ (now (order .exit), r)
+        ≡ checkLogWords (now (log .entry)) capacity depth (now (order .entry)) ⌝ }
 {
     let Built::Settings(_) = Settings::new(Settings::LEAST_WORKERS, capacity, depth) else {
         return Verdict::Refused(Refusal::Settings);

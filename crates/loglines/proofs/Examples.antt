@@ -9,7 +9,8 @@ use Rattle.numerals.specs.Cut.{before, partsAt}
 use Rattle.commands.specs.Commands.{smallOf, accountOf, totalOf}
 use Rattle.lines.specs.Grammar.{linesOf, fieldsOf}
 use Rattle.replies.specs.Printed.{printedLine}
-use Rattle.loglines.specs.Fields.{number64, asWord, sameBytes, numberAmong, allAnswers, answerNamed, fieldWord}
+use Rattle.logs.specs.Same.{sameNumbers}
+use Rattle.loglines.specs.Fields.{number64, asWord, numberAmong, allAnswers, answerNamed, fieldWord}
 use Rattle.loglines.specs.Lines as Lines
 use Rattle.loglines.specs.Inputs.{unread, log, orUnread, readOperations, afterSettings, readLines}
 use Rattle.loglines.specs.Texts.{orderText}
@@ -19,11 +20,11 @@ unfolding isDigit digitsAfter zeroThen numeral plus minus signedNumeral upTo in6
 numbers = tt
 
 unfoldable fields : Unit {0}
-unfolding bytes answerWord before partsAt linesOf fieldsOf number64 asWord sameBytes numberAmong allAnswers answerNamed fieldWord
+unfolding bytes answerWord before partsAt linesOf fieldsOf number64 asWord sameNumbers numberAmong allAnswers answerNamed fieldWord
 fields = tt
 
 unfoldable lines : Unit {0}
-unfolding Lines.settingsOf Lines.settingsLine Lines.before Lines.eachWord Lines.operationIn Lines.operationLine
+unfolding Lines.settingsOf Lines.settingsLine Lines.wordThen Lines.eachWord Lines.operationIn Lines.operationLine
 lines = tt
 
 unfoldable reading : Unit {0}

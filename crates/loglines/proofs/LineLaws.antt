@@ -18,7 +18,7 @@ use Rattle.commands.specs.Commands.{smallOf}
 use Rattle.lines.specs.Grammar.{fieldsOf, firstField}
 use Rattle.lines.proofs.Splitting.{one-field, more-fields, some-field}
 use Rattle.loglines.specs.Fields.{fieldWord}
-use Rattle.loglines.specs.Lines.{settingsOf, settingsLine, before, eachWord, operationIn, operationLine, behind, operationFrom}
+use Rattle.loglines.specs.Lines.{settingsOf, settingsLine, wordThen, eachWord, operationIn, operationLine, behind, operationFrom}
 
 -- ---- settings
 
@@ -63,12 +63,12 @@ too-many ws l h =
 
 module _ (ws : List ℕ) (k : ℕ) (f : List ℕ) (fs : List (List ℕ)) where
   pub field-unread : fieldWord k f ≡ none → none ≡ operationFrom ws k (f ∷ fs)
-  unfolding operationFrom eachWord before behind
+  unfolding operationFrom eachWord wordThen behind
   field-unread e = rw e (sym (if-same (eqb (k + suc (length fs)) 8) none))
 
   -- the word of a field goes behind those read
-  moved : (w : ℕ) (o : Option (List ℕ)) → behind (ws ++ w ∷ []) o ≡ behind ws (before (some w) o)
-  unfolding behind before
+  moved : (w : ℕ) (o : Option (List ℕ)) → behind (ws ++ w ∷ []) o ≡ behind ws (wordThen (some w) o)
+  unfolding behind wordThen
   moved w none = refl
   moved w (some xs) = ap some (append-snoc ws w xs)
 
@@ -96,7 +96,7 @@ module _ (ws l : List ℕ) (from k n : ℕ) (e : n ≡ firstField (drop from l))
 -- the eighth
 pub last-read : (ws l : List ℕ) (w : ℕ) → length l ≤ firstField l → fieldWord 7 l ≡ some w
     → some (ws ++ w ∷ []) ≡ operationFrom ws 7 (fieldsOf l)
-unfolding operationFrom eachWord before behind if_then_else_
+unfolding operationFrom eachWord wordThen behind if_then_else_
 last-read ws l w h e = rw (one-field l h, e)
 
 pub last-unread : (ws l : List ℕ) → length l ≤ firstField l → fieldWord 7 l ≡ none → none ≡ operationFrom ws 7 (fieldsOf l)

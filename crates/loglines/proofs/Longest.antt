@@ -2,7 +2,6 @@
 -- crate lines' lengths of numbers.
 use Prim.Native.Nat.{ℕ, suc, _+_, _*_, _≤_, _<_}
 use mathlib.Core.Path.{_≡_, refl, sym, _∙_, ap}
-use mathlib.Core.Bool.{true}
 use mathlib.Core.List.{List, [], _∷_}
 use mathlib.Core.Option.{Option, none, some}
 use native.Mathlib.Omega.{arith}
@@ -13,7 +12,7 @@ use borrow.Author.Tests.{eqb-true}
 use Rattle.interface.specs.Numbers.{bytes, answerWord}
 use Rattle.interface.specs.declared.Answer.{Answer}
 use Rattle.interface.specs.declared.Answer.the-variants.{Added, Replaced, Removed, Absent, Found, None, Posted, Crowded, Overrun}
-use Rattle.machine.proofs.laws.Base.{if-elim, and-parts, no-both}
+use Rattle.machine.proofs.laws.Base.{if-elim}
 use Rattle.numerals.specs.declared.Pair.{Pair}
 use Rattle.numerals.specs.declared.Pair.the-variants.{Values, Nothing}
 use Rattle.numerals.proofs.NumeralLaws.{some-none, passed}
@@ -22,8 +21,10 @@ use Rattle.commands.proofs.Pairs.{pair-some}
 use Rattle.lines.specs.Grammar.{fieldsOf}
 use Rattle.lines.proofs.Longest.{limited-length, small-length, account-length, total-length, span, span-of}
 use Rattle.logs.specs.Log.{operationWords, loggedAccount, loggedTotal, loggedAnswer, loggedAnswerTotal, greatestWord}
-use Rattle.loglines.specs.Fields.{number64, asWord, sameBytes, numberAmong, allAnswers, answerNamed, fieldWord}
-use Rattle.loglines.specs.Lines.{settingsOf, settingsLine, before, eachWord, operationIn, operationLine}
+use Rattle.logs.specs.Same.{sameNumbers}
+use Rattle.logs.proofs.SameLaws.{same-numbers}
+use Rattle.loglines.specs.Fields.{number64, asWord, numberAmong, allAnswers, answerNamed, fieldWord}
+use Rattle.loglines.specs.Lines.{settingsOf, settingsLine, wordThen, eachWord, operationIn, operationLine}
 use Rattle.loglines.specs.Holding.{longestLine}
 
 -- ---- fields
@@ -53,19 +54,12 @@ answer-length (Posted t) = omega arith
 answer-length Crowded = omega arith
 answer-length Overrun = omega arith
 
-same-length : (xs ys : List ℕ) → sameBytes xs ys ≡ true → length xs ≡ length ys
-unfolding sameBytes
-same-length [] [] e = refl
-same-length [] (y ∷ ys) e = absurd (no-both e refl)
-same-length (x ∷ xs) [] e = absurd (no-both e refl)
-same-length (x ∷ xs) (y ∷ ys) e = ap suc (same-length xs ys (and-parts (eqb x y) (sameBytes xs ys) e .1))
-
 named-length : (f : List ℕ) (answers : List Answer) (w : ℕ) → numberAmong f answers ≡ some w → length f ≤ fieldLength
 unfolding numberAmong
 named-length f [] w e = absurd (some-none (sym e))
 named-length f (a ∷ answers) w e =
-    if-elim (λ o. o ≡ some w → length f ≤ fieldLength) (sameBytes f (answerWord a)) _ _
-    (λ t _. let n = answer-length a in omega (arith, same-length f (answerWord a) t)) (λ _ d. named-length f answers w d) e
+    if-elim (λ o. o ≡ some w → length f ≤ fieldLength) (sameNumbers f (answerWord a)) _ _
+    (λ t _. let n = answer-length a in omega (arith, ap length (same-numbers f (answerWord a) t))) (λ _ d. named-length f answers w d) e
 
 field-length : (k : ℕ) (f : List ℕ) (w : ℕ) → fieldWord k f ≡ some w → length f ≤ fieldLength
 unfolding fieldWord answerNamed
@@ -80,12 +74,12 @@ field-length k f w e =
 
 -- each field is read, and has a word
 each-read : (k : ℕ) (fs : List (List ℕ)) (ws : List ℕ) → eachWord k fs ≡ some ws → (length ws ≡ length fs) × (span fs ≤ 21 * length fs)
-unfolding eachWord before
+unfolding eachWord wordThen
 each-read k [] ws e = let q : [] ≡ ws = cc in (sym (ap length q), omega arith)
 each-read k (f ∷ fs) ws e = by (fieldWord k f) (eachWord (suc k) fs) refl refl (each-read (suc k) fs) e
   where
     by : (o : Option ℕ) (p : Option (List ℕ)) → fieldWord k f ≡ o → eachWord (suc k) fs ≡ p
-        → ((vs : List ℕ) → eachWord (suc k) fs ≡ some vs → (length vs ≡ length fs) × (span fs ≤ 21 * length fs)) → before o p ≡ some ws
+        → ((vs : List ℕ) → eachWord (suc k) fs ≡ some vs → (length vs ≡ length fs) × (span fs ≤ 21 * length fs)) → wordThen o p ≡ some ws
         → (length ws ≡ suc (length fs)) × (suc (length f) + span fs ≤ 21 * suc (length fs))
     by none p q r ih d = absurd (some-none (sym d))
     by (some w) none q r ih d = absurd (some-none (sym d))

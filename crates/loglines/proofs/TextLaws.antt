@@ -1,36 +1,32 @@
--- Texts at the start of a buffer, and an order's places one behind the other. Rests on the definitions of specs/Texts and of crate
--- printers.
+-- Texts at the start of a buffer, what the end of the input leaves, and an order's places one behind the other. Rests on the definitions of
+-- specs/Texts, of specs/Feeding and of crate printers.
 use Prim.Native.Nat.{ℕ, _+_, _^_, _≤_, _<_}
 use mathlib.Core.Path.{_≡_, refl, sym, _∙_, ap}
 use mathlib.Core.List.{List, [], _∷_, _++_, map, append-assoc, append-nil}
 use native.Mathlib.Omega.{arith}
 use native.Mathlib.Numerals.{add-one}
 use lib.ListN.{length, take, getD, length-append}
-use lib.Seq.{take-at, take-suc}
-use borrow.Author.Tests.{le-leb}
+use lib.Seq.{take-suc}
+use borrow.Author.Tests.{le-leb, lt-ltb, le-ltb}
 use Rattle.interface.specs.Numbers.{bytes, numberOf}
 use Rattle.interface.specs.declared.Refusal.{Refusal}
 use Rattle.interface.specs.declared.Refusal.the-variants.{Settings, Short, Stranger, Busy, Idle, Kind, Spent, Strange, Narrow, BadLog}
 use Rattle.machine.specs.Choice.{if_then_else_}
+use Rattle.machine.proofs.laws.Base.{if-true, if-false}
 use Rattle.lists.specs.Parts.{overlay}
-use Rattle.lists.proofs.PartLaws.{overlay-first, length-overlay}
+use Rattle.lists.proofs.PartLaws.{length-overlay}
 use Rattle.decimals.specs.Ascii.{lineFeed, space}
 use Rattle.decimals.specs.Decimals.{decimal}
 use Rattle.decimals.proofs.DecimalLaws.{decimal-within}
 use Rattle.printers.specs.Written.{countedText, fits, Wrote}
 use Rattle.replies.specs.Printed.{printedLine}
+use Rattle.loglines.specs.declared.progress.Feeding.{Feeding}
 use Rattle.loglines.specs.Texts.{orderText, placeText}
+use Rattle.loglines.specs.Inputs.{inputText}
+use Rattle.loglines.specs.Holding.{readSoFar, ended}
+use Rattle.loglines.specs.Feeding.{textRoom, printed, concluded}
 
 -- ---- texts at the start of a buffer
-
--- so many bytes of the buffer are the text
-abbrev pub Shown : List ℕ → ℕ → List ℕ → Type 0
-Shown after r xs = (r ≤ length after) × (take r after ≡ xs)
-
-pub shown : (l xs : List ℕ) {r : ℕ} {after : List ℕ} → length xs ≤ length l → r ≡ length xs → after ≡ overlay l 0 xs → Shown after r xs
-shown l xs {r} {after} h c e =
-    let n = ap length e ∙ length-overlay l 0 xs (omega arith) in
-    (omega arith, rw (e, overlay-first l xs) (take-at xs _ r (sym c)))
 
 module _ {l xs after : List ℕ} {at r : ℕ} (w : Wrote l at xs r after) (h : at + length xs ≤ length l) where
   pub wrote-count : r ≡ length xs
@@ -41,8 +37,28 @@ module _ {l xs after : List ℕ} {at r : ℕ} (w : Wrote l at xs r after) (h : a
   unfolding fits if_then_else_
   wrote-text = rw (le-leb (at + length xs) (length l) h) at (w .buffer)
 
-pub shown-wrote : {l xs after : List ℕ} {r : ℕ} → Wrote l 0 xs r after → length xs ≤ length l → Shown after r xs
-shown-wrote {l} {xs} w h = shown l xs h (wrote-count w (omega arith)) (wrote-text w (omega arith))
+module _ (l xs : List ℕ) {after : List ℕ} {r : ℕ} where
+  pub overlay-printed : after ≡ overlay l 0 xs → r ≡ length xs → (after, r) ≡ printed l xs
+  unfolding printed
+  overlay-printed e c = rw (e, c)
+
+  pub wrote-printed : Wrote l 0 xs r after → length xs ≤ length l → ((after, r) ≡ printed l xs) × (r ≤ length after)
+  wrote-printed w h =
+      let e = wrote-text w (omega arith) in
+      let c = wrote-count w (omega arith) in
+      let n = length-overlay l 0 xs (omega arith) in
+      (overlay-printed e c, omega (arith, ap length e))
+
+-- ---- the end of the input
+
+module _ (f : Feeding) (out : List ℕ) where
+  pub without-room : length out < textRoom → (out, 0) ≡ concluded f out
+  unfolding concluded
+  without-room h = sym (if-true _ _ (lt-ltb (length out) textRoom h))
+
+  pub with-room : textRoom ≤ length out → concluded f out ≡ printed out (inputText (readSoFar (ended f)))
+  unfolding concluded
+  with-room h = if-false _ _ (le-ltb (length out) textRoom h)
 
 -- ---- numbers behind a word
 

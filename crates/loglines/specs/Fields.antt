@@ -2,7 +2,6 @@
 -- total, answer, answer-total, call, end; numbers as in `totals`, the answer by its word. Rests on crate commands, and
 -- on document 01's words.
 use Prim.Native.Nat.{ℕ, _+_}
-use mathlib.Core.Bool.{Bool, true, false}
 use mathlib.Core.List.{List, [], _∷_}
 use mathlib.Core.Option.{Option, none, some}
 use lib.Dec.{eqb}
@@ -12,10 +11,11 @@ use mir.Val.{ofZ}
 use Rattle.interface.specs.Numbers.{answerWord, answerNumber}
 use Rattle.interface.specs.declared.Answer.{Answer}
 use Rattle.interface.specs.declared.Answer.the-variants.{Added, Replaced, Removed, Absent, Found, None, Posted, Crowded, Overrun}
-use Rattle.machine.specs.Choice.{if_then_else_, _and_}
+use Rattle.machine.specs.Choice.{if_then_else_}
 use Rattle.numerals.specs.Numerals.{numeral, upTo}
 use Rattle.commands.specs.Commands.{accountOf, totalOf}
 use Rattle.report.specs.Report.{answerBase}
+use Rattle.logs.specs.Same.{sameNumbers}
 use Rattle.logs.specs.Log.{loggedAccount, loggedTotal, loggedAnswer, loggedAnswerTotal, greatestWord}
 
 -- worker, kind, call or end: of 64 bits
@@ -29,17 +29,11 @@ asWord (some t) = some (ofZ w64 t)
 
 -- ---- answers
 
-unfoldable pub sameBytes : List ℕ → List ℕ → Bool
-sameBytes [] [] = true
-sameBytes [] (y ∷ ys) = false
-sameBytes (x ∷ xs) [] = false
-sameBytes (x ∷ xs) (y ∷ ys) = eqb x y and sameBytes xs ys
-
 -- the number of the first of the answers whose word the field is
 unfoldable pub numberAmong : List ℕ → List Answer → Option ℕ
 numberAmong f [] = none
 numberAmong f (a ∷ answers) =
-    if sameBytes f (answerWord a) then some (answerBase + answerNumber a) else numberAmong f answers
+    if sameNumbers f (answerWord a) then some (answerBase + answerNumber a) else numberAmong f answers
 
 -- each answer once; neither word nor number depends on a total
 unfoldable pub allAnswers : List Answer

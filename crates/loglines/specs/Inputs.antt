@@ -1,8 +1,7 @@
--- A whole input of `judge`, and the outputs that answer it, as docs/USING.md has them: the first line is `b M`, each
+-- A whole input of `judge`, and what is printed for it, as docs/USING.md has them: the first line is `b M`, each
 -- further one an operation; the first line that is no such line is unread, counted from 1. Rests on specs/Lines,
 -- specs/Texts and on crate logs' verdicts.
 use Prim.Native.Nat.{ℕ, suc}
-use mathlib.Core.Path.{_≡_}
 use mathlib.Core.List.{List, [], _∷_, _++_}
 use mathlib.Core.Option.{Option, none, some}
 use lib.ListN.{take, replicate}
@@ -11,7 +10,7 @@ use Rattle.numerals.specs.declared.Pair.{Pair}
 use Rattle.numerals.specs.declared.Pair.the-variants.{Values, Nothing}
 use Rattle.lines.specs.Grammar.{linesOf}
 use Rattle.logs.specs.Log.{greatestOperations, countOf}
-use Rattle.logs.specs.Judging.{Judged}
+use Rattle.logs.specs.Judging.{checkLogWords}
 use Rattle.loglines.specs.Lines.{settingsLine, operationLine}
 use Rattle.loglines.specs.Texts.{unreadText, verdictText}
 
@@ -42,13 +41,17 @@ unfoldable pub readLines : List (List ℕ) → Input
 readLines [] = unread 1
 readLines (l ∷ ls) = afterSettings (settingsLine l) ls
 
--- ---- what answers it
+-- ---- what is printed for it
 
-abbrev pub AnswersInput : Input → List ℕ → Type 0
-AnswersInput (unread line) output = output ≡ unreadText line
-AnswersInput (log b M words) output =
-    (v : Verdict) × ((order : List ℕ) × (Judged words b M (replicate greatestOperations 0) order v
-    × (output ≡ verdictText v (take (countOf words) order))))
+-- by the list for the order, and the verdict
+unfoldable pub judgedText : ℕ → List ℕ × Verdict → List ℕ
+judgedText count judged = verdictText (judged .1) (take count (judged .0))
 
-abbrev pub Answers : List ℕ → List ℕ → Type 0
-Answers input output = AnswersInput (readLines (linesOf input)) output
+unfoldable pub inputText : Input → List ℕ
+inputText (unread line) = unreadText line
+inputText (log b M words) =
+    judgedText (countOf words) (checkLogWords words b M (replicate greatestOperations 0))
+
+-- for all bytes of an input
+unfoldable pub judgeText : List ℕ → List ℕ
+judgeText input = inputText (readLines (linesOf input))

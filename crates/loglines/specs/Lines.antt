@@ -29,16 +29,16 @@ settingsLine line = settingsOf (fieldsOf line)
 
 -- ---- operations
 
--- a word before others, where all are read
-unfoldable pub before : Option ℕ → Option (List ℕ) → Option (List ℕ)
-before none ws = none
-before (some w) none = none
-before (some w) (some ws) = some (w ∷ ws)
+-- a word and others behind it, where all are read
+unfoldable pub wordThen : Option ℕ → Option (List ℕ) → Option (List ℕ)
+wordThen none ws = none
+wordThen (some w) none = none
+wordThen (some w) (some ws) = some (w ∷ ws)
 
 -- the words of fields, of which the first is that at k
 unfoldable pub eachWord : ℕ → List (List ℕ) → Option (List ℕ)
 eachWord k [] = some []
-eachWord k (f ∷ fs) = before (fieldWord k f) (eachWord (suc k) fs)
+eachWord k (f ∷ fs) = wordThen (fieldWord k f) (eachWord (suc k) fs)
 
 unfoldable pub operationIn : List (List ℕ) → Option (List ℕ)
 operationIn fs = if eqb (length fs) operationWords then eachWord 0 fs else none

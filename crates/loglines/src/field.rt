@@ -8,7 +8,8 @@ ghost use Rattle.numerals.specs.declared.Number.the-variants.{Value};
 ghost use Rattle.numerals.specs.Numerals.{asNumber};
 ghost use Rattle.commands.specs.Commands.{totalOf};
 ghost use Rattle.report.specs.Report.{answerBase};
-ghost use Rattle.loglines.specs.Fields.{asWord, sameBytes, answerNamed, fieldWord};
+ghost use Rattle.logs.specs.Same.{sameNumbers};
+ghost use Rattle.loglines.specs.Fields.{asWord, answerNamed, fieldWord};
 use commands::GREATEST_ACCOUNT;
 use interface::ANSWER_ABSENT;
 use interface::ANSWER_ADDED;
@@ -81,7 +82,7 @@ fn read_answer(field: &[u8]) -> Number
 // The number of an answer, where the field is its word, or else the rest.
 fn answer_or(field: &[u8], word: &[u8], answer: u64, rest: Number) -> Number
     requires { ⌜ answer ≤ answerNumber Overrun ⌝ }
-    ensures { λ r. ⌜ r ≡ if sameBytes (now (field .entry)) (now (word .entry)) then Value (answerBase + answer)
+    ensures { λ r. ⌜ r ≡ if sameNumbers (now (field .entry)) (now (word .entry)) then Value (answerBase + answer)
         else rest ⌝ }
 {
     if same(field, word) {
@@ -92,7 +93,7 @@ fn answer_or(field: &[u8], word: &[u8], answer: u64, rest: Number) -> Number
 
 // Whether the bytes are the same.
 fn same(field: &[u8], word: &[u8]) -> bool
-    ensures { λ r. ⌜ r ≡ sameBytes (now (field .entry)) (now (word .entry)) ⌝ }
+    ensures { λ r. ⌜ r ≡ sameNumbers (now (field .entry)) (now (word .entry)) ⌝ }
 {
     if field.len() != word.len() {
         return false;

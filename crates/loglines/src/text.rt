@@ -6,9 +6,9 @@ ghost use mathlib.Core.List.{List};
 ghost use lib.ListN.{length, take};
 ghost use Rattle.lists.specs.Parts.{overlay};
 ghost use Rattle.loglines.specs.Texts.{orderText, placeText};
-ghost use Rattle.loglines.specs.Inputs.{AnswersInput};
+ghost use Rattle.loglines.specs.Inputs.{inputText};
 ghost use Rattle.loglines.specs.Holding.{keptWords, keptLog, firstUnread};
-ghost use Rattle.loglines.specs.Feeding.{Concluded, textRoom};
+ghost use Rattle.loglines.specs.Feeding.{textRoom, printed, concluded};
 use crate::progress::Feeding;
 use crate::progress::KEPT_WORDS;
 use crate::progress::Progress;
@@ -24,10 +24,11 @@ use printers::print_word;
 // The bytes that any text has room in.
 pub const TEXT_ROOM: usize = 258;
 
-// The end of the input: prints one line at the start of `out`, which has TEXT_ROOM bytes at least, and answers how many
-// bytes it has.
+// The end of the input: prints one line at the start of `out` and answers how many bytes it has; nothing, and 0, where
+// `out` has fewer than TEXT_ROOM.
 pub fn conclude(feeding: Feeding, out: &mut [u8]) -> usize
-    ensures { λ r. ⌜ Concluded feeding (now (out .entry)) r (now (out .exit)) ⌝ }
+    ensures told { λ r. ⌜ (now (out .exit), r) ≡ concluded feeding (now (out .entry)) ⌝ }
+    ensures within { λ r. ⌜ r ≤ length (now (out .exit)) ⌝ }
 {
     if out.len() < TEXT_ROOM {
         return 0;
@@ -56,7 +57,8 @@ fn unread(progress: Progress) -> u64
 // Judges what was read, and prints the verdict.
 fn print_judged(progress: Progress, out: &mut [u8]) -> usize
     requires { ⌜ textRoom ≤ length (now out) ⌝ }
-    ensures { λ r. ⌜ (r ≤ length (now (out .exit))) × AnswersInput (keptLog progress) (take r (now (out .exit))) ⌝ }
+    ensures told { λ r. ⌜ (now (out .exit), r) ≡ printed (now (out .entry)) (inputText (keptLog progress)) ⌝ }
+    ensures within { λ r. ⌜ r ≤ length (now (out .exit)) ⌝ }
 {
     let kept = progress.kept;
     let words = kept.words;

@@ -3,17 +3,16 @@ use Prim.Native.Nat.{ℕ, zero, suc, _+_, _<_}
 use native.Mathlib.Omega.{arith}
 use native.Mathlib.Decide.{ℕ-discrete}
 use mathlib.Core.Path.{_≡_, refl, sym, ap, _∙_, subst}
-use mathlib.Core.Logic.{_≢_, by-cases}
+use mathlib.Core.Logic.{_≢_, _⊎_, inl, inr, ⊎-elim, by-cases}
 use mathlib.Core.Bool.{Bool, true, false, not}
 use mathlib.Core.List.{List, [], _∷_}
 use mathlib.Core.Option.{Option, none, some}
-use lib.Dec.{ltb}
 use borrow.Author.Tests.{not-true, ltb-true}
 use Rattle.machine.specs.Choice.{_and_, assign}
 use Rattle.machine.proofs.laws.Base.{no-both, none-some, below-suc, if-elim, and-parts}
-use Rattle.logs.specs.Search.{SearchLaws, starting, orElse, leftOf, ready, Completes, begun, opened, tries, search, isSame, exchangedFrom, exchanged, unlessExchanged, candidate, unlessStill, cutBegun, cutTries, cutSearch}
+use Rattle.logs.specs.Search.{CutLaws, SearchLaws, starting, orElse, countLeft, ready, Completes, begun, opened, tries, search, isSame, exchangedFrom, exchanged, unlessExchanged, candidate, unlessStill, cutBegun, cutTries, cutSearch}
 use Rattle.logs.proofs.Left.{left-before, not-taken, others-left, taken-both, left-less}
-use Rattle.logs.proofs.SearchLaws.{ready-at, ready-of, ready-fewer, opened-parts, opened-is, tries-order, sound-at, complete-at}
+use Rattle.logs.proofs.SearchLaws.{ready-at, ready-of, ready-fewer, opened-parts, opened-is, tries-order, sound-at, first-at}
 
 module _ (T : Type 0) (n : ℕ) (fits : T → ℕ → Option T) (earlier : ℕ → ℕ → Bool) where
   abbrev IsReady : (ℕ → Bool) → ℕ → Type 0
@@ -37,12 +36,12 @@ module _ (T : Type 0) (n : ℕ) (fits : T → ℕ → Option T) (earlier : ℕ �
   none-of none h = refl
   none-of (some x) h = absurd (h x refl)
 
-  lost-none : (m : ℕ) (left : ℕ → Bool) (t : T) → leftOf n left ≡ m → Lost left t → search T n fits earlier m left t ≡ none
+  lost-none : (m : ℕ) (left : ℕ → Bool) (t : T) → countLeft n left ≡ m → Lost left t → search T n fits earlier m left t ≡ none
   lost-none m left t z lost =
       none-of (search T n fits earlier m left t) (λ o e. lost o (sound-at T n fits earlier m left t o z e))
 
-  none-lost : (m : ℕ) (left : ℕ → Bool) (t : T) → leftOf n left ≡ m → search T n fits earlier m left t ≡ none → Lost left t
-  none-lost m left t z e o c = none-some e (complete-at T n fits earlier m left t o z c .1)
+  none-lost : (m : ℕ) (left : ℕ → Bool) (t : T) → countLeft n left ≡ m → search T n fits earlier m left t ≡ none → Lost left t
+  none-lost m left t z e o c = none-some e (first-at T n fits earlier m left t o z c .1 .0)
 
   closed-lost : (left : ℕ → Bool) (t : T) (i : ℕ) → Opened left t i ≡ none → LostFrom left t i
   closed-lost left t i w o c =
@@ -111,6 +110,10 @@ module _ (T : Type 0) (n : ℕ) (fits : T → ℕ → Option T) (earlier : ℕ �
     abbrev Exchanged : T → ℕ → T → ℕ → Type 0
     Exchanged t₀ last u i = exchanged T n fits earlier still same t₀ last u i ≡ true
 
+    -- the operation at i, which leaves u, unless it could be exchanged
+    abbrev Cut1 : T → ℕ → ℕ → T → Option T
+    Cut1 t₀ last i u = unlessExchanged T n fits earlier still same t₀ last i (some u)
+
     exchanged-parts : (t₀ : T) (last : ℕ) (u : T) (i : ℕ) → Exchanged t₀ last u i
         → (earlier last i ≡ false) × ((t₁ : T) × ((fits t₀ i ≡ some t₁) × (fits t₁ last ≡ some u)))
     unfolding exchanged exchangedFrom isSame
@@ -127,6 +130,14 @@ module _ (T : Type 0) (n : ℕ) (fits : T → ℕ → Option T) (earlier : ℕ �
             → (t₁ : T) × ((fits t₀ i ≡ some t₁) × (fits t₁ last ≡ some u))
         one none w e = absurd (no-both e refl)
         one (some t₁) w e = (t₁, (w, two t₁ (fits t₁ last) refl e))
+
+    -- cut 1 leaves out lower places only
+    cut-parts : (t₀ : T) (last i : ℕ) (u : T)
+        → (Cut1 t₀ last i u ≡ some u) ⊎ ((Cut1 t₀ last i u ≡ none) × ((i < last) × Exchanged t₀ last u i))
+    unfolding unlessExchanged
+    cut-parts t₀ last i u =
+        if-elim (λ (x : Option T). (x ≡ some u) ⊎ ((x ≡ none) × ((i < last) × Exchanged t₀ last u i))) _ none (some u)
+        (λ e. let z = and-parts _ _ e in inr (refl, (ltb-true i last (z .0), z .1))) (λ e. inl refl)
 
     -- the invariant: what cut 1 leaves out at a node leads to no order
     abbrev Passed : T → ℕ → (ℕ → Bool) → T → Type 0
@@ -150,11 +161,11 @@ module _ (T : Type 0) (n : ℕ) (fits : T → ℕ → Option T) (earlier : ℕ �
 
     -- ---- the places of one node
 
-    module _ (m : ℕ) (left : ℕ → Bool) (t : T) (count : leftOf n left ≡ suc m) where
+    module _ (m : ℕ) (left : ℕ → Bool) (t : T) (count : countLeft n left ≡ suc m) where
       abbrev Later : ℕ → ℕ → Option (List ℕ)
       Later k i = tries T n fits earlier (Plain m) left t k i
 
-      one-less : (i : ℕ) → i < n → left i ≡ true → leftOf n (assign left i false) ≡ m
+      one-less : (i : ℕ) → i < n → left i ≡ true → countLeft n (assign left i false) ≡ m
       one-less i l e = let k = left-less n left i l e in omega arith
 
       -- cut 2: no order at all
@@ -189,7 +200,7 @@ module _ (T : Type 0) (n : ℕ) (fits : T → ℕ → Option T) (earlier : ℕ �
           (λ s. later (opened-lost left t i u w lost))
 
       module _ (t₀ : T) (last : ℕ) (passed : Passed t₀ last left t)
-          (child : (i : ℕ) (u : T) → leftOf n (assign left i false) ≡ m → Passed t i (assign left i false) u
+          (child : (i : ℕ) (u : T) → countLeft n (assign left i false) ≡ m → Passed t i (assign left i false) u
           → Cut m t i (assign left i false) u ≡ Plain m (assign left i false) u) where
         abbrev CutLater : ℕ → ℕ → Option (List ℕ)
         CutLater k i = cutTries T n fits earlier still same (Cut m) t₀ last left t k i
@@ -207,22 +218,19 @@ module _ (T : Type 0) (n : ℕ) (fits : T → ℕ → Option T) (earlier : ℕ �
             ≡ orElse (begun T n fits earlier (Plain m) left i v) (Later k (suc i))
         unfolding cutBegun unlessExchanged orElse begun starting
         at-place k i a tried later none w = later (closed-lost left t i w)
-        at-place k i a tried later (some u) w =
-            if-elim (λ x. CutBegun k i x ≡ From k i u) (ltb i last and exchanged T n fits earlier still same t₀ last u i) none (some u) out
-            (λ e. taken)
+        at-place k i a tried later (some u) w = ⊎-elim taken out (cut-parts t₀ last i u)
           where
-            count-child : leftOf n (assign left i false) ≡ m
+            count-child : countLeft n (assign left i false) ≡ m
             count-child = one-less i (omega arith) (opened-parts T n fits earlier left t i u w .0)
 
-            out : ltb i last and exchanged T n fits earlier still same t₀ last u i ≡ true → CutLater k (suc i) ≡ From k i u
-            out e =
-                let z = and-parts (ltb i last) (exchanged T n fits earlier still same t₀ last u i) e in
-                let lost = passed i (ltb-true i last (z .0)) (omega arith) u w (z .1) in
-                rw (lost-none m (assign left i false) u count-child lost) (later (opened-lost left t i u w lost))
+            out : (Cut1 t₀ last i u ≡ none) × ((i < last) × Exchanged t₀ last u i) → CutBegun k i (Cut1 t₀ last i u) ≡ From k i u
+            out (e, (below, x)) =
+                let lost = passed i below (omega arith) u w x in
+                rw (e, lost-none m (assign left i false) u count-child lost) (later (opened-lost left t i u w lost))
 
-            taken : CutBegun k i (some u) ≡ From k i u
-            taken =
-                rw (child i u count-child (passed-child left t i (omega arith) tried u w))
+            taken : Cut1 t₀ last i u ≡ some u → CutBegun k i (Cut1 t₀ last i u) ≡ From k i u
+            taken e =
+                rw (e, child i u count-child (passed-child left t i (omega arith) tried u w))
                 (after-branch k i u a w (CutLater k (suc i)) later (Plain m (assign left i false) u) refl)
 
         at-places : (k i : ℕ) → i + k ≡ n → ((j : ℕ) → j < i → LostFrom left t j) → CutLater k i ≡ Later k i
@@ -234,7 +242,7 @@ module _ (T : Type 0) (n : ℕ) (fits : T → ℕ → Option T) (earlier : ℕ �
 
     -- ---- the whole search, with m left
 
-    cut-plain : (m : ℕ) (t₀ : T) (last : ℕ) (left : ℕ → Bool) (t : T) → leftOf n left ≡ m → Passed t₀ last left t
+    cut-plain : (m : ℕ) (t₀ : T) (last : ℕ) (left : ℕ → Bool) (t : T) → countLeft n left ≡ m → Passed t₀ last left t
         → Cut m t₀ last left t ≡ Plain m left t
     unfolding cutSearch search
     cut-plain zero t₀ last left t z passed = refl
@@ -242,11 +250,27 @@ module _ (T : Type 0) (n : ℕ) (fits : T → ℕ → Option T) (earlier : ℕ �
         at-places m left t z t₀ last passed (λ i u. cut-plain m t i (assign left i false) u) n 0 (omega arith)
         (λ j l. absurd (omega arith))
 
+    cut-laws : CutLaws T n fits earlier still same
+    cut-laws =
+        record {
+          as-plain = as-plain;
+          finds-first = λ t₀. record {
+            sound = λ left t o e. sound-at T n fits earlier (countLeft n left) left t o refl (sym (as-plain left t₀ t) ∙ e);
+            first = λ left t o c.
+                let f = first-at T n fits earlier (countLeft n left) left t o refl c in
+                (f .0, (as-plain left t₀ t ∙ f .1 .0, f .1 .1));
+          };
+        }
+      where
+        as-plain : (left : ℕ → Bool) (t₀ t : T) → Cut (countLeft n left) t₀ 0 left t ≡ Plain (countLeft n left) left t
+        as-plain left t₀ t = cut-plain (countLeft n left) t₀ 0 left t refl (λ i l. absurd (omega arith))
+
   pub search-laws : SearchLaws T n fits earlier
   search-laws =
       record {
-        sound = λ left t o. sound-at T n fits earlier (leftOf n left) left t o refl;
-        complete = λ left t o. complete-at T n fits earlier (leftOf n left) left t o refl;
-        cuts = λ still same idle equal left t₀ t.
-            cut-plain still same idle equal (leftOf n left) t₀ 0 left t refl (λ i l. absurd (omega arith));
+        plain = record {
+          sound = λ left t o. sound-at T n fits earlier (countLeft n left) left t o refl;
+          first = λ left t o. first-at T n fits earlier (countLeft n left) left t o refl;
+        };
+        cuts = cut-laws;
       }

@@ -1,24 +1,27 @@
--- The search over a good log finds exactly what explains it. Rests on SearchLaws.
+-- The search over a good log finds exactly the first order that explains it. Rests on SearchLaws.
 use Prim.Native.Nat.{ℕ, _≤_, _<_}
 use native.Mathlib.Omega.{arith}
 use native.Mathlib.Decide.{ℕ-discrete}
-use mathlib.Core.Path.{_≡_, refl, _∙_, subst}
+use mathlib.Core.Path.{_≡_, refl, sym, ap, _∙_, subst}
 use mathlib.Core.Logic.{inl, inr, by-cases}
 use mathlib.Core.Bool.{Bool, true, false}
 use mathlib.Core.List.{List, [], _∷_}
+use mathlib.Core.Option.{some, Option·some-injective}
 use lib.Dec.{leb}
 use lib.ListN.{length}
 use borrow.Author.Tests.{leb-true, ltb-true, lt-ltb, le-ltb}
 use Rattle.machine.specs.Choice.{assign}
 use Rattle.machine.specs.Sequential.{Table}
 use Rattle.machine.specs.History.{Member, Distinct}
-use Rattle.machine.proofs.laws.Base.{no-both, is-false, and-parts}
+use Rattle.machine.proofs.laws.Base.{no-both, none-some, is-false, and-parts}
 use Rattle.logs.specs.Log.{Log, greatestOperations, all, isOperation, precedes, isLog}
 use Rattle.logs.specs.Orders.{servedAt, InTime, GivesAll, Explains}
-use Rattle.logs.specs.Search.{leftOf, ready, Completes}
-use Rattle.logs.specs.Judging.{earlierIn, placesOf, orderOf, AllExplained}
+use Rattle.logs.specs.Search.{countLeft, ready, Completes}
+use Rattle.logs.specs.Comparing.{NotAfter}
+use Rattle.logs.specs.Judging.{earlierIn, placesOf, orderOf, First, AllFirst}
+use Rattle.logs.proofs.ComparingLaws.{both-first}
 use Rattle.logs.proofs.Left.{all-at, left-before, not-taken, others-left, left-below}
-use Rattle.logs.proofs.SearchLaws.{ready-at, ready-of, sound-at, complete-at, order-length}
+use Rattle.logs.proofs.SearchLaws.{ready-at, ready-of, sound-at, first-at, order-length}
 
 -- ---- good logs
 
@@ -36,7 +39,7 @@ not-before-itself log e i l =
     le-ltb (log .at i .end) (log .at i .call) (omega arith)
 
 -- so many are left at the start of the search
-pub places-count : (log : Log) → log .count ≤ greatestOperations → leftOf greatestOperations (placesOf log) ≡ log .count
+pub places-count : (log : Log) → log .count ≤ greatestOperations → countLeft greatestOperations (placesOf log) ≡ log .count
 unfolding placesOf
 places-count log l =
     left-below greatestOperations (log .count) (placesOf log) l (λ i k. lt-ltb i (log .count) k) (λ i k j. le-ltb i (log .count) k)
@@ -118,7 +121,7 @@ module _ (b M : ℕ) (log : Log) where
     fewer : log .count ≤ greatestOperations
     fewer = leb-true (log .count) greatestOperations (log-parts log good .0)
 
-    count : leftOf greatestOperations (placesOf log) ≡ log .count
+    count : countLeft greatestOperations (placesOf log) ≡ log .count
     count = places-count log fewer
 
     order-explains : (o : List ℕ) → Order (placesOf log) [] o → Explains b M log o
@@ -147,13 +150,41 @@ explained-length b M log good o x =
     order-length Table greatestOperations (servedAt b M log) (earlierIn log) (placesOf log) [] o (explains-order b M log good o x)
     ∙ count b M log good
 
--- what the search finds explains the log, and where an order does, it finds one
-pub all-explained : AllExplained
-unfolding orderOf
-all-explained b M log good =
+-- ---- the first order
+
+-- a log has one first order at most
+pub one-first : (b M : ℕ) (log : Log) (o p : List ℕ) → First b M log o → First b M log p → o ≡ p
+one-first b M log o p x y = both-first o p (x .before-others p (y .explains)) (y .before-others o (x .explains))
+
+module _ (b M : ℕ) (log : Log) (good : isLog log ≡ true) where
+  -- where an order explains the log, the search finds one that is not after it
+  found-by : (o : List ℕ) → Explains b M log o → (p : List ℕ) × ((orderOf b M log ≡ some p) × NotAfter p o)
+  unfolding orderOf
+  found-by o x =
+      first-at Table greatestOperations (servedAt b M log) (earlierIn log) (log .count) (placesOf log) [] o (count b M log good)
+      (explains-order b M log good o x)
+
+  found-explains : (o : List ℕ) → orderOf b M log ≡ some o → Explains b M log o
+  unfolding orderOf
+  found-explains o e =
+      order-explains b M log good o
+      (sound-at Table greatestOperations (servedAt b M log) (earlierIn log) (log .count) (placesOf log) [] o (count b M log good) e)
+
+  found-first : (o : List ℕ) → orderOf b M log ≡ some o → First b M log o
+  found-first o e =
+      record {
+        explains = found-explains o e;
+        before-others = λ p x.
+            let f = found-by p x in
+            subst (λ q. NotAfter q p) (Option·some-injective (f .0) o (sym (f .1 .0) ∙ e)) (f .1 .1);
+      }
+
+pub all-first : AllFirst
+all-first b M log good =
     record {
-      explained = λ o e. order-explains b M log good o
-          (sound-at Table greatestOperations (servedAt b M log) (earlierIn log) (log .count) (placesOf log) [] o (count b M log good) e);
-      found = λ o x. complete-at Table greatestOperations (servedAt b M log) (earlierIn log) (log .count) (placesOf log) [] o
-          (count b M log good) (explains-order b M log good o x);
+      found-first = found-first b M log good;
+      first-found = λ o x.
+          let f = found-by b M log good o (x .explains) in
+          f .1 .0 ∙ ap some (one-first b M log (f .0) o (found-first b M log good (f .0) (f .1 .0)) x);
+      none-explains = λ e o x. none-some e (found-by b M log good o x .1 .0);
     }

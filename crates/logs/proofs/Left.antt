@@ -9,7 +9,7 @@ use lib.Dec.{eqb}
 use Rattle.machine.specs.Choice.{if_then_else_, assign}
 use Rattle.machine.proofs.laws.Base.{no-both, is-false, below-suc, and-true, and-parts, assign-at, assign-other, assign-elim}
 use Rattle.logs.specs.Log.{all}
-use Rattle.logs.specs.Search.{leftOf}
+use Rattle.logs.specs.Search.{countLeft}
 
 -- ---- tests of all places
 
@@ -49,40 +49,40 @@ taken-both left i j = fun-ext (λ k. same k (eqb k i) (eqb k j))
 
 -- ---- how many are left
 
-pub left-same : (n : ℕ) (f g : ℕ → Bool) → ((i : ℕ) → i < n → f i ≡ g i) → leftOf n f ≡ leftOf n g
-unfolding leftOf
+pub left-same : (n : ℕ) (f g : ℕ → Bool) → ((i : ℕ) → i < n → f i ≡ g i) → countLeft n f ≡ countLeft n g
+unfolding countLeft
 left-same zero f g h = refl
 left-same (suc n) f g h = rw (h n (omega arith), left-same n f g (λ i l. h i (omega arith)))
 
 -- one less where one that is left is taken out
-pub left-less : (n : ℕ) (left : ℕ → Bool) (i : ℕ) → i < n → left i ≡ true → leftOf n left ≡ suc (leftOf n (assign left i false))
-unfolding leftOf if_then_else_
+pub left-less : (n : ℕ) (left : ℕ → Bool) (i : ℕ) → i < n → left i ≡ true → countLeft n left ≡ suc (countLeft n (assign left i false))
+unfolding countLeft if_then_else_
 left-less zero left i l e = absurd (omega arith)
 left-less (suc n) left i l e = by-cases (ℕ-discrete i n) here (λ z. there z (left n) refl (left-less n left i (omega arith) e))
   where
-    here : i ≡ n → leftOf (suc n) left ≡ suc (leftOf (suc n) (assign left i false))
+    here : i ≡ n → countLeft (suc n) left ≡ suc (countLeft (suc n) (assign left i false))
     here z =
         let same = left-same n (assign left i false) left (λ j k. assign-other left i false j (omega arith)) in
         rw (ap left (sym z) ∙ e, assign-at left i false n (sym z), same)
 
     there :
-        i ≢ n → (b : Bool) → left n ≡ b → leftOf n left ≡ suc (leftOf n (assign left i false))
-        → leftOf (suc n) left ≡ suc (leftOf (suc n) (assign left i false))
+        i ≢ n → (b : Bool) → left n ≡ b → countLeft n left ≡ suc (countLeft n (assign left i false))
+        → countLeft (suc n) left ≡ suc (countLeft (suc n) (assign left i false))
     there z true f ih = rw (assign-other left i false n (λ x. z (sym x)), f, ih)
     there z false f ih = rw (assign-other left i false n (λ x. z (sym x)), f, ih)
 
-pub none-left : (n : ℕ) (left : ℕ → Bool) → leftOf n left ≡ 0 → (i : ℕ) → i < n → left i ≡ false
+pub none-left : (n : ℕ) (left : ℕ → Bool) → countLeft n left ≡ 0 → (i : ℕ) → i < n → left i ≡ false
 none-left n left z i l = is-false (left i) (λ e. let k = left-less n left i l e in omega arith)
 
-pub all-taken : (n : ℕ) (left : ℕ → Bool) → ((i : ℕ) → i < n → left i ≡ false) → leftOf n left ≡ 0
-unfolding leftOf if_then_else_
+pub all-taken : (n : ℕ) (left : ℕ → Bool) → ((i : ℕ) → i < n → left i ≡ false) → countLeft n left ≡ 0
+unfolding countLeft if_then_else_
 all-taken zero left h = refl
 all-taken (suc n) left h = rw (h n (omega arith)) (all-taken n left (λ i l. h i (omega arith)))
 
 -- exactly the first c of n
 pub left-below : (n c : ℕ) (left : ℕ → Bool) → c ≤ n → ((i : ℕ) → i < c → left i ≡ true) → ((i : ℕ) → c ≤ i → i < n → left i ≡ false)
-    → leftOf n left ≡ c
-unfolding leftOf if_then_else_
+    → countLeft n left ≡ c
+unfolding countLeft if_then_else_
 left-below zero c left l h k = omega arith
 left-below (suc n) c left l h k =
     by-cases (decLt n c)

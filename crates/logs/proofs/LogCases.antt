@@ -1,6 +1,11 @@
--- Small logs with the orders that the search finds for them, each proved by computing it. Rests on the definitions.
-use Prim.Native.Nat.{ℕ, _+_}
+-- Small logs with the orders that the search finds for them, each proved by computing it. Rests on the definitions, and for the first of
+-- two orders on Explained.
+use Prim.Native.Nat.{ℕ, _+_, _<_}
+use native.Mathlib.Omega.{arith}
+use native.Mathlib.Decide.{ℕ-discrete}
 use mathlib.Core.Path.{_≡_, refl}
+use mathlib.Core.Logic.{_≢_, inl, inr, ⊎-elim, by-cases}
+use mathlib.Core.Bool.{true}
 use mathlib.Core.List.{List, [], _∷_}
 use mathlib.Core.Option.{none, some}
 use lib.IntN.{ℤ, pos}
@@ -9,15 +14,16 @@ use Rattle.interface.specs.Numbers.{kindInsert, kindLookup, answerNumber, answe
 use Rattle.interface.specs.declared.Answer.the-variants.{Added, Found, None, Crowded}
 use Rattle.machine.specs.Computing.{computing}
 use Rattle.report.specs.Report.{answerBase}
-use Rattle.logs.specs.Log.{Logged, Log, all, precedes}
-use Rattle.logs.specs.Orders.{equalZ, sameTotal, gives, afterGiving, servedIf, servedAt}
+use Rattle.logs.specs.Log.{Logged, Log, all, isOperation, apart, precedes, inTurn, isLog}
+use Rattle.logs.specs.Orders.{equalZ, sameTotal, gives, afterGiving, servedIf, servedAt, EachOnce, Explains}
 use Rattle.logs.specs.Search.{starting, orElse, ready, begun, opened, tries, search}
-use Rattle.logs.specs.Judging.{earlierIn, placesOf, orderOf}
+use Rattle.logs.specs.Judging.{earlierIn, placesOf, orderOf, First}
+use Rattle.logs.proofs.Explained.{all-first}
 
 -- A marker: a declaration that says `unfolding judging` computes the search over a log.
 unfoldable pub judging : Unit {0}
-unfolding computing answerTotal all precedes equalZ sameTotal gives afterGiving servedIf servedAt starting orElse ready begun opened tries
-    search earlierIn placesOf orderOf
+unfolding computing answerTotal all isOperation apart precedes inTurn isLog equalZ sameTotal gives afterGiving servedIf servedAt starting
+    orElse ready begun opened tries search earlierIn placesOf orderOf
 judging = tt
 
 -- ---- logs written down: worker, account, total, answer, and the positions of call and answer
@@ -89,3 +95,38 @@ pub crowded-last :
     ≡ some (1 ∷ 2 ∷ 0 ∷ [])
 unfolding judging
 crowded-last = refl
+
+-- ---- the first of two: lookups that overlap, both of which find nothing
+
+abbrev twoLookups : Log
+twoLookups = logged (lookup 0 7 missing (pos 0) 0 2 ∷ lookup 1 7 missing (pos 0) 1 3 ∷ [])
+
+pub first-of-two : orderOf 4 2 twoLookups ≡ some (0 ∷ 1 ∷ [])
+unfolding judging
+first-of-two = refl
+
+each-once : (i j : ℕ) → i < 2 → j < 2 → i ≢ j → EachOnce 2 (i ∷ j ∷ [])
+each-once i j l k d =
+    record {
+      distinct = (⊎-elim d (λ m. m), ((λ m. m), tt));
+      places = λ x. ⊎-elim (λ e. omega arith) (⊎-elim (λ e. omega arith) (λ m. absurd m));
+      all-places = λ x m. by-cases (ℕ-discrete x i) inl (λ e. inr (inl (omega arith)));
+    }
+
+-- the other order explains the log too, and is not the first
+pub other-explains : Explains 4 2 twoLookups (1 ∷ 0 ∷ [])
+unfolding judging
+other-explains =
+    record {
+      once = each-once 1 0 (omega arith) (omega arith) (λ e. omega arith);
+      in-time = ((λ j. ⊎-elim (λ e. rw e refl) (λ m. absurd m)), ((λ j m. absurd m), tt));
+      answers = ([], (refl, ([], (refl, tt))));
+    }
+
+pub other-not-first : First 4 2 twoLookups (1 ∷ 0 ∷ []) → ⊥
+unfolding judging
+other-not-first x =
+    let good : isLog twoLookups ≡ true = refl in
+    let e = all-first 4 2 twoLookups good .first-found (1 ∷ 0 ∷ []) x in
+    let z : _≡_ {A = ℕ} 1 0 = cc in
+    omega arith

@@ -1,4 +1,5 @@
--- The plain search: what it finds is an order of all that is left, and where there is one it finds one. Rests on Left.
+-- The plain search: what it finds is an order of all that is left, and where there is one it finds the first. Rests on Left and on
+-- ComparingLaws.
 use Prim.Native.Nat.{ℕ, zero, suc, _+_, _≤_, _<_}
 use native.Mathlib.Omega.{arith}
 use native.Mathlib.Decide.{ℕ-discrete}
@@ -6,13 +7,15 @@ use mathlib.Core.Path.{_≡_, refl, sym, ap, _∙_, subst}
 use mathlib.Core.Logic.{by-cases}
 use mathlib.Core.Bool.{Bool, true, false, not}
 use mathlib.Core.List.{List, [], _∷_}
-use mathlib.Core.Option.{Option, none, some}
+use mathlib.Core.Option.{Option, none, some, Option·some-injective}
 use lib.ListN.{length}
 use borrow.Author.Tests.{not-true}
 use Rattle.machine.specs.Choice.{_and_, assign}
 use Rattle.machine.proofs.laws.Base.{none-some, if-elim, if-true, and-true, and-parts, and-right}
-use Rattle.logs.specs.Search.{starting, orElse, leftOf, ready, Completes, begun, opened, tries, search}
+use Rattle.logs.specs.Search.{starting, orElse, countLeft, ready, Completes, begun, opened, tries, search}
+use Rattle.logs.specs.Comparing.{NotAfter}
 use Rattle.logs.proofs.Left.{all-at, all-of, left-less, none-left, all-taken}
+use Rattle.logs.proofs.ComparingLaws.{lower-first, same-first, nothing-first}
 
 not-and : (x y : Bool) → (x ≡ true → y ≡ false) → not (x and y) ≡ true
 unfolding _and_
@@ -68,21 +71,48 @@ module _ (T : Type 0) (n : ℕ) (fits : T → ℕ → Option T) (earlier : ℕ �
     unfolding begun starting
     begun-is i u o f e = rw (f, e)
 
-    -- one place that begins an order is enough
-    pub tries-found : (y : ℕ) (p : List ℕ) → Begun y ≡ some p → (k i : ℕ) → i ≤ y → y < i + k
-        → (q : List ℕ) × (tries T n fits earlier next left t k i ≡ some q)
+    begun-head : (i : ℕ) (q : List ℕ) → Begun i ≡ some q → (o : List ℕ) × (q ≡ i ∷ o)
+    unfolding begun starting
+    begun-head i q = on (opened T n fits earlier left t i)
+      where
+        rest : (v : Option (List ℕ)) → starting i v ≡ some q → (o : List ℕ) × (q ≡ i ∷ o)
+        rest none e = absurd (none-some refl e)
+        rest (some o) e = (o, cc)
+
+        on : (u : Option T) → begun T n fits earlier next left i u ≡ some q → (o : List ℕ) × (q ≡ i ∷ o)
+        on none e = absurd (none-some refl e)
+        on (some u) e = rest (next (assign left i false) u) e
+
+    -- the lowest place decides, where it begins an order
+    tries-here : (k i : ℕ) (q : List ℕ) → Begun i ≡ some q → tries T n fits earlier next left t (suc k) i ≡ some q
     unfolding tries orElse
-    tries-found y p e zero i a b = absurd (omega arith)
-    tries-found y p e (suc k) i a b = go (Begun i) refl (λ z. tries-found y p e k (suc i) (omega arith) (omega arith))
+    tries-here k i q w = rw w
+
+    tries-past : (k i : ℕ) → Begun i ≡ none → tries T n fits earlier next left t (suc k) i ≡ tries T n fits earlier next left t k (suc i)
+    unfolding tries orElse
+    tries-past k i w = rw w
+
+    -- one place that begins an order is enough; the order found is not after that one
+    pub tries-found : (y : ℕ) (p o : List ℕ) → Begun y ≡ some (y ∷ p) → NotAfter p o → (k i : ℕ) → i ≤ y → y < i + k
+        → (q : List ℕ) × ((tries T n fits earlier next left t k i ≡ some q) × NotAfter q (y ∷ o))
+    tries-found y p o e f zero i a b = absurd (omega arith)
+    tries-found y p o e f (suc k) i a b =
+        go (Begun i) refl (λ z. tries-found y p o e f k (suc i) (omega arith) (omega arith))
       where
         Result : ℕ → ℕ → Type 0
-        Result k i = (q : List ℕ) × (tries T n fits earlier next left t k i ≡ some q)
+        Result k i = (q : List ℕ) × ((tries T n fits earlier next left t k i ≡ some q) × NotAfter q (y ∷ o))
+
+        here : (q : List ℕ) → Begun i ≡ some q → NotAfter q (y ∷ o)
+        here q w =
+            by-cases (ℕ-discrete i y)
+            (λ z. subst (λ x. NotAfter x (y ∷ o)) (Option·some-injective (y ∷ p) q (sym e ∙ ap Begun (sym z) ∙ w)) (same-first y p o f))
+            (λ z. let h = begun-head i q w in rw (h .1) (lower-first i y (h .0) o (omega arith)))
 
         go : (v : Option (List ℕ)) → Begun i ≡ v → (suc i ≤ y → Result k (suc i)) → Result (suc k) i
-        go (some q) w later = (q, rw w)
+        go (some q) w later = (q, (tries-here k i q w, here q w))
         go none w later =
             by-cases (ℕ-discrete i y) (λ z. absurd (none-some w (ap Begun z ∙ e)))
-            (λ z. let r = later (omega arith) in (r .0, rw w (r .1)))
+            (λ z. let r = later (omega arith) in (r .0, (tries-past k i w ∙ r .1 .0, r .1 .1)))
 
     module _
         (good : (i : ℕ) (u : T) (o : List ℕ) → i < n → left i ≡ true → next (assign left i false) u ≡ some o
@@ -114,7 +144,7 @@ module _ (T : Type 0) (n : ℕ) (fits : T → ℕ → Option T) (earlier : ℕ �
 
   -- ---- the whole search, with m left
 
-  pub sound-at : (m : ℕ) (left : ℕ → Bool) (t : T) (p : List ℕ) → leftOf n left ≡ m → search T n fits earlier m left t ≡ some p
+  pub sound-at : (m : ℕ) (left : ℕ → Bool) (t : T) (p : List ℕ) → countLeft n left ≡ m → search T n fits earlier m left t ≡ some p
       → Order left t p
   unfolding search
   sound-at zero left t p z e = let h : [] ≡ p = cc in subst (Order left t) h (none-left n left z)
@@ -122,22 +152,22 @@ module _ (T : Type 0) (n : ℕ) (fits : T → ℕ → Option T) (earlier : ℕ �
       tries-order (search T n fits earlier m) left t
       (λ i u o l f. sound-at m (assign left i false) u o (let k = left-less n left i l f in omega arith)) n 0 (omega arith) p e
 
-  pub complete-at : (m : ℕ) (left : ℕ → Bool) (t : T) (o : List ℕ) → leftOf n left ≡ m → Order left t o
-      → (p : List ℕ) × (search T n fits earlier m left t ≡ some p)
+  pub first-at : (m : ℕ) (left : ℕ → Bool) (t : T) (o : List ℕ) → countLeft n left ≡ m → Order left t o
+      → (p : List ℕ) × ((search T n fits earlier m left t ≡ some p) × NotAfter p o)
   unfolding search
-  complete-at zero left t o z h = ([], refl)
-  complete-at (suc m) left t [] z h = let k = all-taken n left h in absurd (omega arith)
-  complete-at (suc m) left t (y ∷ o) z h =
+  first-at zero left t o z h = ([], (refl, nothing-first o))
+  first-at (suc m) left t [] z h = let k = all-taken n left h in absurd (omega arith)
+  first-at (suc m) left t (y ∷ o) z h =
       let u = h .1 .1 .1 .0 in
       let l = h .0 in
       let k = left-less n left y l (h .1 .0) in
-      let c = complete-at m (assign left y false) u o (omega arith) (h .1 .1 .1 .1 .1) in
+      let c = first-at m (assign left y false) u o (omega arith) (h .1 .1 .1 .1 .1) in
       let f = opened-is left t y u (h .1 .0) (h .1 .1 .0) (h .1 .1 .1 .1 .0) in
-      tries-found (search T n fits earlier m) left t y (y ∷ c .0)
-      (begun-is (search T n fits earlier m) left t y u (c .0) f (c .1)) n 0 (omega arith) (omega arith)
+      tries-found (search T n fits earlier m) left t y (c .0) o
+      (begun-is (search T n fits earlier m) left t y u (c .0) f (c .1 .0)) (c .1 .1) n 0 (omega arith) (omega arith)
 
   -- an order has as many places as are left
-  pub order-length : (left : ℕ → Bool) (t : T) (o : List ℕ) → Order left t o → length o ≡ leftOf n left
+  pub order-length : (left : ℕ → Bool) (t : T) (o : List ℕ) → Order left t o → length o ≡ countLeft n left
   order-length left t [] h = sym (all-taken n left h)
   order-length left t (i ∷ o) h =
       let e = order-length (assign left i false) (h .1 .1 .1 .0) o (h .1 .1 .1 .1 .1) in

@@ -1,6 +1,6 @@
 -- The search for an order of what is left of a log, lowest place first, over any table; and the same search with two
 -- cuts. 01, Where each form goes: "Recursive search over remaining logged operations, the number remaining falling,
--- trying lowest place first". Rests on the test of all numbers below one, specs/Log.
+-- trying lowest place first". Rests on the test of all numbers below one, specs/Log, and on specs/Comparing.
 use Prim.Native.Nat.{ℕ, zero, suc, _<_}
 use mathlib.Core.Path.{_≡_}
 use mathlib.Core.Bool.{Bool, true, false, not}
@@ -9,6 +9,7 @@ use mathlib.Core.Option.{Option, none, some}
 use lib.Dec.{ltb}
 use Rattle.machine.specs.Choice.{if_then_else_, _and_, assign}
 use Rattle.logs.specs.Log.{all}
+use Rattle.logs.specs.Comparing.{NotAfter}
 
 -- an order found, with i before it
 unfoldable pub starting : ℕ → Option (List ℕ) → Option (List ℕ)
@@ -21,9 +22,9 @@ orElse none later = later
 orElse (some o) later = some o
 
 -- how many of the first n are left
-unfoldable pub leftOf : ℕ → (ℕ → Bool) → ℕ
-leftOf zero left = 0
-leftOf (suc n) left = if left n then suc (leftOf n left) else leftOf n left
+unfoldable pub countLeft : ℕ → (ℕ → Bool) → ℕ
+countLeft zero left = 0
+countLeft (suc n) left = if left n then suc (countLeft n left) else countLeft n left
 
 -- Places are below n; `fits` is the table after the operation at a place, where the table gives its answer; `earlier`
 -- says that an operation was answered before another's call.
@@ -110,20 +111,31 @@ module _ (T : Type 0) (n : ℕ) (fits : T → ℕ → Option T) (earlier : ℕ �
 
 -- ---- what is proved of them
 
-pub record SearchLaws (T : Type 0) (n : ℕ) (fits : T → ℕ → Option T) (earlier : ℕ → ℕ → Bool) : Type 0 where
-  -- what the search finds is an order of all that is left
+-- `find` finds the first order of all that is left, and an order wherever there is one
+pub record FindsFirst (T : Type 0) (n : ℕ) (fits : T → ℕ → Option T) (earlier : ℕ → ℕ → Bool)
+    (find : (ℕ → Bool) → T → Option (List ℕ)) : Type 0 where
   pub sound :
-      (left : ℕ → Bool) (t : T) (o : List ℕ) → search T n fits earlier (leftOf n left) left t ≡ some o
-      → Completes T n fits earlier left t o
-  -- where there is such an order, the search finds one
-  pub complete :
+      (left : ℕ → Bool) (t : T) (o : List ℕ) → find left t ≡ some o → Completes T n fits earlier left t o
+  pub first :
       (left : ℕ → Bool) (t : T) (o : List ℕ) → Completes T n fits earlier left t o
-      → (p : List ℕ) × (search T n fits earlier (leftOf n left) left t ≡ some p)
-  -- both cuts leave the search as it is
+      → (p : List ℕ) × ((find left t ≡ some p) × NotAfter p o)
+
+-- both cuts leave the search as it is, and so the order that it finds is the first
+pub record CutLaws (T : Type 0) (n : ℕ) (fits : T → ℕ → Option T) (earlier : ℕ → ℕ → Bool) (still : ℕ → Bool)
+    (same : T → T → Bool) : Type 0 where
+  pub as-plain :
+      (left : ℕ → Bool) (t₀ t : T)
+      → cutSearch T n fits earlier still same (countLeft n left) t₀ 0 left t
+      ≡ search T n fits earlier (countLeft n left) left t
+  pub finds-first :
+      (t₀ : T)
+      → FindsFirst T n fits earlier (λ left. cutSearch T n fits earlier still same (countLeft n left) t₀ 0 left)
+
+-- Where `still` holds of no place, only cut 1 is taken, and where `same` holds of no tables, only cut 2.
+pub record SearchLaws (T : Type 0) (n : ℕ) (fits : T → ℕ → Option T) (earlier : ℕ → ℕ → Bool) : Type 0 where
+  pub plain : FindsFirst T n fits earlier (λ left. search T n fits earlier (countLeft n left) left)
   pub cuts :
       (still : ℕ → Bool) (same : T → T → Bool)
       → ((i : ℕ) (t t′ : T) → still i ≡ true → fits t i ≡ some t′ → t′ ≡ t)
       → ((t t′ : T) → same t t′ ≡ true → t ≡ t′)
-      → (left : ℕ → Bool) (t₀ t : T)
-      → cutSearch T n fits earlier still same (leftOf n left) t₀ 0 left t
-      ≡ search T n fits earlier (leftOf n left) left t
+      → CutLaws T n fits earlier still same

@@ -1,6 +1,7 @@
 -- Demand 1 for the judgement of a log, over any words for it and any list for the order, and the same for the C
 -- function. Rests on the contract of the judgement.
 use Prim.Native.Nat.{ℕ}
+use mathlib.Core.Path.{_≡_}
 use mathlib.Core.Bool.{not}
 use mathlib.Core.List.{List, [], _∷_}
 use lib.Dec.{ltb}
@@ -9,8 +10,9 @@ use Rattle.interface.specs.Limits.{leastWorkers}
 use Rattle.interface.specs.declared.Refusal.{Refusal}
 use Rattle.interface.specs.declared.Verdict.{Verdict}
 use Rattle.logs.specs.Log.{areLog, countOf}
-use Rattle.logs.specs.Judging.{Judged}
-use Rattle.capi.specs.Flat.{CheckedLog}
+use Rattle.logs.specs.Judging.{checkLogWords}
+use Rattle.numbers.specs.Returned.{verdictNumber}
+use Rattle.capi.specs.Flat.{flat}
 use Rattle.refusals.specs.Checks.{Check, check1}
 use Rattle.refusals.specs.Demand1.{RefusedBy, RefusedInC, KeptPast}
 
@@ -28,13 +30,13 @@ logChecks l b M order = check1 leastWorkers b M ∷ check14 l ∷ logCheck10 l o
 
 pub record Demand1OnLogs : Type 0 where
   pub judged :
-      (l : List ℕ) (b M : ℕ) (before after : List ℕ) (v : Verdict) → Judged l b M before after v
-      → RefusedBy Verdict.Refused (logChecks l b M before) before (after, v)
+      (l : List ℕ) (b M : ℕ) (order : List ℕ)
+      → RefusedBy Verdict.Refused (logChecks l b M order) order (checkLogWords l b M order)
   -- nothing is written past the places of the log
   pub past :
-      (l : List ℕ) (b M : ℕ) (before after : List ℕ) → Judged l b M before after Verdict.Accepted
-      → KeptPast (countOf l) before after
+      (l : List ℕ) (b M : ℕ) (order : List ℕ) → checkLogWords l b M order .1 ≡ Verdict.Accepted
+      → KeptPast (countOf l) order (checkLogWords l b M order .0)
   -- the C function: the same checks
   pub judged-in-c :
-      (l : List ℕ) (b M : ℕ) (before after : List ℕ) (k : ℕ) → CheckedLog l b M before after k
-      → RefusedInC (logChecks l b M before) before (after, k)
+      (l : List ℕ) (b M : ℕ) (order : List ℕ)
+      → RefusedInC (logChecks l b M order) order (flat verdictNumber (checkLogWords l b M order))

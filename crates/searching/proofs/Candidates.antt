@@ -12,9 +12,10 @@ use Rattle.machine.specs.Choice.{if_then_else_, _and_}
 use Rattle.logs.specs.Log.{logOf, loggedAt, wordAt, loggedCall, loggedEnd, precedes, greatestOperations, greatestWord}
 use Rattle.logs.specs.Judging.{earlierIn}
 use Rattle.logs.specs.Search.{opened, isSame, exchangedFrom, exchanged, unlessExchanged, candidate}
+use Rattle.logs.specs.Same.{sameNumbers}
 use Rattle.replay.specs.declared.Replayed.{Replayed}
 use Rattle.replay.specs.Replay.{replayed, asReplayed, stillAt}
-use Rattle.searching.specs.Searching.{isLeft, leastEnd, sameWords, exchangedIn, attemptIn, candidateIn}
+use Rattle.searching.specs.Searching.{isLeft, leastEnd, exchangedIn, attemptIn, candidateIn}
 use Rattle.searching.proofs.Fits.{fits-some, fits-none}
 use Rattle.searching.proofs.Ends.{in-time-ready}
 
@@ -29,7 +30,7 @@ module _ (l : List ℕ) (b M : ℕ) (before : List ℕ) (last : ℕ) (after : Li
   module _ (h : v ≤ u) (sooner : Replayed) (first : sooner ≡ asReplayed before (replayed l b M before i)) where
     tested :
         exchangedIn l b M before last after i
-        ≡ exchangedFrom (List ℕ) greatestOperations (replayed l b M) (earlierIn (logOf l)) (stillAt l) sameWords last after
+        ≡ exchangedFrom (List ℕ) greatestOperations (replayed l b M) (earlierIn (logOf l)) (stillAt l) sameNumbers last after
         (replayed l b M before i)
     unfolding exchanged earlierIn precedes logOf loggedAt _and_
     tested = rw (← end, ← call, le-ltb u v h)
@@ -42,7 +43,7 @@ module _ (l : List ℕ) (b M : ℕ) (before : List ℕ) (last : ℕ) (after : Li
         (second : later ≡ asReplayed (sooner .balances) (replayed l b M (sooner .balances) last)) where
       compared :
           exchangedIn l b M before last after i
-          ≡ isSame (List ℕ) greatestOperations (replayed l b M) (earlierIn (logOf l)) (stillAt l) sameWords after
+          ≡ isSame (List ℕ) greatestOperations (replayed l b M) (earlierIn (logOf l)) (stillAt l) sameNumbers after
           (replayed l b M (sooner .balances) last)
       unfolding exchangedFrom
       compared = tested ∙ rw (fits-some before _ sooner first fit)
@@ -51,7 +52,7 @@ module _ (l : List ℕ) (b M : ℕ) (before : List ℕ) (last : ℕ) (after : Li
       unfolding isSame
       exchange-unfit-later f = sym (compared ∙ rw (fits-none _ _ later second f))
 
-      pub exchange-same : later .fits ≡ true → sameWords after (later .balances) ≡ exchangedIn l b M before last after i
+      pub exchange-same : later .fits ≡ true → sameNumbers after (later .balances) ≡ exchangedIn l b M before last after i
       unfolding isSame
       exchange-same f = sym (compared ∙ rw (fits-some _ _ later second f))
 
@@ -59,7 +60,7 @@ module _ (l : List ℕ) (b M : ℕ) (before : List ℕ) (last : ℕ) (after : Li
 
 module _ (l : List ℕ) (b M : ℕ) (before : List ℕ) (last : ℕ) (x : List ℕ) (i : ℕ) where
   abbrev unless : Option (List ℕ) → Option (List ℕ)
-  unless = unlessExchanged (List ℕ) greatestOperations (replayed l b M) (earlierIn (logOf l)) (stillAt l) sameWords before last i
+  unless = unlessExchanged (List ℕ) greatestOperations (replayed l b M) (earlierIn (logOf l)) (stillAt l) sameNumbers before last i
 
   module _ (next : Replayed) (first : next ≡ asReplayed x (replayed l b M x i)) where
     pub attempt-unfit : next .fits ≡ false → next ≡ asReplayed x (attemptIn l b M before last x i)

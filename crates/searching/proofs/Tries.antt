@@ -1,8 +1,7 @@
 -- Laws of the search at one node, as the source's loop goes through the places: what each turn comes to, by what it was
 -- told of the operation tried and of what is left without it. Rests on the definitions of the search with cuts.
-use Prim.Native.Nat.{ℕ, zero, suc, _+_, _-_, _≤_, _<_}
+use Prim.Native.Nat.{ℕ, zero, suc, _-_, _≤_, _<_}
 use native.Mathlib.Omega.{arith}
-use native.Mathlib.Numerals.{add-one}
 use mathlib.Core.Path.{_≡_, refl, ap, _∙_, fun-ext}
 use mathlib.Core.Bool.{Bool, true, false}
 use mathlib.Core.List.{List, [], _∷_}
@@ -15,9 +14,10 @@ use Rattle.machine.proofs.laws.Base.{assign-elim}
 use Rattle.logs.specs.Log.{logOf, greatestOperations}
 use Rattle.logs.specs.Judging.{earlierIn}
 use Rattle.logs.specs.Search.{cutSearch, cutTries, cutBegun, unlessStill}
+use Rattle.logs.specs.Same.{sameNumbers}
 use Rattle.replay.specs.declared.Replayed.{Replayed}
 use Rattle.replay.specs.Replay.{replayed, stillAt, asReplayed}
-use Rattle.searching.specs.Searching.{isLeft, sameWords, candidateIn, searchIn}
+use Rattle.searching.specs.Searching.{isLeft, candidateIn, searchIn}
 use Rattle.searching.proofs.Fits.{fits-some, fits-none}
 
 -- ---- what is left
@@ -38,7 +38,7 @@ left-without left i =
 -- k places from i on, where m are left besides the one tried
 abbrev pub triesIn : List ℕ → ℕ → ℕ → ℕ → List ℕ → ℕ → List ℕ → List ℕ → ℕ → ℕ → Option (List ℕ)
 triesIn l b M m before last left =
-    cutTries (List ℕ) greatestOperations (replayed l b M) (earlierIn (logOf l)) (stillAt l) sameWords (searchIn l b M m) before last
+    cutTries (List ℕ) greatestOperations (replayed l b M) (earlierIn (logOf l)) (stillAt l) sameNumbers (searchIn l b M m) before last
     (isLeft left)
 
 module _ (l : List ℕ) (b M : ℕ) (before : List ℕ) (last : ℕ) (left x : List ℕ) where
@@ -47,52 +47,59 @@ module _ (l : List ℕ) (b M : ℕ) (before : List ℕ) (last : ℕ) (left x : L
   unfolding cutSearch
   tries-start m h = let e : m ≡ suc (m - 1) = omega arith in ap (λ (n : ℕ). searchIn l b M n before last (isLeft left) x) e
 
-  pub tries-end : (m i : ℕ) → 12 ≤ i → triesIn l b M m before last left x (12 - i) i ≡ none
+  pub tries-end : (m k : ℕ) → k ≤ 0 → triesIn l b M m before last left x k (12 - k) ≡ none
   unfolding cutTries
-  tries-end m i h = let e : 12 - i ≡ 0 = omega arith in rw e
+  tries-end m k h = let e : k ≡ 0 = omega arith in rw e
 
-  pub tries-closed : (m i : ℕ) → i < 12 → candidateIn l b M before last (isLeft left) x i ≡ none
-      → triesIn l b M m before last left x (12 - i) i ≡ triesIn l b M m before last left x (12 - (i + 1)) (i + 1)
-  unfolding cutTries cutBegun
-  tries-closed m i below f = let e : 12 - i ≡ suc (12 - (i + 1)) = omega arith in rw (e, add-one, f)
+  -- k places are not tried yet
+  module _ (m k : ℕ) (more : 0 < k) (most : k ≤ 12) where
+    -- the place to try next; it and those after it; those after it
+    abbrev i : ℕ
+    i = 12 - k
 
-  module _ (m i : ℕ) (below : i < 12) (next : Replayed)
-      (tried : next ≡ asReplayed x (candidateIn l b M before last (isLeft left) x i)) where
-    -- this place and those after it, those after it, and what is left without it
     abbrev here : Option (List ℕ)
-    here = triesIn l b M m before last left x (12 - i) i
+    here = triesIn l b M m before last left x k i
 
     abbrev later : Option (List ℕ)
-    later = triesIn l b M m before last left x (12 - (i + 1)) (i + 1)
-
-    abbrev child : Option (List ℕ)
-    child = searchIn l b M m x i (isLeft (set left i 0)) (next .balances)
+    later = triesIn l b M m before last left x (k - 1) (12 - (k - 1))
 
     turn :
         here
-        ≡ cutBegun (List ℕ) greatestOperations (replayed l b M) (earlierIn (logOf l)) (stillAt l) sameWords (searchIn l b M m)
+        ≡ cutBegun (List ℕ) greatestOperations (replayed l b M) (earlierIn (logOf l)) (stillAt l) sameNumbers (searchIn l b M m)
         (isLeft left) x i (candidateIn l b M before last (isLeft left) x i) later
     unfolding cutTries
-    turn = let e : 12 - i ≡ suc (12 - (i + 1)) = omega arith in rw (e, add-one)
+    turn =
+        let e : k ≡ suc (k - 1) = omega arith in
+        let next : 12 - (k - 1) ≡ suc i = omega arith in
+        rw next (ap (λ (n : ℕ). triesIn l b M m before last left x n i) e)
 
-    pub tries-none : next .fits ≡ false → here ≡ later
+    pub tries-closed : candidateIn l b M before last (isLeft left) x i ≡ none → here ≡ later
     unfolding cutBegun
-    tries-none f = turn ∙ rw (fits-none x _ next tried f)
+    tries-closed f = turn ∙ rw f
 
-    module _ (fit : next .fits ≡ true) where
-      turn-fits :
-          here ≡ unlessStill (List ℕ) greatestOperations (replayed l b M) (earlierIn (logOf l)) (stillAt l) sameWords i child later
+    module _ (next : Replayed) (tried : next ≡ asReplayed x (candidateIn l b M before last (isLeft left) x i)) where
+      -- what is left without the place
+      abbrev child : Option (List ℕ)
+      child = searchIn l b M m x i (isLeft (set left i 0)) (next .balances)
+
+      pub tries-none : next .fits ≡ false → here ≡ later
       unfolding cutBegun
-      turn-fits = turn ∙ rw (fits-some x _ next tried fit, left-without left i)
+      tries-none f = turn ∙ rw (fits-none x _ next tried f)
 
-      pub tries-found : (o : List ℕ) → child ≡ some o → here ≡ some (i ∷ o)
-      unfolding unlessStill
-      tries-found o e = turn-fits ∙ rw e
+      module _ (fit : next .fits ≡ true) where
+        turn-fits :
+            here ≡ unlessStill (List ℕ) greatestOperations (replayed l b M) (earlierIn (logOf l)) (stillAt l) sameNumbers i child later
+        unfolding cutBegun
+        turn-fits = turn ∙ rw (fits-some x _ next tried fit, left-without left i)
 
-      pub tries-still : child ≡ none → stillAt l i ≡ true → here ≡ none
-      unfolding unlessStill if_then_else_
-      tries-still e s = turn-fits ∙ rw (e, s)
+        pub tries-found : (o : List ℕ) → child ≡ some o → here ≡ some (i ∷ o)
+        unfolding unlessStill
+        tries-found o e = turn-fits ∙ rw e
 
-      pub tries-on : child ≡ none → stillAt l i ≡ false → here ≡ later
-      unfolding unlessStill if_then_else_
-      tries-on e s = turn-fits ∙ rw (e, s)
+        pub tries-still : child ≡ none → stillAt l i ≡ true → here ≡ none
+        unfolding unlessStill if_then_else_
+        tries-still e s = turn-fits ∙ rw (e, s)
+
+        pub tries-on : child ≡ none → stillAt l i ≡ false → here ≡ later
+        unfolding unlessStill if_then_else_
+        tries-on e s = turn-fits ∙ rw (e, s)

@@ -7,8 +7,9 @@ ghost use Prim.Native.Nat.{_*_, _≤_, _<_};
 ghost use lib.ListN.{length};
 ghost use Rattle.machine.specs.Choice.{_and_};
 ghost use Rattle.logs.specs.Log.{operationWords, greatestOperations, wordAt, loggedCall, greatestWord};
+ghost use Rattle.logs.specs.Same.{sameNumbers};
 ghost use Rattle.replay.specs.Replay.{asReplayed, stillAt};
-ghost use Rattle.searching.specs.Searching.{isLeft, leastEnd, sameWords, exchangedIn, attemptIn};
+ghost use Rattle.searching.specs.Searching.{isLeft, leastEnd, exchangedIn, attemptIn};
 ghost use Rattle.searching.specs.Searching.{searchIn, writtenIn, isFound};
 use interface::ANSWER_ABSENT;
 use interface::ANSWER_CROWDED;
@@ -68,7 +69,7 @@ fn still(log: &[u64], i: usize) -> bool
 
 // Whether the words are the same.
 fn same(x: [u64; BALANCES], y: [u64; BALANCES]) -> bool
-    ensures { λ r. ⌜ r ≡ sameWords x y ⌝ }
+    ensures { λ r. ⌜ r ≡ sameNumbers x y ⌝ }
 {
     let mut k: usize = 0;
     while k < BALANCES {
@@ -187,8 +188,9 @@ pub fn search(
         return true;
     }
     let limit = least_end(log, left);
-    let mut i: usize = 0;
-    while i < GREATEST_OPERATIONS {
+    let mut untried = GREATEST_OPERATIONS;
+    while 0 < untried {
+        let i = GREATEST_OPERATIONS - untried;
         if is_open(log, left[i], limit, i) {
             let next = attempt(log, capacity, depth, before, last, balances, i);
             if next.fits {
@@ -206,7 +208,7 @@ pub fn search(
                 }
             }
         }
-        i += 1;
+        untried -= 1;
     }
     false
 }

@@ -7,10 +7,10 @@ use Rattle.judge.proofs.end.Statement.{statement}
 use Rattle.judge.proofs.end.Tie as tie
 
 array-share-prefix-out : tie.Need-array-share-prefix-out
-array-share-prefix-out c = c .before .conclude .ensures .within
+array-share-prefix-out c = c .before .conclude .ensures .1
 
 slice-aggregate-write-all : tie.Need-slice-aggregate-write-all
-slice-aggregate-write-all c = sym (length-take-le _ _ (c .before .before .conclude .ensures .within))
+slice-aggregate-write-all c = sym (length-take-le _ _ (c .before .before .conclude .ensures .1))
 
 pub end-spec : {M : Type 1} → statement M
 end-spec =

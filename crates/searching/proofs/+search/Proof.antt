@@ -1,5 +1,5 @@
 -- The proof of the cycle of calls {search}. The measure is what remains. The loop's invariant: the list for the order is
--- as it was, and the places from i on decide. Rests on the laws of one turn, and of the list of which a part is lent.
+-- as it was, and the untried places decide. Rests on the laws of one turn, and of the list of which a part is lent.
 use Prim.Native.Nat.{ℕ, _-_, _≤_, _<_}
 use native.Mathlib.Omega.{arith}
 use mathlib.Core.Path.{_≡_, refl, sym, ap, _∙_}
@@ -31,13 +31,13 @@ abbrev μ-search : Measures 2 kinds.ps ℕ
 μ-search κs a = a .1 .1 .1 .1 .1 .1 .1 .1 .0
 
 abbrev Inv-loop : lts.InvT-loop
-Inv-loop log capacity depth before last balances order₀ remaining left limit i₀ order i =
-    (i ≤ 12) × ((order ≡ order₀)
+Inv-loop log capacity depth before last balances order₀ remaining left limit untried₀ order untried =
+    (untried ≤ 12) × ((order ≡ order₀)
     × (searchIn log capacity depth remaining before last (isLeft left) balances
-    ≡ triesIn log capacity depth (remaining - 1) before last left balances (12 - i) i))
+    ≡ triesIn log capacity depth (remaining - 1) before last left balances untried (12 - untried)))
 
 abbrev μ-loop : lts.MeasureT-loop
-μ-loop log capacity depth before last balances order₀ remaining left limit i₀ order i = 12 - i
+μ-loop log capacity depth before last balances order₀ remaining left limit untried₀ order untried = untried
 
 module _ (t : ℕ) where
   -- what `search` is given at the measure t, and what the functions that it calls ask and tell, itself below t
@@ -130,7 +130,8 @@ module _ (t : ℕ) where
       found-written (places s) (part s) _ _ (s .search .ensures .0) (s .search .ensures .1) (first s) _ _ (c .if4 .taken)
       (λ o f.
       at-loop .loop .inv .1 .1
-      ∙ tries-found _ _ _ _ _ _ _ _ _ (opened .before .loop-test .taken) (tried .attempt .result) e (fits .if3 .taken) o f)
+      ∙ tries-found _ _ _ _ _ _ _ _ _ (opened .before .loop-test .taken) (at-loop .loop .inv .0) (tried .attempt .result) e
+      (fits .if3 .taken) o f)
       _ (at-loop .loop .inv .1 .0)
 
   same-length-2 : lts.Need-same-length-2 calls given reads.Post Inv-loop μ-loop
@@ -153,14 +154,15 @@ module _ (t : ℕ) where
       (opened .is-open .ensures .0) (tried .before .if2 .taken) in
       none-found _ _ _ (places-kept s missed ∙ at-loop .loop .inv .1 .0)
       (at-loop .loop .inv .1 .1
-      ∙ tries-still _ _ _ _ _ _ _ _ _ (opened .before .loop-test .taken) (tried .attempt .result) e (fits .if3 .taken)
-      (child-none _ _ (s .search .ensures .0) missed) (sym (c .before .still .ensures) ∙ c .if5 .taken))
+      ∙ tries-still _ _ _ _ _ _ _ _ _ (opened .before .loop-test .taken) (at-loop .loop .inv .0) (tried .attempt .result) e
+      (fits .if3 .taken) (child-none _ _ (s .search .ensures .0) missed) (sym (c .before .still .ensures) ∙ c .if5 .taken))
 
   loop-again : lts.Need-loop-again calls given reads.Post Inv-loop μ-loop
   loop-again c =
       let opened = c .before in
       let at-loop = opened .before .before in
-      let below = opened .before .loop-test .taken in
+      let more = opened .before .loop-test .taken in
+      let most = at-loop .loop .inv .0 in
       ⊎-elim
       (λ g.
       let s : After = record {
@@ -177,7 +179,7 @@ module _ (t : ℕ) where
         (
           g .11 ∙ places-kept s (g .8 .left) ∙ at-loop .loop .inv .1 .0,
           at-loop .loop .inv .1 .1
-              ∙ tries-on _ _ _ _ _ _ _ _ _ below (g .1 .result) (g .1 .ensures
+              ∙ tries-on _ _ _ _ _ _ _ _ _ more most (g .1 .result) (g .1 .ensures
               ∙ candidate-open _ _ _ _ _ _ _ _ _ (at-loop .before .least-end .ensures) (opened .is-open .ensures .1) _
               (opened .is-open .ensures .0) (g .0 .taken)) (g .2 .taken)
               (child-none _ _ (g .5 .ensures .0) (g .8 .left)) (sym (g .9 .ensures) ∙ g .10 .left),
@@ -188,7 +190,7 @@ module _ (t : ℕ) where
         search needs,
         (
           g .3 ∙ at-loop .loop .inv .1 .0,
-          at-loop .loop .inv .1 .1 ∙ tries-none _ _ _ _ _ _ _ _ _ below (g .1 .result) (g .1 .ensures
+          at-loop .loop .inv .1 .1 ∙ tries-none _ _ _ _ _ _ _ _ _ more most (g .1 .result) (g .1 .ensures
               ∙ candidate-open _ _ _ _ _ _ _ _ _ (at-loop .before .least-end .ensures) (opened .is-open .ensures .1) _
               (opened .is-open .ensures .0) (g .0 .taken)) (g .2 .left),
         ),
@@ -198,7 +200,7 @@ module _ (t : ℕ) where
         (
           g .1 ∙ at-loop .loop .inv .1 .0,
           at-loop .loop .inv .1 .1
-              ∙ tries-closed _ _ _ _ _ _ _ _ _ below
+              ∙ tries-closed _ _ _ _ _ _ _ _ _ more most
               (candidate-closed _ _ _ _ _ _ _ _ _ (at-loop .before .least-end .ensures) (opened .is-open .ensures .1) _
               (opened .is-open .ensures .0) (g .0 .left)),
         ),
@@ -215,7 +217,7 @@ pub +search-spec : {M : Type 1} → statement M
     close μ-search
     (λ t.
     lts.spec (calls t) (given t) reads.Post Inv-loop μ-loop (returns t) (λ c. search needs) (loop-holds t) (λ c. search needs)
-    (λ c. search needs) (λ c. search needs) (λ c. search needs) (λ c. search needs) (λ c. search needs) (sub-tail t)
+    (λ c. search needs) (λ c. search needs) (λ c. search needs) (λ c. search needs) (λ c. search needs) (λ c. search needs) (sub-tail t)
     (part-tail-start t) (λ c. search needs) (λ c. search needs) (search-requires t) (slice-write-order t) (same-length t) (returns-2 t)
     (λ c. search needs) (same-length-2 t) (returns-3 t) (λ c. search needs) (λ c. search needs) (loop-again t) (λ c. search needs)
     (returns-4 t))

@@ -5,13 +5,13 @@ use mathlib.Core.Path.{_≡_, refl, sym, _∙_}
 use lib.ListN.{drop}
 use native.Mathlib.Omega.{arith}
 use borrow.Author.Needs.{needs}
-use Rattle.searching.specs.Searching.{sameWords}
-use Rattle.searching.proofs.SameWords.{same-differ, same-next, same-end}
+use Rattle.logs.specs.Same.{sameNumbers}
+use Rattle.logs.proofs.SameLaws.{same-differ, same-next, same-end}
 use Rattle.searching.proofs.same.Statement.{statement}
 use Rattle.searching.proofs.same.Tie as tie
 
 abbrev Inv-loop : tie.InvT-loop
-Inv-loop x y k₀ k = (k ≤ 24) × (sameWords x y ≡ sameWords (drop k x) (drop k y))
+Inv-loop x y k₀ k = (k ≤ 24) × (sameNumbers x y ≡ sameNumbers (drop k x) (drop k y))
 
 abbrev μ-loop : tie.MeasureT-loop
 μ-loop x y k₀ k = 24 - k

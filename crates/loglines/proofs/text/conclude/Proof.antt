@@ -5,30 +5,28 @@ use borrow.Author.Needs.{needs}
 use Rattle.interface.specs.Numbers.{bytes}
 use Rattle.replies.specs.Printed.{printedLine}
 use Rattle.loglines.specs.Texts.{unreadText}
-use Rattle.loglines.proofs.TextLaws.{shown-wrote, counted-length}
+use Rattle.loglines.specs.Inputs.{inputText}
+use Rattle.loglines.proofs.TextLaws.{wrote-printed, without-room, with-room, counted-length}
 use Rattle.loglines.proofs.Reading.{some-unread, none-unread}
 use Rattle.loglines.proofs.text.conclude.Statement.{statement}
 use Rattle.loglines.proofs.text.conclude.Tie as tie
 
 returns : tie.Need-returns
-returns c = record { within = omega arith; answers = λ h. absurd (omega arith) }
+returns c = (without-room _ _ (c .if1 .taken), omega arith)
 
 returns-2 : tie.Need-returns-2
-unfolding unreadText printedLine bytes
+unfolding inputText unreadText printedLine bytes
 returns-2 c =
     let o = c .before .before in
     let u = o .before .before .before .before in
     let f = u .before in
     let n = u .unread .result in
     let size = counted-length (bytes "unread ") n (omega arith) in
-    let t = shown-wrote (o .print-counted .ensures) (omega arith) in
-    record {
-      within = t .0;
-      answers = λ h. rw (
-        ← f .end .ensures,
-        some-unread (f .end .result) n (u .unread .ensures) (o .before .before .before .if2 .taken),
-      ) (t .1);
-    }
+    rw (
+      with-room _ _ (f .before .if1 .left),
+      ← f .end .ensures,
+      some-unread (f .end .result) n (u .unread .ensures) (o .before .before .before .if2 .taken),
+    ) (wrote-printed _ _ (o .print-counted .ensures) (omega arith))
 
 print-judged-requires : tie.Need-print-judged-requires
 print-judged-requires c κs = c .before .before .before .before .if1 .left
@@ -38,13 +36,11 @@ returns-3 c =
     let o = c .before .before in
     let u = o .before .before .before in
     let f = u .before in
-    record {
-      within = o .print-judged .ensures .0;
-      answers = λ h. rw (
-        ← f .end .ensures,
-        none-unread (f .end .result) (u .unread .result) (u .unread .ensures) (o .before .before .if2 .left),
-      ) (o .print-judged .ensures .1);
-    }
+    rw (
+      with-room _ _ (f .before .if1 .left),
+      ← f .end .ensures,
+      none-unread (f .end .result) (u .unread .result) (u .unread .ensures) (o .before .before .if2 .left),
+    ) (o .print-judged .ensures)
 
 pub conclude-spec : {M : Type 1} → statement M
 conclude-spec =

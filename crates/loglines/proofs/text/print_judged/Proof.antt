@@ -1,21 +1,20 @@
 -- `print_judged`: what was kept is judged, and the verdict printed.
 -- Rests on the laws that it cites and on the contracts of what is called.
 use Prim.Native.Nat.{_/_, _≤_}
-use mathlib.Core.Path.{_≡_, sym, _∙_, ap}
+use mathlib.Core.Path.{_≡_, sym}
 use native.Mathlib.Omega.{arith}
-use lib.ListN.{length, take, replicate}
+use lib.ListN.{length, take}
 use lib.Seq.{length-take-le}
 use borrow.Author.Needs.{needs}
 use Rattle.interface.specs.Numbers.{bytes, numberOf}
-use Rattle.interface.specs.declared.Verdict.the-variants.{Accepted, No, Refused}
 use Rattle.replies.specs.Printed.{printedLine}
-use Rattle.logs.specs.Log.{operationWords, greatestOperations, countOf}
-use Rattle.logs.specs.Judging.{Judged}
+use Rattle.logs.specs.Log.{operationWords, greatestOperations}
 use Rattle.loglines.specs.declared.progress.Progress.{Progress}
 use Rattle.loglines.specs.Texts.{verdictText}
+use Rattle.loglines.specs.Inputs.{judgedText, inputText}
 use Rattle.loglines.specs.Holding.{keptWords, keptLog}
-use Rattle.loglines.proofs.TextLaws.{shown, shown-wrote, counted-length, number-fits}
-use Rattle.loglines.proofs.TooMany.{count-taken, few}
+use Rattle.loglines.proofs.TextLaws.{overlay-printed, wrote-printed, counted-length, number-fits}
+use Rattle.loglines.proofs.TooMany.{count-taken, accepted-few}
 use Rattle.loglines.proofs.text.print_judged.Statement.{statement}
 use Rattle.loglines.proofs.text.print_judged.Tie as tie
 
@@ -34,22 +33,22 @@ same-words : (w : tie.After-within)
     → take (w .within .result) (progress w .kept .words) ≡ take (progress w .kept .filled) (progress w .kept .words)
 same-words w = w .within .ensures .1 _ (all-words w)
 
-count-in : (w : tie.After-within)
-    → countOf (take (progress w .kept .filled) (progress w .kept .words)) ≡ w .within .result / operationWords
-count-in w = ap countOf (sym (same-words w)) ∙ count-taken (progress w .kept .words) (w .within .result) (filled-in w)
-
-judged : (k : tie.After-check-log)
-    → Judged (take (progress (k .before .before .before) .kept .filled) (progress (k .before .before .before) .kept .words))
-    (progress (k .before .before .before) .capacity) (progress (k .before .before .before) .depth) (replicate greatestOperations 0)
-    (k .check-log .last .1 .1 .1 .0) (k .check-log .result)
-judged k = rw (same-words (k .before .before .before)) at (k .check-log .ensures)
+judged-text : (k : tie.After-check-log)
+    → inputText (keptLog (progress (k .before .before .before)))
+    ≡ verdictText (k .check-log .result)
+    (take (k .before .before .before .within .result / operationWords) (k .check-log .last .1 .1 .1 .0))
+unfolding keptLog inputText judgedText
+judged-text k =
+    let w = k .before .before .before in
+    rw (← same-words w, count-taken _ _ (filled-in w), ← k .check-log .ensures)
 
 -- an order has at most 12 places
 places-in : (c : tie.After-enum-told)
     → c .before .before .before .before .before .before .within .result / operationWords ≤ greatestOperations
 places-in c =
     let k = c .before .before .before in
-    rw (count-in (k .before .before .before)) at (few _ _ _ _ ((rw (c .enum-told .given .1) at (judged k)) .0))
+    rw (count-taken _ _ (filled-in (k .before .before .before)))
+    at (accepted-few _ _ _ _ _ (rw (c .enum-told .given .1) at (k .check-log .ensures)))
 
 -- ---- needs
 
@@ -75,41 +74,33 @@ print-order-requires c κs =
     omega arith
 
 returns : tie.Need-returns
-unfolding keptLog verdictText
+unfolding verdictText
 returns c =
     let o = c .before .before in
     let e = o .before .before .before in
-    let k = e .before .before .before in
-    let w = k .before .before .before in
-    let s = w .before .before .before .before in
     let p = o .print-order .ensures in
-    let t = shown (s .args .out .now) _ (omega (arith, p .1 .0, p .1 .1, o .print-order .kept .0)) (p .1 .0) (p .0) in
-    (t .0, (Accepted, (_, (rw (e .enum-told .given .1) at (judged k), t .1 ∙ rw (count-in w)))))
+    rw (judged-text (e .before .before .before), e .enum-told .given .1) (overlay-printed _ _ (p .0) (p .1 .0), p .1 .1)
 
 returns-2 : tie.Need-returns-2
-unfolding keptLog verdictText printedLine bytes
+unfolding verdictText printedLine bytes
 returns-2 c =
     let o = c .before .before in
     let e = o .before .before .before in
     let k = e .before .before .before in
-    let w = k .before .before .before in
-    let s = w .before .before .before .before in
-    let t = shown-wrote (o .print-word .ensures) (omega (arith, s .pre)) in
-    (t .0, (No, (_, (rw (e .enum-told2 .given .1) at (judged k), t .1))))
+    let s = k .before .before .before .before .before .before .before in
+    rw (judged-text k, e .enum-told2 .given .1) (wrote-printed _ _ (o .print-word .ensures) (omega (arith, s .pre)))
 
 returns-3 : tie.Need-returns-3
-unfolding keptLog verdictText printedLine bytes
+unfolding verdictText printedLine bytes
 returns-3 c =
     let o = c .before .before in
     let v = o .before .before .before .before .before in
     let k = v .before .before .before in
-    let w = k .before .before .before in
-    let s = w .before .before .before .before in
+    let s = k .before .before .before .before .before .before .before in
     let r = v .verdict .given .0 .0 in
-    let n = o .before .number .ensures in
     let size = counted-length (bytes "refused ") (numberOf r) (number-fits r) in
-    let t = shown-wrote (rw n at (o .print-counted .ensures)) (omega (arith, s .pre)) in
-    (t .0, (Refused r, (_, (rw (v .verdict .given .1) at (judged k), t .1))))
+    rw (judged-text k, v .verdict .given .1)
+    (wrote-printed _ _ (rw (o .before .number .ensures) at (o .print-counted .ensures)) (omega (arith, s .pre)))
 
 pub print-judged-spec : {M : Type 1} → statement M
 print-judged-spec =
