@@ -68,8 +68,8 @@ told_apart() {
   done
 }
 
-# judged SEED COUNT TEXT OPTION...: random logs, a run of `judge` for each; every order is one by the model, and all
-# other verdicts are its own
+# judged SEED COUNT TEXT OPTION...: random logs, a run of `judge` for each; the verdicts are the model's, with the same
+# orders
 judged() {
   local log status seed=$1 count=$2 text=$3
   shift 3

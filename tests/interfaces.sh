@@ -169,7 +169,7 @@ unread_files() {
 logs() { sound logs "a log's order, or a verdict that writes nothing" "$@"; }
 
 # judged SEED COUNT TEXT OPTION...: random logs are judged by totals_check_log, in the program that `logs` has built
-# last, as by the model, and every order is one by the model
+# last, as by the model, with the same orders
 judged() {
   local status seed=$1 count=$2 text=$3
   shift 3
@@ -178,7 +178,7 @@ judged() {
     "$model" verdicts "$run/input" "$run/output" >"$run/model" && [ "$(wc -l <"$run/output")" -eq "$count" ]
   status=$?
   [ "$status" -eq 0 ] || head -n 20 "$run/error" "$run/model"
-  check "$status" "seed $seed: the verdicts on $count logs $text, $(grep -c '^order' "$run/output") orders"
+  check "$status" "seed $seed, logs $text: $(cat "$run/model")"
 }
 
 # verdicts SORT...: the last logs had all of these verdicts, and no other

@@ -1,12 +1,13 @@
 //! The commands `logs`, which writes random logs, `judge`, which judges them, and `verdicts`, which
 //! compares another judge's verdicts. Logs are separated by an empty line.
 
-use crate::judging::{explains, judge_input, Verdict};
-use crate::log::{read, Log};
+use crate::judging::{judge_input, Verdict, MOST};
+use crate::log::read;
 use crate::logged_runs::run_log;
 use crate::logs::any_log;
 use crate::prng::Prng;
 use crate::unread_logs::unread_log;
+use crate::wrong_judges::WrongJudge;
 use std::io::{self, Write};
 
 /// Which logs are written.
@@ -59,14 +60,17 @@ pub fn judge(text: &[u8], mut output: impl Write) -> io::Result<()> {
     output.flush()
 }
 
-/// Compares the verdicts, a line for each log, and says how many agree; 1 where one does not.
+/// Compares the verdicts, a line for each log, and says how many are the same, and how many of them
+/// show the first of several orders; 1 where one is not the same.
 pub fn verdicts(logs: &[u8], verdicts: &[u8], mut output: impl Write) -> io::Result<u8> {
     let logs = split(logs);
     let lines = String::from_utf8_lossy(verdicts);
     let lines: Vec<&str> = lines.split_terminator('\n').collect();
+    let mut several = 0;
     for (place, (log, line)) in logs.iter().zip(&lines).enumerate() {
         let own = judge_input(log);
-        if !agrees(&own, log, line) {
+        several += usize::from(is_one_of_several(log, &own));
+        if own.to_string() != *line {
             let text = String::from_utf8_lossy(log);
             writeln!(output, "log {}: {line:?}, here {own}\n{text}", place + 1)?;
             return Ok(1);
@@ -76,23 +80,16 @@ pub fn verdicts(logs: &[u8], verdicts: &[u8], mut output: impl Write) -> io::Res
         writeln!(output, "{} logs, {} verdicts", logs.len(), lines.len())?;
         return Ok(1);
     }
-    writeln!(output, "{} verdicts agree", lines.len())?;
+    let same = lines.len();
+    writeln!(
+        output,
+        "{same} verdicts are the same, {several} of them the first of several orders"
+    )?;
     Ok(0)
 }
 
-/// Whether a verdict is this one, or shows another order that explains the log as well.
-pub fn agrees(own: &Verdict, log: &[u8], line: &str) -> bool {
-    match (own, read(log)) {
-        (Verdict::Order(_), Ok(log)) => read_order(&log, line).is_some(),
-        _ => own.to_string() == line,
-    }
-}
-
-/// The order that a line shows, if it is one and explains the log.
-fn read_order(log: &Log, line: &str) -> Option<Vec<usize>> {
-    let mut words = line.split(' ');
-    let named = words.next() == Some("order");
-    let places: Result<Vec<usize>, _> = words.map(str::parse).collect();
-    let order = places.ok().filter(|order| named && explains(log, order))?;
-    (Verdict::Order(order.clone()).to_string() == line).then_some(order)
+/// Whether another order explains the log too: the one found with the highest place first.
+fn is_one_of_several(log: &[u8], verdict: &Verdict) -> bool {
+    let last = read(log).map(|log| WrongJudge::HighestPlaceFirst.judge(&log, MOST));
+    matches!(verdict, Verdict::Order(_)) && last.is_ok_and(|last| last != *verdict)
 }

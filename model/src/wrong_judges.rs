@@ -35,13 +35,19 @@ pub enum WrongJudge {
     OverlapAccepted,
     /// Crowding compares the first bits of the numbers.
     CrowdedByNumber,
+    /// The search tries the highest place first.
+    HighestPlaceFirst,
+    /// The search tries the earliest call first.
+    EarliestCallFirst,
+    /// The search tries the earliest end first.
+    EarliestEndFirst,
 }
 
 /// What is left to place, and the table.
 type Situation = (u16, Plain);
 
 impl WrongJudge {
-    pub const ALL: [WrongJudge; 13] = [
+    pub const ALL: [WrongJudge; 16] = [
         WrongJudge::NarrowBeforeBad,
         WrongJudge::BadBeforeSettings,
         WrongJudge::RealTimeByCalls,
@@ -55,6 +61,15 @@ impl WrongJudge {
         WrongJudge::CrowdedByItself,
         WrongJudge::OverlapAccepted,
         WrongJudge::CrowdedByNumber,
+        WrongJudge::HighestPlaceFirst,
+        WrongJudge::EarliestCallFirst,
+        WrongJudge::EarliestEndFirst,
+    ];
+    /// Those that answer as the right judge, but show another order that explains the log.
+    pub const OTHER_ORDERS: [WrongJudge; 3] = [
+        WrongJudge::HighestPlaceFirst,
+        WrongJudge::EarliestCallFirst,
+        WrongJudge::EarliestEndFirst,
     ];
 
     /// Judges a log, with room for so many places of the order.
@@ -95,6 +110,20 @@ impl WrongJudge {
         all.len() > most || !kinds || runs_back(log) || repeats || overlaps
     }
 
+    /// The places, as they are tried.
+    fn places(self, log: &Log) -> Vec<usize> {
+        let all = &log.operations;
+        let mut places: Vec<usize> = (0..all.len()).collect();
+        match self {
+            WrongJudge::FromPlaceOne => places.retain(|place| *place > 0),
+            WrongJudge::HighestPlaceFirst => places.reverse(),
+            WrongJudge::EarliestCallFirst => places.sort_by_key(|place| all[*place].call),
+            WrongJudge::EarliestEndFirst => places.sort_by_key(|place| all[*place].end),
+            _ => {}
+        }
+        places
+    }
+
     /// As the right judge extends an order.
     fn extend(
         self,
@@ -104,8 +133,7 @@ impl WrongJudge {
         failed: &mut BTreeSet<Situation>,
     ) -> bool {
         let (left, table) = &now;
-        let first = usize::from(self == WrongJudge::FromPlaceOne);
-        for place in first..log.operations.len() {
+        for place in self.places(log) {
             let mut next = table.clone();
             if !self.is_ready(log, *left, place) || !self.feed(&mut next, &log.operations[place]) {
                 continue;

@@ -1,7 +1,8 @@
 //! The commands on logs: what is written is judged, and another judge's verdicts are compared.
 
 use model::judges::{judge, logs, split, verdicts, Sort};
-use model::judging::judge_input;
+use model::judging::{explains, judge_input};
+use model::log::read;
 use std::process::Command;
 
 fn written(seed: u64, count: u64, sort: Sort) -> Vec<u8> {
@@ -51,15 +52,19 @@ fn of_each_sort_there_are_the_verdicts_that_its_name_says() {
 }
 
 #[test]
-fn own_verdicts_agree_and_another_order_does_too() {
+fn own_verdicts_are_the_same_and_another_order_is_not() {
     for sort in [Sort::Any, Sort::Unread] {
         let text = written(9, 2_000, sort);
-        let same = compared(&text, &judged(&text));
-        assert_eq!(same, (0, "2000 verdicts agree\n".to_string()));
+        let (code, said) = compared(&text, &judged(&text));
+        assert!(code == 0 && said.starts_with("2000 verdicts are the same, "));
     }
     let two = b"2 0\n0 3 5 0 none 0 1 3\n1 3 5 0 none 0 2 4\n";
+    let other = read(two).expect("a log");
+    assert!(explains(&other, &[1, 0]));
     assert_eq!(judge_input(two).to_string(), "order 0 1");
-    assert_eq!(compared(two, "order 1 0\n").0, 0);
+    assert_eq!(compared(two, "order 1 0\n").0, 1);
+    let same = "1 verdicts are the same, 1 of them the first of several orders\n";
+    assert_eq!(compared(two, "order 0 1\n"), (0, same.to_string()));
 }
 
 /// No verdict on a log that only the order 0, 1 explains.

@@ -2,7 +2,7 @@
 //! random ones.
 
 use model::cuts::{search, Cuts, WrongCut};
-use model::judging::{explains, judge, refused, MOST};
+use model::judging::{explains, judge, refused, Verdict, MOST};
 use model::log::{read, Log};
 use model::logs::any_log;
 use model::prng::Prng;
@@ -92,7 +92,7 @@ const THIRTEEN: &str = "2 0
 0 2 5 0 absent 0 25 26";
 
 /// Each wrong judge with a log, the room, what the right judge says and what the wrong one.
-const TELLING_LOGS: [(WrongJudge, &str, usize, &str, &str); 13] = [
+const TELLING_LOGS: [(WrongJudge, &str, usize, &str, &str); 16] = [
     (
         WrongJudge::NarrowBeforeBad,
         "2 0\n0 3 5 0 none 0 2 1",
@@ -184,6 +184,27 @@ const TELLING_LOGS: [(WrongJudge, &str, usize, &str, &str); 13] = [
         "order 0 1 2",
         "no",
     ),
+    (
+        WrongJudge::HighestPlaceFirst,
+        "2 0\n0 3 5 0 none 0 1 3\n1 3 5 0 none 0 2 4",
+        12,
+        "order 0 1",
+        "order 1 0",
+    ),
+    (
+        WrongJudge::EarliestCallFirst,
+        "2 0\n0 3 5 0 none 0 2 3\n1 3 5 0 none 0 1 4",
+        12,
+        "order 0 1",
+        "order 1 0",
+    ),
+    (
+        WrongJudge::EarliestEndFirst,
+        "2 0\n0 3 5 0 none 0 1 4\n1 3 5 0 none 0 2 3",
+        12,
+        "order 0 1",
+        "order 1 0",
+    ),
 ];
 
 #[test]
@@ -208,5 +229,24 @@ fn random_logs_tell_the_wrong_judges_too() {
         };
         let told = all.iter().filter(tells).count();
         assert!(told >= 10, "{wrong:?}: {told}");
+    }
+}
+
+/// A contract that asks for some order that explains the log lets these through; the first order
+/// tells them.
+#[test]
+fn another_order_explains_the_log_and_is_not_the_first() {
+    for wrong in WrongJudge::OTHER_ORDERS {
+        let mut others = 0;
+        for log in logs(71, 6_000) {
+            match (judge(&log, MOST), wrong.judge(&log, MOST)) {
+                (Verdict::Order(first), Verdict::Order(shown)) => {
+                    assert!(explains(&log, &shown) && first <= shown, "{wrong:?}\n{log}");
+                    others += usize::from(first != shown);
+                }
+                (own, told) => assert_eq!(own, told, "{wrong:?}\n{log}"),
+            }
+        }
+        assert!(others > 500, "{wrong:?}: {others}");
     }
 }

@@ -117,6 +117,20 @@ static int order_errors(void)
     return errors;
 }
 
+/* Not 0 where of two orders the one with the higher place at its start is written. Account 1001 is not there. */
+static int first_errors(void)
+{
+    static const struct totals_logged two[] = {
+        {7, TOTALS_LOOKUP, 1001, 0, TOTALS_NONE, 0, 2, 3},
+        {8, TOTALS_LOOKUP, 1001, 0, TOTALS_NONE, 0, 1, 4},
+    };
+    reset();
+    memcpy(logged, two, sizeof two);
+    if (call(2 * WORDS, 2) != TOTALS_OK || order[0] != 0 || order[1] != 1)
+        return fprintf(stderr, "not the first of two orders\n");
+    return 0;
+}
+
 /* Not 0 where a list that is too short is not refused, or a log that no order explains is not answered so. */
 static int narrow_errors(void)
 {
@@ -265,5 +279,5 @@ int main(int argc, char **argv)
     order_end = lend(MOST + MORE);
     if (argc > 1 && strcmp(argv[1], "judge") == 0)
         return judge();
-    return (order_errors() + narrow_errors() + length_errors() + fault_errors()) != 0;
+    return (order_errors() + first_errors() + narrow_errors() + length_errors() + fault_errors()) != 0;
 }
