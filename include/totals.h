@@ -294,9 +294,10 @@ struct totals_logged {
  * end is below its call. A plain table that starts empty, fed the operations in this order, gives all the answers of
  * the log. It has the rule of TOTALS_CROWDED, with capacity for b and depth for M.
  *
- * Returns TOTALS_OK where there is such an order. One of them is then written to the start of the list: the places of
- * the operations in the log, counted from 0. Nothing is written past their number. Where there are several such orders,
- * it is not promised which one is written. An empty log is explained by the empty order.
+ * Returns TOTALS_OK where there is such an order. The first of them is then written to the start of the list: the
+ * places of the operations in the log, counted from 0. Nothing is written past their number. Of two orders the first is
+ * the one with the lower place where they first differ, whatever the positions are. An empty log is explained by the
+ * empty order.
  * Returns TOTALS_NO where there is none, with the list as it was. So it does for an answer's number that no operation
  * gives.
  * Or, tested in this order, before the search and with the list as it was:

@@ -72,9 +72,10 @@ impl Logged {
 /// whose end is below its call. A plain table that starts empty, fed the operations in this order, gives all the
 /// answers of the log; it has the rule of [`Answer::Crowded`], with this capacity for b and this depth for M.
 ///
-/// Gives such an order, as the places of the operations in the log, counted from 0; or `None` where there is none.
-/// Where there are several, it is not promised which one comes. An empty log is explained by the empty order. Refuses
-/// with [`Refusal::Settings`], [`Refusal::BadLog`], in this order.
+/// Gives the first such order, as the places of the operations in the log, counted from 0; or `None` where there is
+/// none. Of two orders the first is the one with the lower place where they first differ, as of two `Vec<usize>` the
+/// lesser one. An empty log is explained by the empty order. Refuses with [`Refusal::Settings`], [`Refusal::BadLog`],
+/// in this order.
 ///
 /// ```
 /// use totals::{check_log, Answer, Logged, Operation, Refusal};
@@ -96,6 +97,10 @@ impl Logged {
 ///     end: 4,
 /// };
 /// assert_eq!(check_log(&[lookup, insert], 2, 0)?, Some(vec![1, 0]));
+/// // two lookups of another account may come in either order, and the first is shown
+/// let missed = Logged { account: 1001, answer: Answer::None, ..lookup };
+/// let other = Logged { worker: 3, call: 0, end: 3, ..missed };
+/// assert_eq!(check_log(&[missed, other], 2, 0)?, Some(vec![0, 1]));
 /// // an answer before the insert's call, and another total
 /// assert_eq!(check_log(&[Logged { call: 0, end: 1, ..lookup }, insert], 2, 0)?, None);
 /// assert_eq!(check_log(&[Logged { answer: Answer::Found(701), ..lookup }, insert], 2, 0)?, None);
@@ -112,8 +117,8 @@ pub fn check_log(log: &[Logged], capacity: u64, depth: u64) -> Result<Option<Vec
 }
 
 /// [`check_log`] of a log in words, [`Logged::words`] for each operation, without allocating: whether some order
-/// explains it. One is then written to the start of the list, and nothing past the number of operations; else the list
-/// stays as it is. Words may hold answers that no operation gives; no order explains these. Refuses with
+/// explains it. The first one is then written to the start of the list, and nothing past the number of operations; else
+/// the list stays as it is. Words may hold answers that no operation gives; no order explains these. Refuses with
 /// [`Refusal::Settings`], [`Refusal::BadLog`], [`Refusal::Narrow`], in this order.
 ///
 /// ```

@@ -1,6 +1,6 @@
 //! Logs judged by the safe interface: what is refused, in its order, and that nothing is written then; which answers
-//! and positions count; and random runs of the real table, which are all explained. Random logs are judged beside the
-//! second model by `tests/c/logs.c`.
+//! and positions count; that the order shown is the first; and random runs of the real table, which are all explained.
+//! Random logs are judged beside the second model by `tests/c/logs.c`.
 #[allow(dead_code)]
 mod ending;
 
@@ -398,5 +398,53 @@ fn every_run_of_the_table_is_explained() -> Done {
         orders += usize::from(order.windows(2).any(|pair| log[pair[0]].end > log[pair[1]].end));
     }
     assert!(orders > 1000, "{orders} orders other than that of the answers");
+    Ok(())
+}
+
+/// All orders of so many places, the first one first.
+fn all_orders(count: usize) -> Vec<Vec<usize>> {
+    let mut orders = vec![Vec::new()];
+    for _ in 0..count {
+        let longer = |order: &Vec<usize>| {
+            let others: Vec<usize> = (0..count).filter(|place| !order.contains(place)).collect();
+            others.into_iter().map(|place| [&order[..], &[place]].concat()).collect::<Vec<_>>()
+        };
+        orders = orders.iter().flat_map(longer).collect();
+    }
+    orders
+}
+
+#[test]
+fn the_order_is_the_first_of_all_that_explain_the_log() -> Done {
+    let (mut prng, mut several, mut none) = (Prng::new(10), 0, 0);
+    let orders: Vec<Vec<Vec<usize>>> = (0..=6).map(all_orders).collect();
+    for _ in 0..3_000 {
+        let settings = Settings::new(prng.between(1, 8), prng.between(2, 3), prng.below(3))?;
+        let count = prng.below(7) as usize;
+        let mut log = log_of_run(&mut prng, settings, count)?;
+        // one in four has an answer that may be wrong
+        if let (0, Some(logged)) = (prng.below(4), log.first_mut()) {
+            logged.answer = prng.one_of(&[Answer::Added, Answer::Removed, Answer::None, Answer::Posted(0)]);
+        }
+        let (capacity, depth) = (settings.capacity(), settings.depth());
+        let mut right = orders[count].iter().filter(|order| explains(order, &log, capacity, depth));
+        let first = right.next().cloned();
+        several += usize::from(right.next().is_some());
+        none += usize::from(first.is_none());
+        assert_eq!(check_log(&log, capacity, depth)?, first, "{log:?}");
+    }
+    assert!(several > 300 && none > 100, "{several} logs with several orders, {none} with none");
+    Ok(())
+}
+
+/// Positions say which orders there are, not which of them is the first: that is by place.
+#[test]
+fn of_two_lookups_the_lower_place_comes_first() -> Done {
+    for [first, second] in [[[1, 4], [2, 3]], [[2, 3], [1, 4]], [[1, 3], [2, 4]], [[2, 4], [1, 3]]] {
+        let lines = [(7, Lookup, 5, Answer::None, first), (8, Lookup, 6, Answer::None, second)];
+        assert_eq!(judged(&lines)?, Some(vec![0, 1]), "{first:?} {second:?}");
+    }
+    let lines = [(7, Lookup, 5, Answer::None, [3, 4]), (8, Lookup, 6, Answer::None, [1, 2])];
+    assert_eq!(judged(&lines)?, Some(vec![1, 0]));
     Ok(())
 }
