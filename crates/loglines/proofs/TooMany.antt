@@ -14,7 +14,7 @@ use Rattle.interface.specs.Limits.{leastWorkers, inRange}
 use Rattle.interface.specs.declared.Refusal.{Refusal}
 use Rattle.interface.specs.declared.Refusal.the-variants.{Settings, BadLog}
 use Rattle.interface.specs.declared.Verdict.the-variants.{Accepted, Refused}
-use Rattle.machine.specs.Choice.{if_then_else_, _and_}
+use Rattle.machine.specs.Choice.{if_then_else_}
 use Rattle.machine.proofs.laws.Base.{if-ap}
 use Rattle.logs.specs.Log.{operationWords, greatestOperations, countOf}
 use Rattle.logs.specs.Judging.{refusal, checkLogWords}

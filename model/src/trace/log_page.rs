@@ -54,7 +54,7 @@ fn explained(order: &[usize]) -> String {
     match places.len() {
         0 => "The log is empty.".to_string(),
         _ => format!(
-            "The plain table gives all the answers in the order {}.",
+            "The plain table gives all the answers in the order {}. It is the first that does, by place.",
             places.join(", ")
         ),
     }
