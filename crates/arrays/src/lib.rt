@@ -1,12 +1,13 @@
 // Slices of words: an item put in or taken out, the later ones moved, and the search among ascending accounts. One
 // search serves a bucket's state, the update in place and the lookup. It counts in a byte: a bucket has at most 16
 // accounts (docs/DECISIONS.md, 70, 71). Each contract is an equality with a definition of specs/.
+#![tactic(auto)]
 ghost use Rattle.std.specs.Prelude.{◌≡◌, ◌≤◌, length};
 ghost use Rattle.interface.specs.Limits.{greatest_capacity};
 ghost use Rattle.arrays.specs.Arrays.{inserted_in, removed_from, scan};
 
 // Where an account stands among ascending accounts, or before which it belongs: document 02's place found, in a byte.
-#[derive(Drop)]
+#[derive(Clone, Copy)]
 pub enum Position {
     At(u8),
     Before(u8),

@@ -1,5 +1,6 @@
 // A bucket's state by value: search, a total read, put and remove, and a ticket settled. Every field is a word, so that
 // a state is loaded and stored by copying. Each contract is an equality with a definition of specs/, for any values.
+#![tactic(auto)]
 ghost use Rattle.std.specs.Prelude.{◌≡◌};
 ghost use Rattle.bucket.specs.State.{size_of, search_of, total_in, put_of, remove_of, settle_of};
 
@@ -12,7 +13,7 @@ pub const ARRAY_SIZE: usize = Settings::GREATEST_CAPACITY as usize;
 // Accounts ascending with their totals, the first `count` of each; per worker the last settled ticket with its answer's
 // number and the total that it has, 0 where it has none; one applied bit per worker. A count above the arrays' size is
 // read as their size.
-#[derive(Drop)]
+#[derive(Clone, Copy)]
 pub struct BucketState {
     pub accounts: [u64; ARRAY_SIZE],
     pub totals: [u64; ARRAY_SIZE],

@@ -1,6 +1,7 @@
 // The calls of `table`, and the judgement of a log, as flat C functions: a slice is a pointer and a length, an answer
 // is a number, and what does not fit into the number goes into a report, both by crate numbers. Each takes any words
 // and any arguments; its contract is an equality with a definition. include/totals.h declares them.
+#![tactic(auto)]
 ghost use Rattle.std.specs.Prelude.{◌≡◌};
 ghost use Rattle.interface.specs.Limits.{built};
 ghost use Rattle.machine.specs.Sequential.{place, account_at};

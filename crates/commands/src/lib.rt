@@ -1,5 +1,6 @@
 // A command of its letter and fields: what each field has to be is a definition of specs/, and the functions here equal
 // it. Rests on the numbers of crate numerals.
+#![tactic(auto)]
 ghost use Rattle.std.specs.Prelude.{◌≡◌};
 ghost use Rattle.numerals.specs.Numerals.{numeral, up_to, as_pair};
 ghost use Rattle.commands.specs.Commands.{three_fields, four_fields, open_command, operation_command, steps_command, small_of};
@@ -8,7 +9,7 @@ use interface::{KIND_DELETE, KIND_INSERT, KIND_LOOKUP, KIND_POST};
 use numerals::{Number, Pair, Signed, read_number, read_signed};
 
 // What a line asks for. Unread is a line that is none of the others.
-#[derive(Drop)]
+#[derive(Clone, Copy)]
 pub enum Command {
     // n, b, M
     Open(u64, u64, u64),

@@ -1,11 +1,12 @@
 // Numbers written in decimal into a caller's buffer: their sign and size, how many bytes they take, and their digits.
+#![tactic(auto)]
 ghost use Rattle.std.specs.Prelude.{◌+◌, ◌≤◌, ◌≡◌, length, pos};
 ghost use Rattle.lists.specs.Parts.{overlay};
 ghost use Rattle.decimals.specs.Decimals.{digits, digit_count, most_digits};
 ghost use Rattle.decimals.specs.Signs.{sign_of, decimal_text};
 
 // A number to be written in decimal: its sign and its size.
-#[derive(Drop)]
+#[derive(Clone, Copy)]
 pub struct Decimal {
     pub minus: bool,
     pub size: u64,

@@ -1,5 +1,6 @@
 // Input of any length, a part at a time: each line that it ends is answered. Depends on responses for the answers, on
 // lines for the reader, and on outputs for the room.
+#![tactic(auto)]
 ghost use Rattle.std.specs.Prelude.{◌≡◌};
 ghost use Rattle.outputs.specs.Outputs.{state_of};
 ghost use Rattle.driver.specs.Feeding.{feeding_of, fed};
@@ -10,7 +11,7 @@ use responses::answer;
 
 // What feeding came to: the reader of the line that is not ended yet, the bytes of `out` that are used, and the bytes
 // taken.
-#[derive(Drop)]
+#[derive(Clone, Copy)]
 pub struct Fed {
     pub reader: Reader,
     pub used: usize,

@@ -17,7 +17,7 @@ use Rattle.sorting.specs.RowLists.{rows_at}
 use Rattle.rows.specs.Rows.{rows}
 use Rattle.rows.proofs.SmallRows.{rows_small}
 use Rattle.rows.proofs.AllRows.{AllRows, OnlyStrange}
-use Rattle.csv.specs.Csv.{csv_file, header_size, longest_row}
+use Rattle.csv_file.specs.Csv.{csv_file, header_size, longest_row}
 use Rattle.export.proofs.Files.{small_file}
 use Rattle.export.specs.Export.{written, export_words}
 

@@ -23,9 +23,9 @@ use Rattle.rows.specs.Rows.{rows, listing_words}
 use Rattle.rows.proofs.RowLaws.{rows_few}
 use Rattle.rows.proofs.AllRows.{rows_counted}
 use Rattle.rows.proofs.SmallRows.{rows_small}
-use Rattle.csv.specs.Csv.{csv_file}
-use Rattle.csv.specs.Reading.{read_file}
-use Rattle.csv.proofs.CsvLaws.{csv_laws}
+use Rattle.csv_file.specs.Csv.{csv_file}
+use Rattle.csv_file.specs.Reading.{read_file}
+use Rattle.csv_file.proofs.CsvLaws.{csv_laws}
 use Rattle.export.proofs.Files.{small_file}
 use Rattle.export.specs.Export.{written, export_words, longest_file, ExportLaws}
 

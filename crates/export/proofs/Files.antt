@@ -14,8 +14,8 @@ use Rattle.lists.proofs.PartLaws.{overlay_join}
 use Rattle.sorting.specs.RowLists.{row_at, rows_at}
 use Rattle.sorting.proofs.FirstRows.{rows_more}
 use Rattle.rows.proofs.SmallRows.{Small}
-use Rattle.csv.specs.Csv.{csv_record, header, header_size, longest_row, csv_row, csv_rows, csv_file}
-use Rattle.csv.proofs.CsvLaws.{csv_laws}
+use Rattle.csv_file.specs.Csv.{csv_record, header, header_size, longest_row, csv_row, csv_rows, csv_file}
+use Rattle.csv_file.proofs.CsvLaws.{csv_laws}
 
 pub file-size : (r : List (ℕ × ℤ)) → length (csv_file r) ≡ header_size + length (csv_rows r)
 unfolding csv_file header csv_record bytes

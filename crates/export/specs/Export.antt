@@ -10,8 +10,8 @@ use Rattle.machine.specs.Choice.{if◌then◌else◌}
 use Rattle.layout.specs.Shape.{strange, shape_of}
 use Rattle.sorting.specs.RowLists.{rows_at}
 use Rattle.rows.specs.Rows.{rows, greatest_count, listing_words}
-use Rattle.csv.specs.Csv.{csv_file, header_size, longest_row}
-use Rattle.csv.specs.Reading.{read_file}
+use Rattle.csv_file.specs.Csv.{csv_file, header_size, longest_row}
+use Rattle.csv_file.specs.Reading.{read_file}
 
 -- a file at the start of the output, nothing past it; where the output is too short for it, nothing at all
 unfoldable pub written : List ℕ → List ℕ → List ℕ × Exported

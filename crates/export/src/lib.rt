@@ -1,13 +1,14 @@
 // The listing of a table as a file: made in two local lists that hold every table's rows, and written where the output
 // is long enough for all of it.
+#![tactic(auto)]
 ghost use Rattle.std.specs.Prelude.{◌≡◌, ◌+◌, ◌*◌, ◌≤◌, ltb, length};
 ghost use Rattle.lists.specs.Parts.{overlay};
 ghost use Rattle.sorting.specs.RowLists.{rows_at};
 ghost use Rattle.rows.specs.Rows.{greatest_count};
-ghost use Rattle.csv.specs.Csv.{csv_file, header_size, longest_row};
+ghost use Rattle.csv_file.specs.Csv.{csv_file, header_size, longest_row};
 ghost use Rattle.export.specs.Export.{export_words};
 
-use csv::{HEADER_SIZE, LONGEST_ROW, row_size, write_header, write_row};
+use csv_file::{HEADER_SIZE, LONGEST_ROW, row_size, write_header, write_row};
 use interface::{Exported, Listed, Refusal};
 use rows::{GREATEST_COUNT, listing};
 

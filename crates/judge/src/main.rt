@@ -1,10 +1,11 @@
 // The program `judge`: a log from standard input, what is printed for it to standard output. What that is, is the
 // business of the crate loglines; here are reading and writing.
+#![tactic(auto)]
 use libc::{STDIN_FILENO, STDOUT_FILENO};
 use loglines::{Feeding, begin, conclude, feed};
 
 // What is held of the input so far, and whether there may be more of it.
-#[derive(Drop)]
+#[derive(Clone, Copy)]
 struct Progress {
     feeding: Feeding,
     more: bool,

@@ -1,5 +1,6 @@
 // The functions on a bucket record behind a C interface, for the comparison under bench/: a record's state is loaded,
 // changed and stored.
+#![tactic(auto)]
 use arrays::Position;
 use bucket::BucketState;
 use fields::WIDEST_RECORD;

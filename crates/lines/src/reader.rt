@@ -10,7 +10,7 @@ use commands::Command;
 const LINE_ROOM: usize = 64;
 
 // The bytes of a line so far: the first len of `line`, or more than there is room for.
-#[derive(Drop)]
+#[derive(Clone, Copy)]
 pub struct Reader {
     line: [u8; LINE_ROOM],
     len: usize,

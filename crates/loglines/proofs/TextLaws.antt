@@ -10,7 +10,7 @@ use lib.Seq.{take-suc}
 use borrow.Author.Tests.{le-leb, lt-ltb, le-ltb}
 use Rattle.interface.specs.Numbers.{bytes, number_of}
 use Rattle.interface.specs.declared.Refusal.{Refusal}
-use Rattle.interface.specs.declared.Refusal.TheVariants.{Settings, Short, Stranger, Busy, Idle, Kind, Spent, Strange, Narrow, UnderWay, Malformed, BadLog}
+use Rattle.interface.specs.declared.Refusal.TheVariants.{Settings, Short, Stranger, Busy, Idle, Kind, Spent, Strange, Narrow, BadLog}
 use Rattle.machine.specs.Choice.{if◌then◌else◌}
 use Rattle.machine.proofs.laws.Base.{if_true, if_false}
 use Rattle.lists.specs.Parts.{overlay}
@@ -77,8 +77,6 @@ number_fits Kind = omega arith
 number_fits Spent = omega arith
 number_fits Strange = omega arith
 number_fits Narrow = omega arith
-number_fits UnderWay = omega arith
-number_fits Malformed = omega arith
 number_fits BadLog = omega arith
 
 -- ---- places

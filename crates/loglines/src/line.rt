@@ -13,7 +13,7 @@ use numerals::{Number, Pair};
 const FOLLOWED: usize = 7;
 
 // An operation's words, where its line was read.
-#[derive(Drop)]
+#[derive(Clone, Copy)]
 pub struct Row {
     pub read: bool,
     pub words: [u64; OPERATION_WORDS],

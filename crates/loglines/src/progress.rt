@@ -15,21 +15,21 @@ const LINE_ROOM: usize = 168;
 pub const KEPT_WORDS: usize = 104;
 
 // The first bytes of a line so far: len of them.
-#[derive(Drop)]
+#[derive(Clone, Copy)]
 pub struct Line {
     bytes: [u8; LINE_ROOM],
     len: usize,
 }
 
 // The words of the operations so far, one after the other; `filled` is how many.
-#[derive(Drop)]
+#[derive(Clone, Copy)]
 pub struct Kept {
     pub filled: usize,
     pub words: [u64; KEPT_WORDS],
 }
 
 // The lines so far, up to the first that is none of a log; whether that one came; the settings; the operations.
-#[derive(Drop)]
+#[derive(Clone, Copy)]
 pub struct Progress {
     pub lines: u64,
     pub bad: bool,
@@ -39,7 +39,7 @@ pub struct Progress {
 }
 
 // The line that is not ended yet, and the progress before it.
-#[derive(Drop)]
+#[derive(Clone, Copy)]
 pub struct Feeding {
     line: Line,
     progress: Progress,

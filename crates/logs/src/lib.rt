@@ -1,4 +1,5 @@
 // The length of a log and of its operations in words. All else here is definitions (specs/) and theorems (proofs/).
+#![tactic(auto)]
 
 // The words of one operation: worker, kind, account, total, answer, the answer's total, call and end.
 pub const OPERATION_WORDS: usize = 8;

@@ -69,6 +69,7 @@ module _ (s : Settings) (m : Machine) (t : Table) (es : List Entry) (tasks : ℕ
   answers_serve_all : (js : List ℕ) (p : Table) → Names js → (j : ℕ) (r : Answer) → Member (j, r) (answers_of s tasks p js)
       → Member (f j, r) (answers_to s es p (map f js))
   unfolding answers_to answers_of
+  answers_serve_all [] p h j r m = elim m [ ]
   answers_serve_all (i ∷ js) p h j r (inl e) =
       inl (ap (λ (x : ℕ × Answer). (f x.0, x.1)) e ∙ ap (λ (o : Option Operation). (f i, (serve_if s o p).0)) (sym (h i (inl refl))))
   answers_serve_all (i ∷ js) p h j r (inr k) =

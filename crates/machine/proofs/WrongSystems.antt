@@ -100,7 +100,8 @@ pub answering_twice_fails : AlwaysLinearizable small answering_twice (opened, no
 unfolding computing state_at next entry_at calls_to ends_by under_way step_refusal refusal_in
 answering_twice_fails h =
     let es : List Entry = inserting 14 in
-    let l = h es (λ i. opens_nothing answering_twice es (λ m. tt, steps_open_nothing answering_twice 14 [] tt) _ i) in
+    let l = h es (λ i. opens_nothing answering_twice es (λ m. tt, steps_open_nothing answering_twice 14 [] tt)
+    (state_at small answering_twice (opened, none) [] es i) i) in
     let wrong : none ≡ some Refusal.Idle = l.steps 14 0 (omega arith) refl in
     let z : ◌≡◌ {A = ℕ} 0 1 = cc in omega arith
 
@@ -151,7 +152,7 @@ telling_no_check_fails h =
   where
     latest : (k : ℕ) → 0 < k → k < 13 → is_call small telling_no_check opened [] (inserting 13) k 0 ≡ false
     latest zero a b = absurd (omega arith)
-    latest (suc k) a b = steps_call_nobody telling_no_check _ 13 k 0
+    latest (suc k) a b = steps_call_nobody telling_no_check (state_at small telling_no_check opened [] (inserting 13) (suc k)) 13 k 0
 
 -- ---- one whose refused opening empties the table
 

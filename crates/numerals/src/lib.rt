@@ -1,5 +1,6 @@
 // The numbers of a line's fields. A field is a number in one way only: decimal, with no leading zeros.
 // Rests on nothing.
+#![tactic(auto)]
 ghost use Rattle.std.specs.Prelude.{◌≡◌};
 ghost use Rattle.numerals.specs.Numerals.{numeral, digits_after, plus, minus, signed_numeral, up_to, in64, as_number, as_signed};
 
@@ -9,20 +10,20 @@ const GREATEST_TOTAL: u64 = 9223372036854775807;
 const LEAST_TOTAL_SIZE: u64 = 9223372036854775808;
 
 // A number, or a field that is none.
-#[derive(Drop)]
+#[derive(Clone, Copy)]
 pub enum Number {
     Value(u64),
     Nothing,
 }
 
 // Two numbers, or fields of which one is none.
-#[derive(Drop)]
+#[derive(Clone, Copy)]
 pub enum Pair {
     Values(u64, u64),
     Nothing,
 }
 
-#[derive(Drop)]
+#[derive(Clone, Copy)]
 pub enum Signed {
     Value(i64),
     Nothing,

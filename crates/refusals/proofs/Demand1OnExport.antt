@@ -13,7 +13,7 @@ use Rattle.lists.specs.Parts.{overlay}
 use Rattle.layout.specs.Shape.{strange, shape_of}
 use Rattle.layout.proofs.Checks.{zeros_strange}
 use Rattle.rows.specs.Rows.{rows}
-use Rattle.csv.specs.Csv.{csv_file}
+use Rattle.csv_file.specs.Csv.{csv_file}
 use Rattle.export.specs.Export.{written, export_words}
 use Rattle.numbers.specs.Returned.{exported_number, exported_report}
 use Rattle.capi.specs.Flat.{reported}

@@ -6,7 +6,7 @@ use Rattle.interface.specs.declared.Refusal.{Refusal}
 use Rattle.interface.specs.declared.Exported.{Exported}
 use Rattle.layout.specs.Shape.{shape_of}
 use Rattle.rows.specs.Rows.{rows}
-use Rattle.csv.specs.Csv.{csv_file}
+use Rattle.csv_file.specs.Csv.{csv_file}
 use Rattle.export.specs.Export.{export_words}
 use Rattle.capi.specs.Flat.{export_left}
 use Rattle.refusals.specs.Checks.{Check, check8}

@@ -1,5 +1,6 @@
 // A logged operation on the plain table, kept over the log's places: an account stands at the first place whose
 // operation is about it, as 0, or as 1 and its total. Rests on the words of a log, and on the sums of totals.
+#![tactic(auto)]
 ghost use Rattle.std.specs.Prelude.{◌≡◌, Bool, false, ℕ, ◌*◌, ◌^◌, ◌≤◌, ◌<◌, length};
 ghost use Rattle.std.proofs.Math.Option.{some};
 ghost use Rattle.std.specs.Int.{w64};
@@ -34,7 +35,7 @@ pub const BALANCES: usize = 24;
 
 // What an operation makes of its account's balance, where the answer is the one logged: whether the account is there
 // and its total, or nothing, as the answer says; or that the answer is another.
-#[derive(Drop)]
+#[derive(Clone, Copy)]
 pub enum Outcome {
     Balance(u64, u64),
     Unchanged,
@@ -42,7 +43,7 @@ pub enum Outcome {
 }
 
 // Whether the operation gives the answer logged, and the balances after it.
-#[derive(Drop)]
+#[derive(Clone, Copy)]
 pub struct Replayed {
     pub fits: bool,
     pub balances: [u64; BALANCES],

@@ -1,5 +1,6 @@
 // Replies and the lines of a listing, printed into a caller's buffer from an index on: the whole text, or nothing where
 // it has no room. Each function answers how many bytes it wrote. Depends on printers and on interface's answers.
+#![tactic(auto)]
 ghost use Rattle.std.specs.Prelude.{[], ◌∷◌, ◌++◌};
 ghost use Rattle.decimals.specs.Decimals.{decimal, signed_decimal};
 ghost use Rattle.printers.specs.Written.{Wrote};
@@ -10,7 +11,7 @@ use interface::{Answer, Completion};
 use printers::{print_counted, print_pair, print_word};
 
 // What a line is met with, but for a listing, which is printed by its rows and its end.
-#[derive(Drop)]
+#[derive(Clone, Copy)]
 pub enum Reply {
     Ok,
     Refused(u64),

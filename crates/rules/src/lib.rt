@@ -1,6 +1,7 @@
 // The rules that a bucket's words are read by: the bits of an account, when a bucket is full and what follows from it,
 // the update in a slot, when it is pending, and one bit of a word changed. Each contract is an equality with a
 // definition.
+#![tactic(auto)]
 ghost use Rattle.std.specs.Prelude.{◌≡◌, ◌+◌, ◌≤◌, ◌<◌, length};
 ghost use Rattle.fields.specs.Fields.{slot_size};
 ghost use Rattle.machine.specs.Sequential.{first_bits};
@@ -11,7 +12,7 @@ use fields::{SLOT_ACCOUNT, SLOT_KIND, SLOT_TICKET, SLOT_TOTAL};
 use interface::{KIND_INSERT, KIND_POST, Settings};
 
 // A worker's update as announced in its slot: the field's operation descriptor.
-#[derive(Drop)]
+#[derive(Clone, Copy)]
 pub struct Descriptor {
     pub kind: u64,
     pub account: u64,

@@ -44,8 +44,6 @@ is_strange (some Refusal.Kind) = false
 is_strange (some Refusal.Spent) = false
 is_strange (some Refusal.Strange) = true
 is_strange (some Refusal.Narrow) = false
-is_strange (some Refusal.UnderWay) = false
-is_strange (some Refusal.Malformed) = false
 is_strange (some Refusal.BadLog) = false
 
 module _ (s : Settings) (m : Machine) where

@@ -1,11 +1,12 @@
 // The sum of a total and an amount, each as the word that keeps it, where it is a total again.
+#![tactic(auto)]
 ghost use Rattle.std.specs.Prelude.{◌≡◌};
 ghost use Rattle.sums.specs.Sums.{sum_of};
 
 use memory::{total_of, word_of};
 
 // The word of a sum within the 64-bit signed range, or that it lies outside.
-#[derive(Drop)]
+#[derive(Clone, Copy)]
 pub enum Sum {
     Within(u64),
     Outside,

@@ -45,8 +45,6 @@ small_number Refusal.Kind = omega arith
 small_number Refusal.Spent = omega arith
 small_number Refusal.Strange = omega arith
 small_number Refusal.Narrow = omega arith
-small_number Refusal.UnderWay = omega arith
-small_number Refusal.Malformed = omega arith
 small_number Refusal.BadLog = omega arith
 
 -- ---- a step

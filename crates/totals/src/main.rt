@@ -1,5 +1,6 @@
 // The program `totals`: lines from standard input, what they are met with to standard output. What a line is met with
 // is the business of the crate driver; here are the lent words and lists, and reading and writing.
+#![tactic(auto)]
 ghost use Rattle.std.specs.Prelude.{◌≤◌, length};
 ghost use Rattle.outputs.specs.Room.{longest};
 
@@ -7,7 +8,7 @@ use libc::{STDIN_FILENO, STDOUT_FILENO};
 use lines::Reader;
 
 // The reader of the line that is not ended yet, and whether to go on.
-#[derive(Drop)]
+#[derive(Clone, Copy)]
 struct Progress {
     reader: Reader,
     more: bool,

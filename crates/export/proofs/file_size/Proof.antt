@@ -9,7 +9,7 @@ use lib.ListN.{length, get_or}
 use mir.Facts.{to_z-of_z}
 use borrow.Author.Rules.{rules}
 use Rattle.sorting.specs.RowLists.{rows_at}
-use Rattle.csv.specs.Csv.{header_size, longest_row, csv_row, csv_rows}
+use Rattle.csv_file.specs.Csv.{header_size, longest_row, csv_row, csv_rows}
 use Rattle.export.proofs.Files.{file-size, lines, lines_size}
 use Rattle.export.proofs.file_size.Statement.{statement}
 use Rattle.export.proofs.file_size.Tie as tie

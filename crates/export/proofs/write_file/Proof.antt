@@ -10,7 +10,7 @@ use borrow.Author.Rules.{rules}
 use Rattle.lists.specs.Parts.{overlay}
 use Rattle.lists.proofs.PartLaws.{overlay_nil}
 use Rattle.sorting.specs.RowLists.{rows_at}
-use Rattle.csv.specs.Csv.{header_size, csv_rows}
+use Rattle.csv_file.specs.Csv.{header_size, csv_rows}
 use Rattle.export.proofs.Files.{file-size, file_written, lines, line-room, line_behind}
 use Rattle.export.proofs.write_file.Statement.{statement}
 use Rattle.export.proofs.write_file.Tie as tie

@@ -120,12 +120,14 @@ module _ (s : Settings) where
   slot_bounded n j p k c (in_d _ r swap_d) x h = h.read.0.bounded
   slot_bounded n j p k c (in_d _ r (slot_d i)) x h = h.read.0.bounded
   slot_bounded n j p k c (in_d _ r (state i)) x h = h.read.0.bounded
+  slot_bounded n j p k c _ x h = elim x [ ]
 
   past_state_bounded :
       (n j p : ℕ) (k : Task) (c : Cells) (pc : PC) → PastState n j pc → ReadFacts s pc c p k
       → k.reads.directory.stamp ≤ c.directory.stamp
   past_state_bounded n j p k c (in_d _ r swap_d) x h = h.read.0.bounded
   past_state_bounded n j p k c (in_d _ r (state i)) x h = h.read.0.bounded
+  past_state_bounded n j p k c _ x h = elim x [ ]
 
   -- ---- all cells
 

@@ -252,13 +252,13 @@ module _ (n : ℕ) where
     at_position : position n x ≡ i
 
   -- a run to the plan's end
-  run_at : {x : PC} {l : List PC} {q : List Phase} → Here x → Sequence x l q (check_s two two) → (k : ℕ) →
+  run_at : {x : PC} {l : List PC} {q : List Phase} → Sequence x l q (check_s two two) → Here x → (k : ℕ) →
       PlanStep (position n x + min k (suc (length l))) (get_or (phase_of x ∷ q) k check_state) (get_or (x ∷ l) k over) (get_or l k over)
-  run_at h stop zero = record { phased = refl; here = h; next = λ q. refl; at_position = omega arith }
-  run_at h stop (suc k) = record { phased = refl; here = (tt, tt); next = λ q. refl; at_position = omega arith }
-  run_at h (go g s r) zero = record { phased = refl; here = h; next = s.next; at_position = omega arith }
-  run_at h (go g s r) (suc k) =
-      let t = run_at g r k in record { phased = t.phased; here = t.here; next = t.next; at_position = omega arith }
+  run_at stop h zero = record { phased = refl; here = h; next = λ q. refl; at_position = omega arith }
+  run_at stop h (suc k) = record { phased = refl; here = (tt, tt); next = λ q. refl; at_position = omega arith }
+  run_at (go g s r) h zero = record { phased = refl; here = h; next = s.next; at_position = omega arith }
+  run_at (go g s r) h (suc k) =
+      let t = run_at r g k in record { phased = t.phased; here = t.here; next = t.next; at_position = omega arith }
 
   run_length :
       {x z : PC} {l : List PC} {q : List Phase} → Sequence x l q z → (position n x + length l ≡ position n z) × (length q ≡ length l)
@@ -277,7 +277,7 @@ plan_length n = omega (arith, run_length n (plan_run n))
 
 counter_at : (n k : ℕ) → PlanStep n (min k (12 * n + 33)) (phase n k) (counter n k) (counter n (suc k))
 unfolding phase plan counter counters
-counter_at n k = rw (sym (counters_length n)) (rw zero-add at (run_at n (tt, tt) (plan_run n) k))
+counter_at n k = rw (sym (counters_length n)) (rw zero-add at (run_at n (plan_run n) (tt, tt) k))
 
 pub counter_phase : (n k : ℕ) → phase n k ≡ phase_of (counter n k)
 counter_phase n k = (counter_at n k).phased

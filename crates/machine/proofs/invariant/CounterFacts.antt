@@ -111,13 +111,16 @@ under_after_d p two = tt
 pub slot_toggle : (n j : ℕ) (pc : PC) → HasSlotB n j pc → HasToggle pc
 slot_toggle n j (in_b p r swap) h = tt
 slot_toggle n j (in_b p r (slot_b i)) h = tt
+slot_toggle n j _ h = elim h [ ]
 
 pub past_slot : (n j : ℕ) (pc : PC) → j < n → PastState n j pc → HasSlotD n j pc
 past_slot n j (in_d p r swap_d) l h = l
 past_slot n j (in_d p r (state i)) l h = l
+past_slot n j _ l h = elim h [ ]
 
 pub rounds_under : (pc : PC) → Rounds pc → UnderWay pc
 rounds_under (in_b p r x) h = tt
+rounds_under _ h = elim h [ ]
 
 -- what has just been read is outdated in no round one
 pub outdated_now : (r : Two) (now : ℕ) → Outdated r now now → IsTwo r
@@ -126,12 +129,15 @@ outdated_now two now h = tt
 
 pub flip_seen_rounds : (i now : ℕ) (pc : PC) → FlipSeen i now pc → Rounds pc
 flip_seen_rounds i now (in_b p r x) h = tt
+flip_seen_rounds i now _ h = elim h [ ]
 
 pub toggle_rounds : (pc : PC) → HasToggle pc → Rounds pc
 toggle_rounds (in_b p r x) h = tt
+toggle_rounds _ h = elim h [ ]
 
 pub rounds_holds : (pc : PC) → Rounds pc → HoldsBucket pc
 rounds_holds (in_b p r x) h = tt
+rounds_holds _ h = elim h [ ]
 
 pub update_seen_under : (i now : ℕ) (pc : PC) → UpdateSeen i now pc → UnderWay pc
 update_seen_under i now (read_d p) h = tt
@@ -140,6 +146,7 @@ update_seen_under i now (check_d p c) h = tt
 update_seen_under i now (check_s p c) h = tt
 update_seen_under i now (in_b p r x) h = tt
 update_seen_under i now (in_d p r x) h = tt
+update_seen_under i now _ h = elim h [ ]
 
 pub update_seen_before : (p r : Two) (i now : ℕ) → UpdateSeen i now (after_b p r) → UpdateSeen i now (in_b p r swap)
 update_seen_before p one i now h = h
@@ -152,9 +159,11 @@ update_seen_two two r i now copy_d h = tt
 update_seen_two two r i now swap_d h = tt
 update_seen_two two r i now (slot_d m) h = tt
 update_seen_two two r i now (state m) h = tt
+update_seen_two one r i now _ h = elim h [ ]
 
 pub second_rounds : (pc : PC) → Second pc → Rounds pc
 second_rounds (in_b p r x) h = tt
+second_rounds _ h = elim h [ ]
 
 pub second_flip_seen : (i now : ℕ) (pc : PC) → Second pc → FlipSeen i now pc
 second_flip_seen i now (in_b p one x) h = absurd h.0
@@ -162,6 +171,7 @@ second_flip_seen i now (in_b p two read_s) h = tt
 second_flip_seen i now (in_b p two read_t) h = tt
 second_flip_seen i now (in_b p two swap) h = tt
 second_flip_seen i now (in_b p two (slot_b l)) h = tt
+second_flip_seen i now _ h = elim h [ ]
 
 -- a directory that is read now is still current
 pub announced_now : (p r : Two) (i : ℕ) → AnnouncedBefore p r i i → EitherTwo p r
@@ -172,6 +182,7 @@ announced_now two r i h = tt
 pub blocked_now : (p r : Two) (i : ℕ) → BlockedBefore p r i i → BothTwo p r
 blocked_now two one i h = h refl
 blocked_now two two i h = tt
+blocked_now one r i h = elim h [ ]
 
 -- one that was read has been swapped since
 pub announced_since : (p r : Two) {i now : ℕ} → i ≢ now → AnnouncedBefore p r i now
@@ -181,6 +192,7 @@ announced_since two r h = tt
 
 pub blocked_since : (p : Two) {i now : ℕ} → i ≢ now → BothTwo p two → BlockedBefore p one i now
 blocked_since two h l = h
+blocked_since one h l = elim l [ ]
 
 -- past the last directory read, everybody has read its update and splits its bucket
 pub last_bucket_split : (m now : ℕ) (pc : PC) → LastRound pc → BucketSplit m now pc × UpdateSeen m now pc
@@ -190,3 +202,4 @@ last_bucket_split m now (in_d two two copy_d) h = absurd h.1
 last_bucket_split m now (in_d two two swap_d) h = (tt, tt)
 last_bucket_split m now (in_d two two (slot_d l)) h = (tt, tt)
 last_bucket_split m now (in_d two two (state l)) h = (tt, tt)
+last_bucket_split m now _ h = elim h [ ]

@@ -27,6 +27,7 @@ under_announced s c j k (check_d p x) u f = f
 under_announced s c j k (check_s p x) u f = f
 under_announced s c j k (in_b p r x) u f = f
 under_announced s c j k (in_d p r x) u f = f
+under_announced s c j k _ u f = elim u [ ]
 
 pub announced_on : {s : Settings} {c : Cells} {j : ℕ} {k : Task} {pc : PC} {r : Reads} → Announced s c j k → Announced s c j (goes k pc r)
 announced_on a = record { wanted = a.wanted; asks = a.asks; slot = a.slot }
@@ -42,6 +43,7 @@ holds_hold s c j k look₂ h f = f
 holds_hold s c j k (flip p) h f = f.0
 holds_hold s c j k (check_s p x) h f = f.0
 holds_hold s c j k (in_b p r x) h f = f.hold
+holds_hold s c j k _ h f = elim h [ ]
 
 module _ (s : Settings) where
   -- What a step that changes only worker w's task, from k to k', has to keep.

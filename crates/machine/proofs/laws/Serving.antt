@@ -24,6 +24,7 @@ use Rattle.machine.proofs.moments.Explain.{serve_all, answers_of}
 -- ---- lists that grow at their end
 
 pub member_left : {A : Type 0} (x y : A) (l : List A) → Member x l → Member x (l ++ y ∷ [])
+member_left x y [] m = elim m [ ]
 member_left x y (z ∷ l) (inl e) = inl e
 member_left x y (z ∷ l) (inr m) = inr (member_left x y l m)
 
@@ -33,6 +34,7 @@ member_last y (z ∷ l) = inr (member_last y l)
 
 pub member_snoc : {A : Type 0} (x y : A) (l : List A) → Member x (l ++ y ∷ []) → Member x l ⊎ (x ≡ y)
 member_snoc x y [] (inl e) = inr e
+member_snoc x y [] (inr m) = elim m [ ]
 member_snoc x y (z ∷ l) (inl e) = inl (inl e)
 member_snoc x y (z ∷ l) (inr m) = ⊎_elim (λ h. inl (inr h)) inr (member_snoc x y l m)
 
@@ -63,6 +65,7 @@ module _ (s : Settings) (tasks : ℕ → Task) where
       → Member (i, r) (answers_of s tasks t js) ⊎ ((i ≡ j) × (r ≡ (serve_if s (tasks j).operation (serve_all s tasks t js)).0))
   unfolding serve_all answers_of
   answers_snoc t [] j i r (inl e) = inr (ap (λ x. x.0) e, ap (λ x. x.1) e)
+  answers_snoc t [] j i r (inr m) = elim m [ ]
   answers_snoc t (h ∷ js) j i r (inl e) = inl (inl e)
   answers_snoc t (h ∷ js) j i r (inr m) = go (answers_snoc t' js j i r m)
     where
@@ -78,11 +81,13 @@ module _ (s : Settings) (tasks : ℕ → Task) where
 
   pub answers_member : (t : Table) (js : List ℕ) (i : ℕ) (r : Answer) → Member (i, r) (answers_of s tasks t js) → Member i js
   unfolding answers_of
+  answers_member t [] i r m = elim m [ ]
   answers_member t (j ∷ js) i r (inl e) = inl (ap (λ x. x.0) e)
   answers_member t (j ∷ js) i r (inr m) = inr (answers_member (serve_if s (tasks j).operation t).1 js i r m)
 
   pub member_answers : (t : Table) (js : List ℕ) (i : ℕ) → Member i js → (r : Answer) × Member (i, r) (answers_of s tasks t js)
   unfolding answers_of
+  member_answers t [] i m = elim m [ ]
   member_answers t (j ∷ js) i (inl e) = let r = (serve_if s (tasks j).operation t).0 in (r, inl (ap (λ x. (x, r)) e))
   member_answers t (j ∷ js) i (inr m) = let h = member_answers (serve_if s (tasks j).operation t).1 js i m in (h.0, inr h.1)
 

@@ -49,7 +49,7 @@ check_in (Stepped.Refused r) = 0
 
 -- an update is answered at a check
 at_check :
-    {s : Settings} {w : ℕ} {c c' : Cells} {k k' : Task} {a : Answer} → Transition s w c k c' k' (some a) → Proper k.pc
+    {s : Settings} {w : ℕ} {c : Cells} {k : Task} {c' : Cells} {k' : Task} {a : Answer} → Transition s w c k c' k' (some a) → Proper k.pc
     → (p : Two) × ((x : Two) × (k.pc ≡ check_s p x))
 at_check (finds e) h = absurd (subst Proper e h)
 at_check (answers p x a e q) h = (p, (x, e))

@@ -136,6 +136,7 @@ module _ (s : Settings) (w : ℕ) (wn : w < s.workers) (c : Cells) (tasks : ℕ 
 
       only : {A : Type 0} {x y : A} → Member x (y ∷ []) → x ≡ y
       only (inl g) = g
+      only (inr m) = elim m [ ]
 
   -- ---- steps without an answer
 

@@ -45,6 +45,7 @@ status_entry c j k (check_d p x) u = refl
 status_entry c j k (check_s p x) u = refl
 status_entry c j k (in_b p r x) u = refl
 status_entry c j k (in_d p r x) u = refl
+status_entry c j k _ u = elim u [ ]
 
 -- a worker that then goes from one step of its update to another, unanswered, has had what it had
 pub explained_goes :

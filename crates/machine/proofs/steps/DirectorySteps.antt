@@ -152,6 +152,7 @@ must_split s c j q (in_d two r copy_d) l a o = record { known = tt; update = a; 
 must_split s c j q (in_d two r swap_d) l a o = record { known = tt; update = a; blocked = o.blocked tt }
 must_split s c j q (in_d two r (slot_d i)) l a o = record { known = tt; update = a; blocked = o.blocked tt }
 must_split s c j q (in_d two r (state i)) l a o = record { known = tt; update = a; blocked = o.blocked tt }
+must_split s c j q _ l a o = elim l [ ]
 
 -- ---- the steps
 

@@ -63,6 +63,7 @@ module _ (s : Settings) (c : Cells) (j : ℕ) (k : Task) where
   bounded : (pc : PC) → HasToggle pc → ReadFacts s pc c j k → k.reads.state.stamp ≤ (own c k).state.stamp
   bounded (in_b p r swap) h f = f.seen.bounded
   bounded (in_b p r (slot_b l)) h f = f.seen.bounded
+  bounded _ h f = elim h [ ]
 
 -- ---- the swap
 

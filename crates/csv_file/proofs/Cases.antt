@@ -10,8 +10,8 @@ use Rattle.machine.specs.Choice.{if◌then◌else◌, ◌and◌}
 use Rattle.decimals.specs.Decimals.{digit, digits, digit_count_up_to, digit_count, decimal}
 use Rattle.numerals.specs.Numerals.{is_digit, digits_after, zero_then, numeral, plus, minus}
 use Rattle.numerals.specs.Cut.{before, parts_at}
-use Rattle.csv.specs.Csv.{csv_record, header, in_units, total_field, csv_row, csv_rows, csv_file}
-use Rattle.csv.specs.Reading.{two_digits, in_cents, cents_of, read_units, read_total, row_of, read_fields, read_ended, read_line, behind, read_lines, read_rows, behind_header, read_file}
+use Rattle.csv_file.specs.Csv.{csv_record, header, in_units, total_field, csv_row, csv_rows, csv_file}
+use Rattle.csv_file.specs.Reading.{two_digits, in_cents, cents_of, read_units, read_total, row_of, read_fields, read_ended, read_line, behind, read_lines, read_rows, behind_header, read_file}
 
 -- ---- what is written
 

@@ -2,9 +2,9 @@
 -- Rests on the contract of what is called.
 use borrow.Author.Rules.{rules}
 use Rattle.interface.specs.Numbers.{bytes}
-use Rattle.csv.specs.Csv.{csv_record, header}
-use Rattle.csv.proofs.write_header.Statement.{statement}
-use Rattle.csv.proofs.write_header.Tie as tie
+use Rattle.csv_file.specs.Csv.{csv_record, header}
+use Rattle.csv_file.proofs.write_header.Statement.{statement}
+use Rattle.csv_file.proofs.write_header.Tie as tie
 
 returns : tie.Need-returns
 unfolding header csv_record bytes

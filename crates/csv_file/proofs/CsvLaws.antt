@@ -7,12 +7,12 @@ use native.Mathlib.Omega.{arith}
 use lib.IntN.{ℤ}
 use Rattle.decimals.specs.Ascii.{minus_sign}
 use Rattle.decimals.specs.Decimals.{decimal}
-use Rattle.csv.specs.Csv.{total_field}
-use Rattle.csv.specs.Reading.{read_rows, read_file}
-use Rattle.csv.specs.Laws.{CsvLaws}
-use Rattle.csv.proofs.Sizes.{row_short}
-use Rattle.csv.proofs.Plain.{text_data, decimal_from, total_from}
-use Rattle.csv.proofs.ReadBack.{row_read, file_read}
+use Rattle.csv_file.specs.Csv.{total_field}
+use Rattle.csv_file.specs.Reading.{read_rows, read_file}
+use Rattle.csv_file.specs.Laws.{CsvLaws}
+use Rattle.csv_file.proofs.Sizes.{row_short}
+use Rattle.csv_file.proofs.Plain.{text_data, decimal_from, total_from}
+use Rattle.csv_file.proofs.ReadBack.{row_read, file_read}
 
 -- what a reader finds in a text was written in no other
 module _ {A : Type 0} (read : List ℕ → Option A) where

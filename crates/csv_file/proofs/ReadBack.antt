@@ -18,9 +18,9 @@ use Rattle.numerals.specs.Cut.{before, parts_at}
 use Rattle.numerals.proofs.NumeralLaws.{some_none}
 use Rattle.numerals.proofs.ReadBack.{digits_read, numeral_decimal}
 use Rattle.numerals.proofs.CutLaws.{cut_first, cut_none}
-use Rattle.csv.specs.Csv.{csv_record, header, in_units, total_field, csv_row, csv_rows, csv_file}
-use Rattle.csv.specs.Reading.{two_digits, in_cents, cents_of, read_units, read_total, row_of, read_fields, read_ended, read_line, behind, read_lines, read_rows, behind_header, read_file}
-use Rattle.csv.proofs.Plain.{From, none_below, joined, digits_from, decimal_from, units_from, total_from}
+use Rattle.csv_file.specs.Csv.{csv_record, header, in_units, total_field, csv_row, csv_rows, csv_file}
+use Rattle.csv_file.specs.Reading.{two_digits, in_cents, cents_of, read_units, read_total, row_of, read_fields, read_ended, read_line, behind, read_lines, read_rows, behind_header, read_file}
+use Rattle.csv_file.proofs.Plain.{From, none_below, joined, digits_from, decimal_from, units_from, total_from}
 
 -- two texts with a lower byte between them
 cut_two : (x low : ℕ) (xs ys : List ℕ) → x < low → From low xs → From low ys → parts_at x ([] ∷ []) (xs ++ x ∷ ys) ≡ xs ∷ ys ∷ []

@@ -5,8 +5,8 @@ use Rattle.std.specs.Int.Signed.{mag}
 use Rattle.lists.specs.Every.{Every}
 use Rattle.decimals.specs.Ascii.{space, quote, comma, tilde}
 use Rattle.decimals.specs.Decimals.{decimal}
-use Rattle.csv.specs.Csv.{total_field, csv_row, csv_file, longest_row}
-use Rattle.csv.specs.Reading.{read_rows, read_file}
+use Rattle.csv_file.specs.Csv.{total_field, csv_row, csv_file, longest_row}
+use Rattle.csv_file.specs.Reading.{read_rows, read_file}
 
 -- RFC 4180's TEXTDATA, of which a field without quotes is made: any character from space to tilde but quote and comma
 pub record TextData (b : ℕ) : Type 0 where

@@ -1,8 +1,8 @@
 -- `units`: a hundredth, with the sign. Rests on the definition of whole units.
 use mathlib.Core.Path.{refl}
-use Rattle.csv.specs.Units.{units_of}
-use Rattle.csv.proofs.units.Statement.{statement}
-use Rattle.csv.proofs.units.Tie as tie
+use Rattle.csv_file.specs.Units.{units_of}
+use Rattle.csv_file.proofs.units.Statement.{statement}
+use Rattle.csv_file.proofs.units.Tie as tie
 
 returns : tie.Need-returns
 unfolding units_of

@@ -9,7 +9,7 @@ use lib.Signed.{mag}
 use Rattle.decimals.specs.Ascii.{line_feed, carriage_return, comma, point}
 use Rattle.decimals.specs.Decimals.{digits, decimal}
 use Rattle.decimals.proofs.DecimalLaws.{length_digits, decimal_within}
-use Rattle.csv.specs.Csv.{csv_record, in_units, total_field, csv_row, longest_row}
+use Rattle.csv_file.specs.Csv.{csv_record, in_units, total_field, csv_row, longest_row}
 
 units_length : (n : ℕ) → length (in_units n) ≡ length (decimal (n / 100)) + 3
 unfolding in_units

@@ -8,8 +8,8 @@ use Rattle.lists.specs.Every.{Every}
 use Rattle.lists.proofs.EveryLaws.{every_append, every_weaker}
 use Rattle.decimals.specs.Ascii.{minus_sign, point, zero_digit, nine_digit}
 use Rattle.decimals.specs.Decimals.{digit, digits, digit_count, decimal}
-use Rattle.csv.specs.Csv.{in_units, total_field}
-use Rattle.csv.specs.Laws.{TextData}
+use Rattle.csv_file.specs.Csv.{in_units, total_field}
+use Rattle.csv_file.specs.Laws.{TextData}
 
 -- every byte stands from `low` to the nine
 abbrev pub From : ℕ → List ℕ → Type 0

@@ -15,9 +15,9 @@ use Rattle.decimals.specs.Decimals.{digits, digit_count, decimal}
 use Rattle.decimals.specs.Signs.{sign_of, decimal_text}
 use Rattle.decimals.proofs.DecimalLaws.{length_digits, length_decimal}
 use Rattle.decimals.proofs.Overlays.{next, next_byte}
-use Rattle.csv.specs.Csv.{csv_record, in_units, total_field, csv_row}
-use Rattle.csv.specs.Units.{units_of, units_text}
-use Rattle.csv.proofs.Sizes.{row_length}
+use Rattle.csv_file.specs.Csv.{csv_record, in_units, total_field, csv_row}
+use Rattle.csv_file.specs.Units.{units_of, units_text}
+use Rattle.csv_file.proofs.Sizes.{row_length}
 
 -- ---- the source's cents
 

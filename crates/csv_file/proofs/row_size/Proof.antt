@@ -7,10 +7,10 @@ use mir.Facts.{to_z-of_z}
 use borrow.Author.Rules.{rules}
 use Rattle.decimals.specs.declared.Decimal.{Decimal}
 use Rattle.decimals.specs.Signs.{sign_of, decimal_text}
-use Rattle.csv.proofs.Sizes.{row_short}
-use Rattle.csv.proofs.UnitLaws.{text_length, row-size}
-use Rattle.csv.proofs.row_size.Statement.{statement}
-use Rattle.csv.proofs.row_size.Tie as tie
+use Rattle.csv_file.proofs.Sizes.{row_short}
+use Rattle.csv_file.proofs.UnitLaws.{text_length, row-size}
+use Rattle.csv_file.proofs.row_size.Statement.{statement}
+use Rattle.csv_file.proofs.row_size.Tie as tie
 
 returns : tie.Need-returns
 returns c =

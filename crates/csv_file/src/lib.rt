@@ -1,8 +1,9 @@
 // The exported file's header and rows: how many bytes a row takes, and both written into a caller's buffer.
+#![tactic(auto)]
 ghost use Rattle.std.specs.Prelude.{◌+◌, ◌≤◌, ◌≡◌, length};
 ghost use Rattle.lists.specs.Parts.{overlay};
-ghost use Rattle.csv.specs.Csv.{header, header_size, csv_row, longest_row};
-ghost use Rattle.csv.specs.Units.{units_of, units_text};
+ghost use Rattle.csv_file.specs.Csv.{header, header_size, csv_row, longest_row};
+ghost use Rattle.csv_file.specs.Units.{units_of, units_text};
 
 use decimals::{Decimal, digit_count, signed, spell, spell_decimal, width};
 use printers::copy;

@@ -7,9 +7,9 @@ use lib.ListN.{length, length-set}
 use borrow.Author.Rules.{rules}
 use Rattle.decimals.specs.declared.Decimal.{Decimal}
 use Rattle.decimals.specs.Signs.{decimal_text}
-use Rattle.csv.proofs.UnitLaws.{text_length, units_written}
-use Rattle.csv.proofs.write_total.Statement.{statement}
-use Rattle.csv.proofs.write_total.Tie as tie
+use Rattle.csv_file.proofs.UnitLaws.{text_length, units_written}
+use Rattle.csv_file.proofs.write_total.Statement.{statement}
+use Rattle.csv_file.proofs.write_total.Tie as tie
 
 room_for : (c : tie.After-width)
     → c.before.before.before.args.at + (c.width.result + 3) ≤ length c.before.before.before.args.out.now

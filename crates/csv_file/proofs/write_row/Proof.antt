@@ -8,12 +8,12 @@ use mir.Facts.{to_z-of_z}
 use borrow.Author.Rules.{rules}
 use Rattle.decimals.specs.Signs.{sign_of}
 use Rattle.decimals.proofs.DecimalLaws.{length_decimal}
-use Rattle.csv.specs.Csv.{csv_row}
-use Rattle.csv.specs.Units.{units_text}
-use Rattle.csv.proofs.Sizes.{row_length}
-use Rattle.csv.proofs.UnitLaws.{row-size, row_written}
-use Rattle.csv.proofs.write_row.Statement.{statement}
-use Rattle.csv.proofs.write_row.Tie as tie
+use Rattle.csv_file.specs.Csv.{csv_row}
+use Rattle.csv_file.specs.Units.{units_text}
+use Rattle.csv_file.proofs.Sizes.{row_length}
+use Rattle.csv_file.proofs.UnitLaws.{row-size, row_written}
+use Rattle.csv_file.proofs.write_row.Statement.{statement}
+use Rattle.csv_file.proofs.write_row.Tie as tie
 
 -- there is room for the account and a comma
 room_for : (c : tie.After-digit-count)
