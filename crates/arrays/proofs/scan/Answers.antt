@@ -1,0 +1,39 @@
+-- `scan` finds what the definition finds.
+use Prim.Native.Nat.{◌≤◌, ◌-◌}
+use native.Mathlib.Omega.{arith}
+use mathlib.Core.Path.{◌≡◌, refl, sym, ◌∙◌}
+use lib.ListN.{length, drop}
+use borrow.Author.Rules.{rules}
+use Rattle.arrays.specs.Arrays.{scan}
+use Rattle.arrays.proofs.Laws.{scan_hit, scan_before, scan_turn, scan_end}
+use Rattle.arrays.proofs.scan.Goals as goal
+
+pub loop-i-init : goal.loop-i-init
+loop-i-init c = (search rules, refl)
+
+pub returns-then-account-x-2 : goal.returns-then-account-x-2
+returns-then-account-x-2 c =
+    let at_loop = c.before.before.before.before in
+    let s = at_loop.args in
+    sym (scan_hit s.accounts.now s.account at_loop.loop-i.i (omega arith) (omega arith)) ∙ at_loop.loop-i.invariant.1
+
+pub returns-then-account-x : goal.returns-then-account-x
+returns-then-account-x c =
+    let at_loop = c.before.before.before.before in
+    let s = at_loop.args in
+    sym (scan_before s.accounts.now s.account at_loop.loop-i.i (omega arith) (omega (arith, c.if-account-x-2.false)))
+    ∙ at_loop.loop-i.invariant.1
+
+pub loop-i-preserved : goal.loop-i-preserved
+loop-i-preserved c =
+    let at_loop = c.before.before.before in
+    let s = at_loop.args in (
+      search rules,
+      sym (scan_turn s.accounts.now s.account at_loop.loop-i.i (omega arith) (omega arith)) ∙ at_loop.loop-i.invariant.1,
+    )
+
+pub returns : goal.returns
+returns c =
+    let at_loop = c.before in
+    let s = at_loop.args in
+    sym (scan_end s.accounts.now s.account at_loop.loop-i.i (omega arith)) ∙ at_loop.loop-i.invariant.1

@@ -1,0 +1,33 @@
+-- `search` scans the accounts that the state has, as `search_of` says.
+-- Rests on the limit of the count.
+use Prim.Native.Nat.{ℕ, ◌-◌, ◌≤◌}
+use native.Mathlib.Omega.{arith}
+use mathlib.Core.Path.{◌≡◌, ◌∙◌, ap}
+use lib.ListN.{length, take, length-take}
+use borrow.Author.Rules.{rules}
+use Rattle.bucket.specs.State.{array_size, size_of, search_of}
+use Rattle.arrays.specs.Arrays.{scan}
+use Rattle.bucket.proofs.Laws.{size_limit}
+use Rattle.bucket.proofs.BucketState.search.Goals as goal
+use Rattle.bucket.proofs.BucketState.search.Goals.{After-size-n}
+
+-- no more accounts than an array has items
+few : (c : After-size-n) → c.size-n.result ≤ array_size
+few c = rw c.size-n.ensures (size_limit _)
+
+-- DROPPED part-scan-end : tie.Need-slice-bounds-scan-end
+-- DROPPED part-scan-end c =
+-- DROPPED     let h = few c.before in
+-- DROPPED     let long : length c.before.before.before.args.self.accounts ≡ array_size = search rules in
+-- DROPPED     omega arith
+
+pub scan-requires : goal.scan-requires
+scan-requires c = let h = few c.before.before in rw length-take (omega arith)
+
+pub returns : goal.returns
+unfolding search_of
+returns c =
+    let size = c.before.before.before in
+    let s = size.args in
+    let all : size.size-n.result - 0 ≡ size_of s.self = omega (arith, size.size-n.ensures) in
+    c.scan.ensures ∙ ap (λ (n : ℕ). scan (take n s.self.accounts) s.account 0) all

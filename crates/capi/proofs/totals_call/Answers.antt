@@ -1,0 +1,15 @@
+-- `totals_call` gives the number of what `table::call` answers.
+-- Rests on the law of a number.
+use borrow.Author.Rules.{rules}
+use mathlib.Core.Path.{◌∙◌, ap}
+use mir.Facts.{to_z-of_z}
+use Rattle.calls.specs.Calls.{call_words}
+use Rattle.numbers.specs.Returned.{called_number}
+use Rattle.capi.proofs.Laws.{flat_is}
+use Rattle.capi.proofs.totals_call.Goals as goal
+
+pub returns : goal.returns
+returns c =
+    let call = c.before.before.before in
+    let start = call.before.before.before in
+    flat_is called_number _ _ _ _ (call.call-answer.ensures ∙ ap (call_words _ _ _ _) (to_z-of_z start.ranges.total)) c.called_number.ensures

@@ -1,0 +1,13 @@
+-- `totals_export` gives the number and the report of what `table::export` answers.
+-- Rests on the law of a number and a report.
+use borrow.Author.Rules.{rules}
+use Rattle.numbers.specs.Returned.{exported_number, exported_report}
+use Rattle.capi.proofs.Laws.{reported_is}
+use Rattle.capi.proofs.totals_export.Goals as goal
+
+pub returns : goal.returns
+returns c =
+    let at_number = c.before.before in
+    let at_export = at_number.before.before.before.before in
+    let n = at_number.exported_number.ensures in
+    reported_is exported_number _ _ _ _ at_export.export-answer.ensures n.1 exported_report _ _ n.0

@@ -1,0 +1,9 @@
+-- `totals_open` gives the number of what `table::open` answers.
+-- Rests on the law of a number.
+use borrow.Author.Rules.{rules}
+use Rattle.numbers.specs.Returned.{opened_number}
+use Rattle.capi.proofs.Laws.{flat_is}
+use Rattle.capi.proofs.totals_open.Goals as goal
+
+pub returns : goal.returns
+returns c = flat_is opened_number _ _ _ _ c.before.before.before.«open».ensures c.opened_number.ensures

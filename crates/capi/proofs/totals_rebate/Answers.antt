@@ -1,0 +1,9 @@
+-- `totals_rebate` gives what `table::rebate` gives.
+use mathlib.Core.Path.{◌∙◌, ap}
+use mir.Facts.{to_z-of_z}
+use borrow.Author.Rules.{rules}
+use Rattle.rebate.specs.Rebate.{rebate_on}
+use Rattle.capi.proofs.totals_rebate.Goals as goal
+
+pub returns : goal.returns
+returns c = c.rebate.ensures ∙ ap rebate_on (to_z-of_z c.ranges.total)

@@ -1,0 +1,12 @@
+-- `totals_rebates` writes what `table::rebates` writes, and gives the number and the report of what it answers.
+-- Rests on the law of the rebates.
+use borrow.Author.Rules.{rules}
+use Rattle.capi.proofs.Laws.{written_rebates_is}
+use Rattle.capi.proofs.totals_rebates.Goals as goal
+
+pub returns : goal.returns
+returns c =
+    let at_number = c.before.before in
+    let at_rebates = at_number.before.before.before.before.before.before in
+    let number = at_number.listed_number.ensures in
+    written_rebates_is _ _ _ _ _ _ _ at_rebates.rebates-answer.ensures number.1 number.0

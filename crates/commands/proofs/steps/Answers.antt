@@ -1,0 +1,32 @@
+-- `steps`: two numbers, of which the second has a least value too.
+-- Rests on the laws that it cites and on the contracts of what is called.
+use mathlib.Core.Path.{◌≡◌, sym, ◌∙◌, ap}
+use mathlib.Core.Option.{some}
+use borrow.Author.Tests.{le-leb, lt-leb}
+use borrow.Author.Rules.{rules}
+use Rattle.machine.specs.Choice.{if◌then◌else◌}
+use Rattle.commands.specs.declared.Command.TheVariants.{Steps}
+use Rattle.numerals.specs.Numerals.{numeral, up_to, from}
+use Rattle.commands.specs.Commands.{least_steps, greatest_steps, small_of, steps_of, with2}
+use Rattle.commands.proofs.Pairs.{pair_some, unread2}
+use Rattle.commands.proofs.steps.Goals as goal
+use Rattle.commands.proofs.steps.Goals.{In-Values}
+
+both_read : (c : In-Values) →
+    let p = c.before.before.before in
+    let s = p.before.before.before in
+    let v = c.before.w.given.0 in
+    (small_of s.args.x.now ≡ some v.0) × (up_to greatest_steps (numeral s.args.y.now) ≡ some v.1.0)
+both_read c = pair_some _ _ _ _ (sym c.in-Values.is ∙ c.read_pair.ensures)
+
+pub returns-in_default : goal.returns-in_default
+unfolding steps_of from
+returns-in_default c = unread2 Steps _ _ _ (ap (from least_steps)) (sym c.in_default.is ∙ c.read_pair.ensures)
+
+pub returns-then-k-lt-LEAST_STEPS : goal.returns-then-k-lt-LEAST_STEPS
+unfolding steps_of from with2 if◌then◌else◌
+returns-then-k-lt-LEAST_STEPS c = let b = both_read c.before in rw (b.0, b.1, lt-leb least_steps _ c.if-k-lt-LEAST_STEPS.true)
+
+pub returns : goal.returns
+unfolding steps_of from with2 if◌then◌else◌
+returns c = let b = both_read c.before in rw (b.0, b.1, le-leb least_steps _ c.if-k-lt-LEAST_STEPS.false)

@@ -1,0 +1,96 @@
+-- `write_row`: an account, a comma, a total and the line's end, each behind the one before.
+-- Rests on the laws that it cites and on the contracts of what is called.
+use Prim.Native.Nat.{◌+◌, ◌≤◌, ◌<◌}
+use mathlib.Core.Path.{◌≡◌, ◌∙◌, ap}
+use native.Mathlib.Omega.{arith}
+use lib.ListN.{length, length-set}
+use mir.Facts.{to_z-of_z}
+use borrow.Author.Rules.{rules}
+use Rattle.decimals.specs.Signs.{sign_of}
+use Rattle.decimals.proofs.DecimalLaws.{length_decimal}
+use Rattle.csv_file.specs.Csv.{csv_row}
+use Rattle.csv_file.specs.Units.{units_text}
+use Rattle.csv_file.proofs.Sizes.{row_length}
+use Rattle.csv_file.proofs.UnitLaws.{row-size, row_written}
+use Rattle.csv_file.proofs.write_row.Goals as goal
+use Rattle.csv_file.proofs.write_row.Goals.{After-digit_count-k, After-signed, After-write_total-end, Start}
+
+-- there is room for the account and a comma
+room_for : (c : After-digit_count-k)
+    → c.args.at + c.digit_count-k.result < length c.args.out.now
+room_for c =
+    let s = c.before.before in
+    let a = s.args.account in
+    omega (arith, s.requires, row_length a s.args.total, length_decimal a, c.digit_count-k.ensures.0)
+
+abbrev counted : After-signed → After-digit_count-k
+counted c = c.before.before.before.before.before.before
+
+abbrev start : After-signed → Start
+start c = (counted c).before.before
+
+cents : (c : After-signed) → c.signed.result ≡ sign_of (start c).args.total
+cents c = c.signed.ensures ∙ ap sign_of (to_z-of_z (start c).ranges.total)
+
+size_of : (c : After-signed)
+    → length (csv_row (start c).args.account (start c).args.total)
+    ≡ (counted c).digit_count-k.result + 1 + length (units_text c.signed.result) + 2
+size_of c =
+    omega (
+      arith,
+      row-size (start c).args.account (start c).args.total c.signed.result (cents c),
+      (counted c).digit_count-k.ensures.0,
+    )
+
+pub spell-requires : goal.spell-requires
+spell-requires c = let h = room_for c.before in omega arith
+
+pub bounds-out-comma : goal.bounds-out-comma
+bounds-out-comma c = let h = room_for c.before.before.before.before in omega (arith, c.spell.auto.0)
+
+pub write_total-end-requires : goal.write_total-end-requires
+write_total-end-requires c =
+    let n = size_of c in
+    simp length-set (omega (arith, (start c).requires, c.spell.auto.0))
+
+-- the buffer is as long as at first, and has room for the line's end
+last_length : (c : After-write_total-end) → length c.write_total-end.new.0 ≡ length (start c.before).args.out.now
+last_length c = c.write_total-end.auto.0 ∙ simp length-set c.spell.auto.0
+
+end_of : (c : After-write_total-end)
+    → c.write_total-end.result + 2
+    ≡ (start c.before).args.at + length (csv_row (start c.before).args.account (start c.before).args.total)
+end_of c = let n = size_of c.before in omega (arith, c.write_total-end.ensures.1)
+
+room_behind : (c : After-write_total-end) → c.write_total-end.result + 2 ≤ length (start c.before).args.out.now
+room_behind c = let e = end_of c in omega (arith, (start c.before).requires)
+
+pub bounds-out-end : goal.bounds-out-end
+bounds-out-end c = let h = room_behind c.before.before in let n = last_length c.before.before in omega arith
+
+pub overflow_add-out : goal.overflow_add-out
+overflow_add-out c = let h = room_behind c.before.before in omega (arith, (start c.before.before.before).well-formed)
+
+pub bounds-out-end-2 : goal.bounds-out-end-2
+bounds-out-end-2 c =
+    let h = room_behind c.before.before in
+    let n = last_length c.before.before in
+    simp length-set (omega arith)
+
+pub overflow_add-result : goal.overflow_add-result
+overflow_add-result c = let h = room_behind c.before.before in omega (arith, (start c.before.before.before).well-formed)
+
+pub shape_of-out : goal.shape_of-out
+shape_of-out c = simp length-set (last_length c.before.before)
+
+pub returns : goal.returns
+returns c =
+    let total = c.before.before in
+    let s = start total.before in
+    let k = counted total.before in (
+      row_written s.args.out.now s.args.at s.args.account s.args.total total.signed.result
+          k.digit_count-k.result total.write_total-end.result (cents total.before) k.digit_count-k.ensures.0 s.requires
+          total.spell.ensures total.write_total-end.ensures.0
+          total.write_total-end.ensures.1,
+      end_of total,
+    )

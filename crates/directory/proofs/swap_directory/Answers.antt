@@ -1,0 +1,52 @@
+-- `swap_directory` resolves the marked buckets, if the directory is still the one that was read.
+-- Rests on the outcomes of the tests.
+use native.Mathlib.Omega.{arith}
+use mathlib.Core.Path.{◌≡◌, sym, ◌∙◌, ap}
+use mathlib.Core.Logic.{⊎_elim}
+use lib.ListN.{length}
+use borrow.Author.Tests.{not-false, not-true}
+use Rattle.machine.specs.Choice.{if◌then◌else◌}
+use Rattle.layout.proofs.Positions.{long}
+use Rattle.directory.proofs.DirectoryLaws.{whole_else, redirected_not, redirected_done}
+use borrow.Author.Rules.{rules}
+use Rattle.directory.proofs.swap_directory.Goals as goal
+use Rattle.directory.proofs.swap_directory.Goals.{Joined-not-nothing}
+
+-- after the splits, if there are any, as many words as before
+same :
+    (c : Joined-not-nothing)
+    → length c.if-not-nothing.words ≡ length
+    c.args.words.now
+same c = ⊎_elim (λ w. ap length w.5 ∙ search rules) (λ w. ap length w.1) c.if-not-nothing.either
+
+pub returns-then-worker_word-get : goal.returns-then-worker_word-get
+returns-then-worker_word-get c = redirected_not _ _ _ _ _ c.worker_word.ensures c.get.ensures c.if-worker_word-get.true
+
+pub resolve-requires : goal.resolve-requires
+resolve-requires c =
+    let start = c.before.before.before.before.before.before.before.before.before.before.before.before in
+    (whole_else _ _ _ start.requires.0 (sym c.nothing.ensures ∙ not-true _ c.if-not-nothing.true), start.requires.1)
+
+pub put-requires : goal.put-requires
+put-requires c =
+    let start = c.before.before.before.before.before.before.before.before.before.before.before.before in
+    let h = same c.before in
+    omega (arith, long start.requires.0)
+
+pub shape_of-words : goal.shape_of-words
+shape_of-words c = let h = same c.before.before.before.before in search rules
+
+pub returns : goal.returns
+unfolding if◌then◌else◌
+returns c =
+    let put = c.before.before in
+    let joined = put.before.before in
+    let idle = joined.before in
+    let fresh = idle.before.before in
+    let tested = fresh.before.before in
+    let read = tested.before.before.before in
+    redirected_done _ _ _ _ _ read.worker_word.ensures tested.get.ensures joined.if-not-nothing.words _ _ idle.nothing.result
+    tested.if-worker_word-get.false fresh.fresh_directory-x.ensures idle.nothing.ensures put.put.ensures
+    (⊎_elim (λ w. rw (w.5, w.2.ensures, not-true idle.nothing.result w.0.taken))
+    (λ w. rw (w.1, not-false idle.nothing.result w.0.left))
+    joined.if-not-nothing.either)

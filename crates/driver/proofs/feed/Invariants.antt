@@ -1,0 +1,39 @@
+-- `feed`: the loop's invariant is that feeding the bytes left comes to feeding all; the measure is how many are left.
+-- Rests on the laws of feeding and on the contracts of what is called.
+use Prim.Native.Nat.{◌≤◌, ◌-◌}
+use mathlib.Core.Path.{◌≡◌, refl, ◌∙◌, ap}
+use mathlib.Core.Logic.{⊎_elim}
+use lib.ListN.{length, drop}
+use borrow.Author.Rules.{rules}
+use Rattle.driver.specs.Feeding.{Feeding, fed}
+use Rattle.driver.proofs.Bytes.{same_feeding, fed_end, fed_full, fed_next, took_line, took_byte}
+use Rattle.driver.proofs.feed.Given as goal
+
+abbrev pub invariant-loop-i : goal.invariant-loop-i
+invariant-loop-i l =
+    (l.i ≤ length l.input)
+    × (((length l.words ≡ length l.initial.words) × ((length l.accounts ≡ length l.initial.accounts)
+    × ((length l.totals ≡ length l.initial.totals) × (length l.out ≡ length l.initial.out))))
+    × (◌≡◌ {A = Feeding} (fed (record {
+      state = record {
+        l.words = l.words;
+        l.accounts = l.accounts;
+        l.totals = l.totals;
+        output = record { bytes = l.out; l.used = l.used };
+      };
+      l.reader = l.reader;
+      taken = l.i;
+    }) (drop l.i l.input))
+    (fed (record {
+      state = record {
+        l.words = l.initial.words;
+        l.accounts = l.initial.accounts;
+        l.totals = l.initial.totals;
+        output = record { bytes = l.initial.out; l.used = 0 };
+      };
+      l.reader = l.initial.reader;
+      taken = 0;
+    }) l.input)))
+
+abbrev pub decreases-loop-i : goal.decreases-loop-i
+decreases-loop-i l = length l.input - l.i

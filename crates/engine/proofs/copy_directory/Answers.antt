@@ -1,0 +1,12 @@
+-- `copy_directory` keeps the directory's number, with no marks.
+-- Rests on nothing but the definition.
+use Rattle.engine.specs.Engine.{directory_read_at}
+use borrow.Author.Rules.{rules}
+use Rattle.engine.proofs.copy_directory.Goals as goal
+
+pub returns : goal.returns
+unfolding directory_read_at
+returns c =
+    let second = c.before.before in
+    let first = second.before.before.before.before in
+    rw (second.put-worker-word2.ensures, first.put_worker_word.ensures, first.get.ensures)

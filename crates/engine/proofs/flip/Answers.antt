@@ -1,0 +1,34 @@
+-- `flip` changes the worker's bit in the toggle of the record that it holds.
+-- Rests on the bound of a held record.
+use Prim.Native.Nat.{◌+◌, ◌≤◌}
+use native.Mathlib.Omega.{arith}
+use lib.ListN.{length}
+use Rattle.fields.specs.Fields.{widest_record}
+use Rattle.engine.specs.Engine.{flipped_at}
+use Rattle.layout.proofs.Positions.{held_inside}
+use borrow.Author.Rules.{rules}
+use Rattle.engine.proofs.flip.Goals as goal
+use Rattle.engine.proofs.flip.Goals.{After-held_by-q}
+
+-- the record that the worker holds is inside the words
+inside : (c : After-held_by-q) → c.held_by-q.result + widest_record ≤ length c.args.words.now
+inside c = let start = c.before.before.before in rw c.held_by-q.ensures (held_inside start.requires.0 _)
+
+pub overflow_add-q : goal.overflow_add-q
+overflow_add-q c = let h = inside c.before in omega arith
+
+pub overflow_add-q-2 : goal.overflow_add-q-2
+overflow_add-q-2 c = let h = inside c.before.before in omega arith
+
+pub get-requires : goal.get-requires
+get-requires c = let h = inside c.before.before in omega arith
+
+pub put-requires : goal.put-requires
+put-requires c = let h = inside c.before.before.before.before in omega arith
+
+pub returns : goal.returns
+unfolding flipped_at
+returns c =
+    let put = c.before.before in
+    let read = put.before.before in
+    rw (put.put.ensures, put.flip_bit.ensures, read.get.ensures, read.held_by-q.ensures)

@@ -1,0 +1,11 @@
+-- `read_directory` keeps the record of the account's bucket.
+-- Rests on nothing but the definition.
+use Rattle.layout.specs.Addresses.{bucket_read_at}
+use borrow.Author.Rules.{rules}
+use Rattle.engine.proofs.read_directory.Goals as goal
+
+pub returns : goal.returns
+unfolding bucket_read_at
+returns c =
+    let put = c.before.before in
+    rw (put.put_worker_word.ensures, put.record_of-q.ensures, put.worker_word.ensures)

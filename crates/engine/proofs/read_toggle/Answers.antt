@@ -1,0 +1,9 @@
+-- `read_toggle` keeps the toggle of the record that the worker holds.
+-- Rests on nothing but the definition.
+use Rattle.engine.specs.Engine.{toggle_read_at}
+use borrow.Author.Rules.{rules}
+use Rattle.engine.proofs.read_toggle.Goals as goal
+
+pub returns : goal.returns
+unfolding toggle_read_at
+returns c = let put = c.before.before in rw (put.put_worker_word.ensures, put.held_word.ensures)

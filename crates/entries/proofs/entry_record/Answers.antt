@@ -1,0 +1,23 @@
+-- `entry_record` reads the record that an entry names, as `entry_record` says.
+-- Rests on the bounds of words that fit.
+use native.Mathlib.Omega.{arith}
+use Rattle.entries.specs.Entries.{entry_record}
+use Rattle.layout.proofs.Positions.{start_bound}
+use Rattle.entries.proofs.EntryLaws.{span_limit}
+use borrow.Author.Rules.{rules}
+use Rattle.entries.proofs.entry_record.Reads as reads
+use Rattle.entries.proofs.entry_record.Lts as lts
+use Rattle.memory.proofs.get_or.Reads as get-or-reads
+use Rattle.layout.proofs.addresses.record_in.Reads as record-in-reads
+use Rattle.layout.proofs.shape.directory_start.Reads as directory-start-reads
+use Rattle.entries.proofs.entry_record.Goals as goal
+
+pub overflow_add-directory_start : goal.overflow_add-directory_start
+overflow_add-directory_start c =
+    let start = c.before.before in
+    let f = start.requires.0 in
+    omega (arith, start_bound start.args.g.workers f.workers, span_limit start.args.g.depth f.depth)
+
+pub returns : goal.returns
+unfolding entry_record
+returns c = rw (← c.directory_start.ensures, ← c.get_or.ensures) c.record_in.ensures

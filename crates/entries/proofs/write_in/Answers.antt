@@ -1,0 +1,103 @@
+-- `write_in` writes the rows of one entry.
+use Prim.Native.Nat.{ℕ, ◌≤◌, ◌<◌, ◌-◌, ◌%◌}
+use lib.ListN.{length}
+use native.Mathlib.Omega.{arith}
+use mathlib.Core.Path.{sym, ◌∙◌, ap}
+use mathlib.Core.Logic.{⊎_elim}
+use Rattle.entries.specs.Entries.{row_at}
+use Rattle.entries.proofs.EntryLaws.{Looked, looked, entry_inside, same_bits, Written, written_start, written_room, written_more, written_same, written_end}
+use Rattle.memory.proofs.Totals.{total_kept}
+use borrow.Author.Rules.{rules}
+use Rattle.entries.proofs.write_in.Reads as reads
+use Rattle.entries.proofs.write_in.Lts as lts
+use Rattle.memory.proofs.get.Reads as get-reads
+use Rattle.memory.proofs.total_of.Reads as total-of-reads
+use Rattle.rules.proofs.first_bits.Reads as first-bits-reads
+use Rattle.entries.proofs.entry_record.Reads as entry-record-reads
+use Rattle.layout.proofs.addresses.size.Reads as size-reads
+use Rattle.entries.proofs.write_in.Goals as goal
+use Rattle.entries.proofs.write_in.Goals.{Then-first_bits-e}
+
+pub size-c-requires : goal.size-c-requires
+size-c-requires c = let start = c.before.before.before in (start.requires.0, entry_inside _ _ start.requires.0 c.entry_record-q.ensures)
+
+pub loop-i-init : goal.loop-i-init
+loop-i-init c =
+    let start = c.before.before.before.before in
+    (looked _ _ _ start.requires.0 c.entry_record-q.ensures c.size-c.ensures, (search rules, written_start _ _ _ _ _ _ _))
+
+-- there is a place for one row more in each list
+room :
+    (c : Then-first_bits-e)
+    → let at_loop = c.before.before.before.before in
+    let s = at_loop.args in
+    (at_loop.loop-i.at < length s.accounts.now) × (at_loop.loop-i.at < length s.totals.now)
+room c =
+    let at_loop = c.before.before.before.before in
+    let s = at_loop.before.before.before.before.before in
+    let l = at_loop.loop-i in
+    let bits = same_bits s.args.words.now s.args.g _ l.i _ _ c.get-a.ensures
+    c.first_bits.ensures in
+    let hit = sym bits ∙ c.if-first_bits-e.true in
+    let test = c.loop-i-test.true in (
+      written_room _ _ _ _ _ _ _ _ _ _ _ l.invariant.1.1 _ _ l.invariant.0 hit test s.requires.1.1.0,
+      written_room _ _ _ _ _ _ _ _ _ _ _ l.invariant.1.1 _ _ l.invariant.0 hit test s.requires.1.1.1,
+    )
+
+pub offset_bounds-accounts-at : goal.offset_bounds-accounts-at
+offset_bounds-accounts-at c = let h = room c in omega arith
+
+pub bounds-accounts-at : goal.bounds-accounts-at
+bounds-accounts-at c = let h = room c in omega arith
+
+pub offset_bounds-totals-at : goal.offset_bounds-totals-at
+offset_bounds-totals-at c =
+    let here = c.before.before in
+    let h = room here in
+    let long = here.before.before.before.before.before.before.before.before.before.well-formed.1.1.1.1.1.0 in
+    omega arith
+
+pub bounds-totals-at : goal.bounds-totals-at
+bounds-totals-at c =
+    let here = c.before.before in
+    let h = room here in
+    let long = here.before.before.before.before.before.before.before.before.before.well-formed.1.1.1.1.1.0 in
+    omega arith
+
+pub overflow_add-at : goal.overflow_add-at
+overflow_add-at c =
+    let here = c.before.before in
+    let h = room here in
+    let long = here.before.before.before.before.before.before.before.before.before.well-formed.1.1.1.1.1.0 in
+    omega arith
+
+pub loop-i-preserved : goal.loop-i-preserved
+unfolding row_at
+loop-i-preserved c =
+    let at_loop = c.before.before.before.before in
+    let start = at_loop.before.before.before.before.before in
+    let s = start.args in
+    let l = at_loop.loop-i in
+    let q = at_loop.entry_record-q.result in
+    let get = c.get-a.ensures in
+    let same = same_bits s.words.now s.g q l.i _ _ get c.first_bits.ensures in
+    let test = c.loop-i-test.true in
+    let written = l.invariant.1.1 in (
+      l.invariant.0,
+      (
+        search rules,
+        ⊎_elim
+            (λ w.
+            let hit = sym same ∙ w.0.taken in
+            rw (w.3, w.4, w.5)
+            (written_more _ _ _ _ _ _ _ _ _ _ _ written _ _ hit (ap (λ (a : ℕ). a % 4_294_967_296) get)
+            (total_kept _ _ _ w.2.ensures w.1.ok w.1.ensures)
+            (written_room _ _ _ _ _ _ _ _ _ _ _ written _ _ l.invariant.0 hit test start.requires.1.1.0)
+            (written_room _ _ _ _ _ _ _ _ _ _ _ written _ _ l.invariant.0 hit test start.requires.1.1.1)))
+            (λ w. rw (w.1, w.2, w.3) (written_same _ _ _ _ _ _ _ _ _ _ _ written (λ h. w.0.left (same ∙ h))))
+            c.if-first_bits-e.either,
+      ),
+    )
+
+pub returns : goal.returns
+returns c = let l = c.loop-i in written_end _ _ _ _ _ _ _ _ _ _ _ l.invariant.1.1 _ l.invariant.0 l.invariant.1.0 c.loop-i-test.false

@@ -1,0 +1,36 @@
+-- `file_size` adds the rows' sizes.
+use Prim.Native.Nat.{◌+◌, ◌*◌, ◌-◌, ◌≤◌}
+use native.Mathlib.Nat.{le_antisymm}
+use native.Mathlib.Omega.{arith}
+use mathlib.Core.Path.{◌≡◌, refl, sym, ◌∙◌, ap}
+use lib.IntN.{ℤ, pos}
+use lib.ListN.{length, get_or}
+use mir.Facts.{to_z-of_z}
+use borrow.Author.Rules.{rules}
+use Rattle.sorting.specs.RowLists.{rows_at}
+use Rattle.csv_file.specs.Csv.{header_size, longest_row, csv_row, csv_rows}
+use Rattle.export.proofs.Files.{file-size, lines, lines_size}
+use Rattle.export.proofs.file_size.Goals as goal
+
+pub loop-i-init : goal.loop-i-init
+unfolding csv_rows rows_at
+loop-i-init c = (search rules, (refl, search rules))
+
+pub overflow_add-size : goal.overflow_add-size
+overflow_add-size c = omega (arith, c.row_size-size.ensures.1)
+
+pub loop-i-preserved : goal.loop-i-preserved
+loop-i-preserved c =
+    let at_loop = c.before.before.before.before in
+    let a = at_loop.args.accounts.now in
+    let t = at_loop.args.totals.now in
+    let i = at_loop.loop-i.i in
+    let kept : _ ≡ get_or t i (pos 0) = to_z-of_z (record { sfits = c.before.row-size-arg.given }) in
+    let e = c.row_size-size.ensures.0 ∙ ap (λ (z : ℤ). length (csv_row (get_or a i 0) z)) kept in
+    let n = lines_size a t i in
+    (search rules, (omega arith, omega (arith, c.row_size-size.ensures.1)))
+
+pub returns : goal.returns
+returns c =
+    let l = c.loop-i in
+    rw (le_antisymm l.invariant.0 c.loop-i-test.false) at l.invariant.1.0 ∙ sym (file-size _)

@@ -1,0 +1,21 @@
+-- `file_size` adds the rows' sizes. The loop's invariant: the size of the file of the first i rows, which is small; the measure: the rows
+-- left. Rests on the laws of files.
+use Prim.Native.Nat.{◌+◌, ◌*◌, ◌-◌, ◌≤◌}
+use native.Mathlib.Nat.{le_antisymm}
+use native.Mathlib.Omega.{arith}
+use mathlib.Core.Path.{◌≡◌, refl, sym, ◌∙◌, ap}
+use lib.IntN.{ℤ, pos}
+use lib.ListN.{length, get_or}
+use mir.Facts.{to_z-of_z}
+use borrow.Author.Rules.{rules}
+use Rattle.sorting.specs.RowLists.{rows_at}
+use Rattle.csv_file.specs.Csv.{header_size, longest_row, csv_row, csv_rows}
+use Rattle.export.proofs.Files.{file-size, lines, lines_size}
+use Rattle.export.proofs.file_size.Given as goal
+
+abbrev pub invariant-loop-i : goal.invariant-loop-i
+invariant-loop-i l =
+    (l.i ≤ l.k) × ((l.size ≡ header_size + length (lines l.accounts l.totals l.i)) × (l.size ≤ header_size + longest_row * l.i))
+
+abbrev pub decreases-loop-i : goal.decreases-loop-i
+decreases-loop-i l = l.k - l.i

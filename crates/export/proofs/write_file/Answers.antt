@@ -1,0 +1,62 @@
+-- `write_file` writes the rows one by one.
+use Prim.Native.Nat.{◌+◌, ◌-◌, ◌≤◌}
+use native.Mathlib.Nat.{le_antisymm}
+use native.Mathlib.Omega.{arith}
+use mathlib.Core.Path.{◌≡◌, refl, sym, ◌∙◌}
+use lib.ListN.{length}
+use mir.Facts.{to_z-of_z}
+use borrow.Author.Rules.{rules}
+use Rattle.lists.specs.Parts.{overlay}
+use Rattle.lists.proofs.PartLaws.{overlay_nil}
+use Rattle.sorting.specs.RowLists.{rows_at}
+use Rattle.csv_file.specs.Csv.{header_size, csv_rows}
+use Rattle.export.proofs.Files.{file-size, file_written, lines, line-room, line_behind}
+use Rattle.export.proofs.write_file.Goals as goal
+use Rattle.export.proofs.write_file.Goals.{Start}
+
+room_for : (s : Start)
+    → header_size + length (lines s.args.accounts.now s.args.totals.now s.args.k) ≤ length s.args.out.now
+room_for s = omega (arith, s.requires, file-size (rows_at s.args.accounts.now s.args.totals.now 0 s.args.k))
+
+pub write_header-requires : goal.write_header-requires
+write_header-requires c = let h = room_for c.before.before.before in omega arith
+
+pub loop-i-init : goal.loop-i-init
+unfolding csv_rows rows_at
+loop-i-init c = (search rules, (refl, (refl, sym (overlay_nil _ _))))
+
+pub write_row-at-requires : goal.write_row-at-requires
+write_row-at-requires c =
+    let at_loop = c.before.before.before.before in
+    let header = at_loop.before.before.before in
+    let s = header.before.before.before.before in
+    let h = room_for s in
+    let i = at_loop.loop-i.i in
+    let n = line-room s.args.accounts.now s.args.totals.now i s.args.k c.loop-i-test.true in
+    rw (to_z-of_z (record { sfits = c.write-row-arg2.given })) (omega (arith, header.write_header.auto.0, at_loop.loop-i.invariant))
+
+pub loop-i-preserved : goal.loop-i-preserved
+loop-i-preserved c =
+    let written = c.before.before in
+    let at_loop = written.before.before.before.before.before in
+    let header = at_loop.before.before.before in
+    let h = room_for header.before.before.before.before in
+    let l = at_loop.loop-i in (
+      search rules,
+      (
+        written.write_row-at.auto.0 ∙ l.invariant.1.0,
+        line_behind _ _ _ _ _ _ _ l.i _ (to_z-of_z (record { sfits = written.before.write-row-arg2.given }))
+            (omega (arith, header.write_header.auto.0)) l.invariant.1.1 written.write_row-at.ensures,
+      ),
+    )
+
+pub shape_of-out : goal.shape_of-out
+shape_of-out c = c.loop-i.invariant.1.0 ∙ c.write_header.auto.0
+
+pub returns : goal.returns
+returns c =
+    let l = c.loop-i in
+    let e = le_antisymm l.invariant.0 c.loop-i-test.false in (
+      file_written _ _ _ _ c.write_header.ensures (rw e at l.invariant.1.1.1),
+      rw e at l.invariant.1.1.0 ∙ sym (file-size _),
+    )

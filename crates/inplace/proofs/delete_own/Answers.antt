@@ -1,0 +1,73 @@
+-- `delete_own` takes an account out if it is there, and settles the ticket.
+-- Rests on the law of a delete and on the laws of an own update.
+use Prim.Native.Nat.{◌+◌, ◌<◌}
+use native.Mathlib.Omega.{arith}
+use mathlib.Core.Path.{refl, ◌∙◌, ap}
+use lib.ListN.{length}
+use borrow.Author.Rules.{rules}
+use Rattle.fields.specs.Fields.{totals_from}
+use Rattle.arrays.specs.declared.Position.TheVariants.{At, Before}
+use Rattle.bucket.specs.State.{remove_of}
+use Rattle.rules.specs.Rules.{answer_by, delete_answer}
+use Rattle.rounds.proofs.Laws.{change_delete}
+use Rattle.inplace.specs.InPlace.{record_as, changed_at}
+use Rattle.inplace.proofs.OwnUpdate.{Start, start, found_as, removed}
+use Rattle.inplace.proofs.delete_own.Goals as goal
+use Rattle.inplace.proofs.delete_own.Goals.{In-At-2}
+
+-- what the update starts from
+begun : (c : goal.Start) → let s = c.args in Start s.words.now s.g s.q s.c
+begun c = let s = c.args in start s.words.now s.g s.q s.c c.requires.0.0
+
+-- the position that was found is one of the accounts
+found_at :
+    (c : In-At-2) → let s = c.args in
+    (c.in-At.i < s.c) × (totals_from s.q s.g.capacity + s.c < length s.words.now)
+found_at c =
+    let entry = c.before.before.before in
+    let y = begun entry in (found_as y entry.args.u.account entry.requires.0.1.1 (At _) c.in-At.is, y.behind)
+
+pub overflow_sub-c : goal.overflow_sub-c
+overflow_sub-c c = let h = found_at c.before.before in omega arith
+
+pub lower_in-requires : goal.lower_in-requires
+lower_in-requires c =
+    let first = c.before.before.before in
+    let h = found_at first.before.before.before in
+    (omega arith, h.0)
+
+pub lower_in-requires-in-At : goal.lower_in-requires-in-At
+lower_in-requires-in-At c =
+    let accounts = c.before.before.before in
+    let first = accounts.before.before.before.before in
+    let h = found_at first.before.before.before in
+    (omega arith, h.0)
+
+pub settle_own-requires : goal.settle_own-requires
+settle_own-requires c = let known = c.requires.0 in (known.0, known.1.0)
+
+pub returns-in-At : goal.returns-in-At
+unfolding changed_at delete_answer answer_by
+returns-in-At c =
+    let settled = c.before.before in
+    let totals = settled.before.before.before.before in
+    let accounts = totals.before.before.before.before in
+    let first = accounts.before.before.before.before in
+    let found = first.before.before.before in
+    let entry = found.before.before.before in
+    let s = entry.args in
+    rw found.in-At.is
+    (removed (begun entry) _ _ _ _ _ entry.requires.0.1.0 settled.settle.ensures (found_at found).0 first.put_first.ensures
+    accounts.lower_in.ensures totals.lower_in-in-At.ensures
+    ∙ ap (record_as s.words.now s.g s.q s.toggle) (change_delete _ s.j (At _) s.u _ _ entry.requires.1 refl refl))
+
+pub returns-in-Before : goal.returns-in-Before
+unfolding changed_at delete_answer answer_by remove_of
+returns-in-Before c =
+    let settled = c.before.before in
+    let told = settled.before.before in
+    let entry = told.before.before.before in
+    let s = entry.args in
+    rw told.in-Before.is
+    (settled.settle_own.ensures
+    ∙ ap (record_as s.words.now s.g s.q s.toggle) (change_delete _ s.j (Before _) s.u _ _ entry.requires.1 refl refl))

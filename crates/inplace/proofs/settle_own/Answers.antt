@@ -1,0 +1,15 @@
+-- `settle_own` writes the count as it stands, the applied bits and the ticket with its answer.
+-- Rests on the laws of an own update.
+use mathlib.Core.Path.{refl}
+use borrow.Author.Rules.{rules}
+use Rattle.inplace.proofs.OwnUpdate.{start, kept}
+use Rattle.inplace.proofs.settle_own.Goals as goal
+
+pub returns : goal.returns
+returns c =
+    let settled = c.before.before in
+    let first = settled.before.before.before.before in
+    let entry = first.before.before.before in
+    let s = entry.args in
+    kept (start s.words.now s.g s.q s.c entry.requires.0) _ _ _ _ _ entry.requires.1 settled.settle.ensures
+    first.put_first.ensures refl refl

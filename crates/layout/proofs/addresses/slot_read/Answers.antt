@@ -1,0 +1,18 @@
+-- `slot-read` reads a slot, as a worker has read it.
+-- Rests on the bounds of a worker's words.
+use native.Mathlib.Omega.{arith}
+use borrow.Author.Rules.{rules}
+use Rattle.layout.proofs.Positions.{placed}
+use Rattle.layout.proofs.addresses.slot_read.Goals as goal
+
+pub overflow_add-worker_at : goal.overflow_add-worker_at
+overflow_add-worker_at c = let b = placed c.requires.0 _ c.requires.1.0 in omega arith
+
+pub overflow_add-worker_at-2 : goal.overflow_add-worker_at-2
+overflow_add-worker_at-2 c = let b = placed c.requires.0 _ c.requires.1.0 in omega arith
+
+pub descriptor_at-requires : goal.descriptor_at-requires
+descriptor_at-requires c = let b = placed c.requires.0 _ c.requires.1.0 in omega arith
+
+pub returns : goal.returns
+returns c = rw (c.descriptor_at.ensures, c.worker_at.ensures)

@@ -1,0 +1,31 @@
+-- `first_field`: the bytes passed are no spaces.
+use Prim.Native.Nat.{◌+◌, ◌-◌, ◌≤◌}
+use mathlib.Core.Path.{◌≡◌}
+use native.Mathlib.Omega.{arith}
+use native.Mathlib.Nat.{zero-add}
+use lib.ListN.{length, drop}
+use borrow.Author.Rules.{rules}
+use Rattle.lines.specs.Grammar.{first_field}
+use Rattle.lines.proofs.Splitting.{field_ends, field_goes_on, field_at_end}
+use Rattle.lines.proofs.command.first_field.Goals as goal
+
+pub loop-i-init : goal.loop-i-init
+loop-i-init c = (search rules, zero-add _)
+
+pub returns-then-bytes-i-eq32 : goal.returns-then-bytes-i-eq32
+returns-then-bytes-i-eq32 c =
+    let l = c.before.before.before in
+    let s = l.before in
+    omega (arith, l.loop-i.invariant.1, field_ends s.args.bytes.now l.loop-i.i (omega arith) c.if-bytes-i-eq32.true)
+
+pub loop-i-preserved : goal.loop-i-preserved
+loop-i-preserved c =
+    let l = c.before.before.before in
+    let s = l.before in
+    (search rules, omega (arith, l.loop-i.invariant.1, field_goes_on s.args.bytes.now l.loop-i.i (omega arith) c.if-bytes-i-eq32.false))
+
+pub returns : goal.returns
+returns c =
+    let l = c.before in
+    let s = l.before in
+    omega (arith, l.loop-i.invariant.1, field_at_end s.args.bytes.now l.loop-i.i c.loop-i-test.false)

@@ -1,0 +1,28 @@
+-- `same`: the bytes passed are the same.
+use Prim.Native.Nat.{◌-◌, ◌≤◌}
+use mathlib.Core.Path.{◌≡◌, refl, sym, ◌∙◌}
+use native.Mathlib.Omega.{arith}
+use lib.ListN.{length, drop}
+use borrow.Author.Rules.{rules}
+use Rattle.logs.specs.Same.{same_numbers}
+use Rattle.logs.proofs.SameLaws.{other_length, same_differ, same_next, same_end}
+use Rattle.loglines.proofs.field.same.Goals as goal
+
+pub returns-then-field-word : goal.returns-then-field-word
+returns-then-field-word c = sym (other_length _ _ c.if-field-word.true)
+
+pub loop-i-init : goal.loop-i-init
+loop-i-init c = (search rules, refl)
+
+pub returns-then-field-i : goal.returns-then-field-i
+returns-then-field-i c =
+    let l = c.before.before.before.before in
+    sym (l.loop-i.invariant.1 ∙ same_differ _ _ l.loop-i.i (omega arith) (omega arith) c.if-field-i.true)
+
+pub loop-i-preserved : goal.loop-i-preserved
+loop-i-preserved c =
+    let l = c.before.before.before.before in
+    (search rules, l.loop-i.invariant.1 ∙ same_next _ _ l.loop-i.i (omega arith) (omega arith) c.if-field-i.false)
+
+pub returns : goal.returns
+returns c = let l = c.before in sym (l.loop-i.invariant.1 ∙ same_end _ _ l.loop-i.i (omega arith) (omega arith))

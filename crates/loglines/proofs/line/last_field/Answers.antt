@@ -1,0 +1,38 @@
+-- `last_field`: one field, and its word behind the others.
+-- Rests on the laws that it cites and on the contracts of what is called.
+use mathlib.Core.Path.{◌≡◌, sym, ◌∙◌, ap}
+use mathlib.Core.Option.{some}
+use native.Mathlib.Omega.{arith}
+use lib.ListN.{length, set, length-set}
+use lib.Seq.{take_all, take-suc-set}
+use borrow.Author.Rules.{rules}
+use Rattle.machine.specs.Choice.{if◌then◌else◌}
+use Rattle.numerals.proofs.NumeralLaws.{number_none, number_some}
+use Rattle.loglines.specs.Lines.{row_of}
+use Rattle.loglines.proofs.LineLaws.{too_many, last_read, last_unread}
+use Rattle.loglines.proofs.line.last_field.Goals as goal
+
+pub returns-then-first_field-rest : goal.returns-then-first_field-rest
+unfolding row_of if◌then◌else◌
+returns-then-first_field-rest c = too_many _ _ (rw c.first_field.ensures at c.if-first_field-rest.true)
+
+pub returns-in_default : goal.returns-in_default
+unfolding row_of if◌then◌else◌
+returns-in_default c =
+    let f = c.before.before in
+    last_unread _ _ (rw f.first_field.ensures at f.if-first_field-rest.false)
+    (number_none _ (sym c.in_default.is ∙ f.read_field.ensures))
+
+pub returns : goal.returns
+unfolding row_of if◌then◌else◌
+returns c =
+    let w = c.before in
+    let f = w.before.before in
+    let s = f.before.before.before.before in
+    let ws = s.args.words in
+    let v = w.in-Value.word in
+    let n : length ws ≡ 8 = omega arith in
+    let e = length-set ws 7 v in
+    ap some (sym (take_all 8 (set ws 7 v) (omega arith)) ∙ take-suc-set ws 7 v (omega arith))
+    ∙ last_read _ _ v (rw f.first_field.ensures at f.if-first_field-rest.false)
+    (number_some _ _ (sym w.in-Value.is ∙ f.read_field.ensures))

@@ -1,0 +1,18 @@
+-- `Progress::add`: an operation that was read, or none.
+-- Rests on the laws that it cites and on the contracts of what is called.
+use borrow.Author.Tests.{not-true, not-false}
+use borrow.Author.Rules.{rules}
+use Rattle.machine.specs.Choice.{if◌then◌else◌}
+use Rattle.loglines.specs.Lines.{row_of}
+use Rattle.loglines.specs.Holding.{with_operation}
+use Rattle.loglines.proofs.progress.Progress.add.Goals as goal
+
+pub returns-then-not-row : goal.returns-then-not-row
+unfolding with_operation row_of if◌then◌else◌
+returns-then-not-row c = rw (not-true c.args.row.read c.if-not-row.true, c.next_line.ensures)
+
+pub returns : goal.returns
+unfolding with_operation row_of if◌then◌else◌
+returns c =
+    let g = c.before.before.before in
+    rw (not-false g.args.row.read g.if-not-row.false, g.next_line.ensures, c.push.ensures)

@@ -1,0 +1,19 @@
+-- `feed`: feeding the bytes left comes to feeding all.
+use Prim.Native.Nat.{◌-◌, ◌≤◌}
+use mathlib.Core.Path.{◌≡◌, refl, ◌∙◌}
+use lib.ListN.{length, drop}
+use borrow.Author.Rules.{rules}
+use Rattle.loglines.specs.Holding.{fed}
+use Rattle.loglines.proofs.Streaming.{fed_next, fed_end}
+use Rattle.loglines.proofs.progress.feed.Goals as goal
+
+pub loop-i-init : goal.loop-i-init
+loop-i-init c = (search rules, refl)
+
+pub loop-i-preserved : goal.loop-i-preserved
+loop-i-preserved c =
+    let a = c.before.before.before in
+    (search rules, fed_next _ _ _ _ c.loop-i-test.true c.take-feeding.ensures ∙ a.loop-i.invariant.1)
+
+pub returns : goal.returns
+returns c = fed_end _ _ _ c.loop-i-test.false ∙ c.loop-i.invariant.1

@@ -1,0 +1,42 @@
+-- `conclude`: no room, a line that is none of a log, or a log.
+-- Rests on the laws that it cites and on the contracts of what is called.
+use native.Mathlib.Omega.{arith}
+use borrow.Author.Rules.{rules}
+use Rattle.interface.specs.Numbers.{bytes}
+use Rattle.replies.specs.Printed.{printed_line}
+use Rattle.loglines.specs.Texts.{unread_text}
+use Rattle.loglines.specs.Inputs.{input_text}
+use Rattle.loglines.proofs.TextLaws.{wrote_printed, without_room, with_room, counted_length}
+use Rattle.loglines.proofs.Reading.{some_unread, none_unread}
+use Rattle.loglines.proofs.text.conclude.Goals as goal
+
+pub returns-then-out-lt-TEXT_ROOM : goal.returns-then-out-lt-TEXT_ROOM
+returns-then-out-lt-TEXT_ROOM c = (without_room _ _ c.if-out-lt-TEXT_ROOM.true, omega arith)
+
+pub returns-then-line-gt0 : goal.returns-then-line-gt0
+unfolding input_text unread_text printed_line bytes
+returns-then-line-gt0 c =
+    let o = c.before.before in
+    let u = o.before.before.before.before in
+    let f = u.before in
+    let n = u.unread-line.result in
+    let size = counted_length (bytes "unread ") n (omega arith) in
+    rw (
+      with_room _ _ f.if-out-lt-TEXT_ROOM.false,
+      ← f.end-progress.ensures,
+      some_unread f.end-progress.result n u.unread-line.ensures o.if-line-gt0.true,
+    ) (wrote_printed _ _ o.print_counted.ensures (omega arith))
+
+pub print_judged-requires : goal.print_judged-requires
+print_judged-requires c = c.if-out-lt-TEXT_ROOM.false
+
+pub returns : goal.returns
+returns c =
+    let o = c.before.before in
+    let u = o.before.before.before in
+    let f = u.before in
+    rw (
+      with_room _ _ f.if-out-lt-TEXT_ROOM.false,
+      ← f.end-progress.ensures,
+      none_unread f.end-progress.result u.unread-line.result u.unread-line.ensures o.if-line-gt0.false,
+    ) o.print_judged.ensures

@@ -1,0 +1,14 @@
+-- `exported_number` gives the number and the report of an export's answer, by cases.
+-- Rests on the definitions.
+use borrow.Author.Rules.{rules}
+use mathlib.Core.Path.{refl}
+use Rattle.numbers.specs.Returned.{exported_number, exported_report}
+use Rattle.numbers.proofs.exported_number.Goals as goal
+
+pub returns-in-Bytes : goal.returns-in-Bytes
+unfolding exported_number exported_report
+returns-in-Bytes c = let at_tell = c.before.before in rw at_tell.in-Bytes.is (at_tell.tell_one.ensures, refl)
+
+pub returns-in-Refused : goal.returns-in-Refused
+unfolding exported_number exported_report
+returns-in-Refused c = rw c.in-Refused.is (refl, c.number.ensures)

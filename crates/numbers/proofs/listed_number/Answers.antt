@@ -1,0 +1,14 @@
+-- `listed_number` gives the number and the report of a listing's answer, by cases.
+-- Rests on the definitions.
+use borrow.Author.Rules.{rules}
+use mathlib.Core.Path.{refl}
+use Rattle.numbers.specs.Returned.{listed_number, listed_report}
+use Rattle.numbers.proofs.listed_number.Goals as goal
+
+pub returns-in-Count : goal.returns-in-Count
+unfolding listed_number listed_report
+returns-in-Count c = let at_tell = c.before.before in rw at_tell.in-Count.is (at_tell.tell_one.ensures, refl)
+
+pub returns-in-Refused : goal.returns-in-Refused
+unfolding listed_number listed_report
+returns-in-Refused c = rw c.in-Refused.is (refl, c.number.ensures)

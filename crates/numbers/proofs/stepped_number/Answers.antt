@@ -1,0 +1,18 @@
+-- `stepped_number` gives the number and the report of a step's answer, by cases.
+-- Rests on the definitions.
+use borrow.Author.Rules.{rules}
+use mathlib.Core.Path.{refl}
+use Rattle.numbers.specs.Returned.{stepped_number, stepped_report}
+use Rattle.numbers.proofs.stepped_number.Goals as goal
+
+pub returns-in-Moved : goal.returns-in-Moved
+unfolding stepped_number stepped_report
+returns-in-Moved c = rw c.in-Moved.is (refl, refl)
+
+pub returns-in-Answered : goal.returns-in-Answered
+unfolding stepped_number stepped_report
+returns-in-Answered c = let at_ended = c.before.before in rw at_ended.in-Answered.is at_ended.ended.ensures
+
+pub returns-in-Refused : goal.returns-in-Refused
+unfolding stepped_number stepped_report
+returns-in-Refused c = rw c.in-Refused.is (refl, c.number.ensures)

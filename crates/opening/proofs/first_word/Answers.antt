@@ -1,0 +1,10 @@
+-- `first_word` is the definition `first_word`.
+-- Rests on nothing.
+use mathlib.Core.Path.{refl}
+use Rattle.layout.specs.Shape.{first_word}
+use borrow.Author.Rules.{rules}
+use Rattle.opening.proofs.first_word.Goals as goal
+
+pub returns : goal.returns
+unfolding first_word
+returns c = refl

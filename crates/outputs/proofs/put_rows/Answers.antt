@@ -1,0 +1,35 @@
+-- `put_rows`: the loop's invariant is that putting the rows left comes to putting all; the measure is how many are left.
+use Prim.Native.Nat.{◌≤◌, ◌-◌}
+use mathlib.Core.Path.{◌≡◌, refl, ◌∙◌, ap}
+use lib.IntN.{ℤ}
+use lib.ListN.{length, get_or}
+use mir.Facts.{to_z-of_z}
+use borrow.Author.Rules.{rules}
+use Rattle.replies.specs.Printed.{printed_row}
+use Rattle.outputs.specs.Outputs.{Output, emitted, put_rows}
+use Rattle.sorting.specs.RowLists.{rows_at}
+use Rattle.outputs.proofs.Outputs.{rows_start, rows_end, rows_next}
+use Rattle.outputs.proofs.put_rows.Goals as goal
+
+pub loop-i-init : goal.loop-i-init
+loop-i-init c = (search rules, (refl, rows_start _ _ _ _))
+
+pub loop-i-preserved : goal.loop-i-preserved
+loop-i-preserved c =
+    let l = c.before.before.before.before.before.before.before in
+    let a = l.args in
+    let o : Output = record { bytes = l.loop-i.out; used = l.loop-i.used } in
+    let row = printed_row (get_or a.accounts.now l.loop-i.i 0) in
+    let kept = to_z-of_z (record { sfits = c.before.before.before.put-row-arg2.given }) in
+    let e = c.put_row-used.ensures ∙ ap (λ (z : ℤ). emitted o (row z)) kept in (
+      search rules,
+      (
+        search rules,
+        rows_next a.accounts.now a.totals.now o _ l.loop-i.i a.count
+            c.loop-i-test.true e
+            ∙ l.loop-i.invariant.1.1,
+      ),
+    )
+
+pub returns : goal.returns
+returns c = rows_end _ _ _ _ _ c.loop-i-test.false ∙ c.loop-i.invariant.1.1

@@ -1,0 +1,32 @@
+-- `show`: by the listing's answer.
+-- Rests on the laws of listings and on the contracts of what is called.
+use mathlib.Core.Path.{sym, ◌∙◌, ap}
+use native.Mathlib.Omega.{arith}
+use Rattle.rows.specs.Rows.{Shown}
+use Rattle.outputs.proofs.Outputs.{count_within, listed_count, listed_refused}
+use borrow.Author.Rules.{rules}
+use Rattle.outputs.proofs.show.Goals as goal
+
+pub put_rows-next-requires : goal.put_rows-next-requires
+put_rows-next-requires c =
+    let g = c.listing in
+    let h = count_within _ _ _ _ (ap (λ (y : Shown). y.listed) (sym g.ensures) ∙ c.in-Count.is) in
+    (omega arith, omega arith)
+
+pub returns-in-Count : goal.returns-in-Count
+returns-in-Count c =
+    let p = c.before.before.before.before.before.before in
+    let q = p.before.before.before.before.before in
+    listed_count _ _ q.listing.ensures _ _ _ q.in-Count.is p.put_rows-next.ensures
+    c.put_end.ensures
+
+pub returns-in-Refused : goal.returns-in-Refused
+returns-in-Refused c =
+    let put-reply = c.before.before in
+    let number = put-reply.before in
+    let why = number.before.before.before in
+    let listing = why.before.before.before.before.before in
+    listed_refused _ _
+    listing.listing.ensures _ _ _
+    why.in-Refused.is number.number.ensures
+    put-reply.put_reply.ensures

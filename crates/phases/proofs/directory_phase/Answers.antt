@@ -1,0 +1,43 @@
+-- `directory_phase` gives the step at a position of the directory pass.
+-- Rests on the laws of the plan's positions.
+use Prim.Native.Nat.{◌+◌, ◌*◌}
+use native.Mathlib.Omega.{arith}
+use mathlib.Core.Path.{sym, ◌∙◌}
+use borrow.Author.Rules.{rules}
+use Rattle.phases.specs.Phases.{planned}
+use Rattle.phases.proofs.Plans.{reduced_below, directory_copy, directory_slot, directory_state, directory_swap, directory-round}
+use Rattle.phases.proofs.directory_phase.Goals as goal
+
+pub returns-then-i-lt1 : goal.returns-then-i-lt1
+unfolding planned
+returns-then-i-lt1 c =
+    let n = c.args.n in
+    let i = c.reduce-i.result in
+    sym (directory-round n c.args.r i c.reduce-i.ensures ∙ directory_copy n i c.if-i-lt1.true)
+
+pub returns-then-i-n : goal.returns-then-i-n
+unfolding planned
+returns-then-i-n c =
+    let args = c.args in
+    let reduce = c.reduce-i in
+    let n = args.n in
+    let i = reduce.result in
+    sym (directory-round n args.r i reduce.ensures ∙ directory_slot n i (omega arith) c.if-i-n.true)
+
+pub returns-then-i-n-2 : goal.returns-then-i-n-2
+unfolding planned
+returns-then-i-n-2 c =
+    let args = c.args in
+    let reduce = c.reduce-i in
+    let n = args.n in
+    let i = reduce.result in
+    sym (directory-round n args.r i reduce.ensures ∙ directory_state n i (omega arith) c.if-i-n-2.true)
+
+pub returns : goal.returns
+unfolding planned
+returns c =
+    let n = c.args.n in
+    let r = c.args.r in
+    let i = c.reduce-i.result in
+    let k = reduced_below (2 * n + 2) r i c.reduce-i.ensures (omega arith) in
+    sym (directory-round n r i c.reduce-i.ensures ∙ directory_swap n i (omega arith) k)

@@ -1,0 +1,17 @@
+-- `phase_of` gives the step that comes after k own steps.
+-- Rests on the laws of the plan's positions.
+use native.Mathlib.Omega.{arith}
+use mathlib.Core.Path.{sym, ◌∙◌}
+use borrow.Author.Rules.{rules}
+use Rattle.phases.specs.Phases.{planned}
+use Rattle.phases.proofs.Plans.{plan_announce, plan_pass}
+use Rattle.phases.proofs.phase_of.Goals as goal
+
+pub returns-then-k-lt1 : goal.returns-then-k-lt1
+unfolding planned
+returns-then-k-lt1 c = sym (plan_announce c.args.n c.args.k c.if-k-lt1.true)
+
+pub returns : goal.returns
+returns c =
+    let s = c.args in
+    c.pass_phase.ensures ∙ sym (plan_pass s.n s.k c.reduce.result (omega arith) c.reduce.ensures)

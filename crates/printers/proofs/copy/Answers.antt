@@ -1,0 +1,38 @@
+-- `copy`: the first i bytes are copied.
+use Prim.Native.Nat.{ℕ, ◌+◌, ◌-◌, ◌≤◌}
+use mathlib.Core.Path.{◌≡◌, refl, ◌∙◌, ap}
+use mathlib.Core.List.{List}
+use native.Mathlib.Omega.{arith}
+use native.Mathlib.Numerals.{add-one}
+use lib.ListN.{length, get_or, set, length-set}
+use lib.Seq.{paste, paste-zero, paste-suc}
+use borrow.Author.Rules.{rules}
+use Rattle.printers.proofs.Written.{overlay_paste}
+use Rattle.printers.proofs.copy.Goals as goal
+
+pub loop-i-init : goal.loop-i-init
+loop-i-init c = (search rules, (refl, paste-zero c.args.out.now c.args.at c.args.word.now))
+
+pub loop-i-preserved : goal.loop-i-preserved
+loop-i-preserved c =
+    let l = c.before.before in
+    let s = l.before in
+    let at = s.args.at in
+    let i = l.loop-i.i in
+    let w = s.args.word.now in (
+      search rules,
+      (
+        length-set l.loop-i.out (at + i) (get_or w i 0) ∙ l.loop-i.invariant.1.0,
+        ap (λ (o : List ℕ). set o (at + i) (get_or w i 0))
+            l.loop-i.invariant.1.1 ∙ paste-suc s.args.out.now at w i 0 (omega arith) (omega arith) ∙ rw add-one,
+      ),
+    )
+
+pub returns : goal.returns
+returns c =
+    let l = c.before in
+    let s = l.before in
+    let e : l.loop-i.i ≡ length s.args.word.now = omega arith in
+    l.loop-i.invariant.1.1
+    ∙ ap (paste s.args.out.now s.args.at s.args.word.now) e
+    ∙ overlay_paste s.args.out.now s.args.at s.args.word.now

@@ -1,0 +1,21 @@
+-- `print_word`: the bytes, where they have room.
+-- Rests on the laws that it cites and on the contracts of what is called.
+use mathlib.Core.Path.{refl}
+use borrow.Author.Rules.{rules}
+use Rattle.printers.proofs.Written.{wrote, wrote_nothing, has_room, no-room}
+use Rattle.printers.proofs.print_word.Goals as goal
+
+pub returns-then-not-room : goal.returns-then-not-room
+returns-then-not-room c =
+    let s = c.before.before.before.before in
+    wrote_nothing s.args.out.now s.args.at s.args.word.now (no-room _ _ _ c.room.ensures c.if-not-room.true)
+
+pub copy-requires : goal.copy-requires
+copy-requires c = has_room _ _ _ c.room.ensures c.if-not-room.false-raw
+
+pub returns : goal.returns
+returns c =
+    let g = c.before.before.before.before in
+    let s = g.before.before.before.before in
+    wrote s.args.out.now s.args.at s.args.word.now _ _ (has_room _ _ _ g.room.ensures g.if-not-room.false-raw) refl
+    c.copy.ensures

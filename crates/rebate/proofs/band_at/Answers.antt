@@ -1,0 +1,7 @@
+-- `band_at`: the code's table is the definition's.
+use mathlib.Core.Path.{refl}
+use borrow.Author.Rules.{rules}
+use Rattle.rebate.proofs.band_at.Goals as goal
+
+pub returns : goal.returns
+returns c = refl

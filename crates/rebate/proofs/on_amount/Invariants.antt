@@ -1,0 +1,21 @@
+-- `on_amount` sums the bands. The loop's invariant: cents, parts and what is due by the bands from i on come to what is due; the measure:
+-- the bands left. Rests on the laws of what is due.
+use Prim.Native.Nat.{ℕ, ◌+◌, ◌*◌, ◌-◌, ◌/◌, ◌%◌, ◌≤◌}
+use native.Mathlib.Numerals.{add-one}
+use native.Mathlib.Omega.{arith}
+use mathlib.Core.Path.{◌≡◌, ap}
+use lib.ListN.{drop}
+use Rattle.rebate.specs.declared.Band.{Band}
+use Rattle.rebate.specs.Bands.{yearly, band_at}
+use Rattle.rebate.specs.Rebate.{whole_rate, due_by, rounded}
+use Rattle.rebate.proofs.Dues.{inside_most, rate_most, due_added, cents_most, parts_most}
+use borrow.Author.Rules.{rules}
+use Rattle.rebate.proofs.on_amount.Given as goal
+
+abbrev pub invariant-loop-i : goal.invariant-loop-i
+invariant-loop-i l =
+    (l.i ≤ 4) × ((l.cents ≤ l.i * 400_000_000_000_000_000) × ((l.parts ≤ l.i * 3_500_000)
+    × (whole_rate * l.cents + l.parts + due_by (drop l.i yearly.bands) l.amount ≡ due_by yearly.bands l.amount)))
+
+abbrev pub decreases-loop-i : goal.decreases-loop-i
+decreases-loop-i l = 4 - l.i

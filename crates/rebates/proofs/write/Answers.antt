@@ -1,0 +1,46 @@
+-- `write` writes the rows one by one.
+use Prim.Native.Nat.{ℕ, ◌-◌, ◌≤◌}
+use native.Mathlib.Nat.{le_antisymm}
+use lib.IntN.{ℤ, pos}
+use native.Mathlib.Omega.{arith}
+use mathlib.Core.Path.{◌≡◌, refl, sym, ◌∙◌, ap}
+use lib.ListN.{length, get_or}
+use mir.Facts.{to_z-of_z}
+use Rattle.lists.proofs.PartLaws.{overlay_nil}
+use Rattle.sorting.specs.RowLists.{accounts_with, row_at, rows_at}
+use Rattle.rebate.specs.Rebate.{rebate_on}
+use Rattle.rebates.specs.Rebates.{rebates_with}
+use Rattle.rebates.proofs.RebateRows.{row_behind}
+use borrow.Author.Rules.{rules}
+use Rattle.rebates.proofs.write.Goals as goal
+
+pub loop-i-init : goal.loop-i-init
+unfolding rows_at
+loop-i-init c = (search rules, (refl, (refl, (sym (overlay_nil _ _), sym (overlay_nil _ _)))))
+
+pub loop-i-preserved : goal.loop-i-preserved
+unfolding row_at
+loop-i-preserved c =
+    let at_loop = c.before.before.before.before in
+    let s = at_loop.args in
+    let l = at_loop.loop-i in
+    let e : c.rebate.result ≡ rebate_on (get_or s.totals.now l.i (pos 0)) =
+    c.rebate.ensures ∙ ap rebate_on (to_z-of_z (record { sfits = c.before.rebate-arg.given })) in (
+      search rules,
+      (
+        search rules,
+        (
+          search rules,
+          (
+            row_behind _ _ (λ (x : ℕ × ℤ). x.0) _ _ l.i l.invariant.1.1.1.0 (omega arith),
+            rw e (row_behind _ _ (λ (x : ℕ × ℤ). rebate_on x.1) _ _ l.i l.invariant.1.1.1.1 (omega arith)),
+          ),
+        ),
+      ),
+    )
+
+pub returns : goal.returns
+returns c =
+    let l = c.loop-i in
+    let e = le_antisymm l.invariant.0 c.loop-i-test.false in
+    (rw e at l.invariant.1.1.1.0, rw e at l.invariant.1.1.1.1)

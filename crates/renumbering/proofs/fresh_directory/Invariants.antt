@@ -1,0 +1,17 @@
+-- `fresh_directory` gives the least number that is not taken. The loop's invariant: no number below x is free; the measure: those left.
+-- Rests on the laws of searches.
+use Prim.Native.Nat.{◌-◌, ◌≤◌}
+use native.Mathlib.Omega.{arith}
+use mathlib.Core.Path.{◌≡◌, sym, ◌∙◌}
+use borrow.Author.Tests.{not-true, not-false}
+use borrow.Author.Rules.{rules}
+use Rattle.renumbering.specs.Numbers.{least_free, directory_taken, fresh_directory}
+use Rattle.renumbering.proofs.Searches.{least_hit, least_turn, least-end}
+use Rattle.renumbering.proofs.fresh_directory.Given as goal
+
+abbrev pub invariant-loop-x : goal.invariant-loop-x
+invariant-loop-x l =
+    (l.x ≤ l.g.workers) × (least_free (directory_taken l.words l.g.workers) l.x (l.g.workers - l.x) ≡ fresh_directory l.words l.g.workers)
+
+abbrev pub decreases-loop-x : goal.decreases-loop-x
+decreases-loop-x l = l.g.workers - l.x

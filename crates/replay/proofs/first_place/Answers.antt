@@ -1,0 +1,41 @@
+-- `first_place` finds what the definition finds.
+use Prim.Native.Nat.{ℕ, ◌≤◌, ◌-◌}
+use native.Mathlib.Omega.{arith}
+use mathlib.Core.Path.{◌≡◌, sym, ap, ◌∙◌}
+use borrow.Author.Rules.{rules}
+use Rattle.replay.specs.Balances.{account_logged, first_from, first_place}
+use Rattle.replay.proofs.PlaceLaws.{first_hit, first_turn, first_end}
+use Rattle.replay.proofs.first_place.Goals as goal
+
+pub loop-j-init : goal.loop-j-init
+unfolding first_place account_logged
+loop-j-init c =
+    let s = c.args in
+    let e : s.i - 0 ≡ s.i = omega arith in
+    (search rules, rw e (ap (λ (a : ℕ). first_from s.log.now a s.i 0) c.word_at-account.ensures))
+
+pub returns-then-word_at-account : goal.returns-then-word_at-account
+unfolding account_logged
+returns-then-word_at-account c =
+    let at_loop = c.before.before.before in
+    let s = at_loop.args in (
+      sym (first_hit s.log.now _ s.i at_loop.loop-j.j (omega arith) (sym c.word_at.ensures ∙ c.if-word_at-account.true))
+          ∙ at_loop.loop-j.invariant.1,
+      search rules,
+    )
+
+pub loop-j-preserved : goal.loop-j-preserved
+unfolding account_logged
+loop-j-preserved c =
+    let at_loop = c.before.before.before in
+    let s = at_loop.args in (
+      search rules,
+      sym (first_turn s.log.now _ s.i at_loop.loop-j.j (omega arith) (λ e. c.if-word_at-account.false (c.word_at.ensures ∙ e)))
+          ∙ at_loop.loop-j.invariant.1,
+    )
+
+pub returns : goal.returns
+returns c =
+    let at_loop = c.before in
+    let s = at_loop.args in
+    (sym (first_end s.log.now _ s.i at_loop.loop-j.j (omega arith)) ∙ at_loop.loop-j.invariant.1, search rules)

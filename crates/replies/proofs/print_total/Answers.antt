@@ -1,0 +1,24 @@
+-- `print_total`: two numbers behind a word.
+-- Rests on the laws that it cites and on the contracts of what is called.
+use Prim.Native.Nat.{ℕ}
+use mathlib.Core.Path.{◌∙◌, ap}
+use mathlib.Core.List.{List, ◌++◌}
+use mir.Facts.{to_z-of_z}
+use borrow.Author.Rules.{rules}
+use Rattle.decimals.specs.declared.Decimal.{Decimal}
+use Rattle.decimals.specs.Signs.{sign_of}
+use Rattle.printers.specs.Written.{pair_text}
+use Rattle.replies.proofs.PairLines.{total_text}
+use Rattle.printers.proofs.Written.{retold}
+use Rattle.replies.proofs.print_total.Goals as goal
+
+pub returns : goal.returns
+returns c =
+    let two = c.before.before.before in
+    let one = two.before in
+    let s = one.before.before.before.before in
+    let first = one.signed.ensures ∙ ap sign_of (to_z-of_z s.ranges.total) in
+    let numbers = ap (λ (d : Decimal). pair_text d two.unsigned.result) first
+    ∙ ap (pair_text (sign_of s.args.total)) two.unsigned.ensures in
+    let text = numbers ∙ total_text s.args.total s.args.steps in
+    retold (ap (λ (l : List ℕ). s.args.word.now ++ l) text) c.print_pair.ensures

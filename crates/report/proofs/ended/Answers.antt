@@ -1,0 +1,20 @@
+-- `ended` tells the steps, the total and the check, and gives the number, as `ended_report` and `ended_number` say.
+-- Rests on the law of an answer's number.
+use borrow.Author.Rules.{rules}
+use Prim.Native.Nat.{ℕ, ◌+◌}
+use native.Mathlib.Omega.{arith}
+use mathlib.Core.Path.{◌∙◌, ap}
+use Rattle.report.specs.Report.{ended_report, ended_number}
+use Rattle.report.proofs.Laws.{answer_small}
+use Rattle.report.proofs.ended.Goals as goal
+
+pub overflow_add-result : goal.overflow_add-result
+overflow_add-result c =
+    let start = c.before.before.before.before.before.before.before in
+    omega (arith, c.number.ensures, answer_small start.args.c.answer)
+
+pub returns : goal.returns
+unfolding ended_report ended_number
+returns c =
+    let at_tell = c.before.before.before in
+    (at_tell.tell.ensures ∙ rw at_tell.total_word.ensures, ap (λ (n : ℕ). 16 + n) c.number.ensures)

@@ -1,0 +1,20 @@
+-- `carry` searches once, and settles the ticket as crowded or makes the change at that position, as `carry_of` says.
+-- Rests on the laws of one update.
+use mathlib.Core.Path.{sym, ◌∙◌}
+use borrow.Author.Rules.{rules}
+use Rattle.rounds.proofs.Laws.{carry_crowded, carry_changed}
+use Rattle.rounds.proofs.carry.Goals as goal
+
+pub returns-then-crowded : goal.returns-then-crowded
+returns-then-crowded c =
+    let crowded = c.before.before in
+    let search = crowded.before in
+    c.settle.ensures
+    ∙ carry_crowded _ _ _ search.args.u _ search.search-p.ensures (sym crowded.crowded.ensures ∙ c.if-crowded.true)
+
+pub returns : goal.returns
+returns c =
+    let crowded = c.before.before in
+    let search = crowded.before in
+    c.change.ensures
+    ∙ carry_changed _ _ _ search.args.u _ search.search-p.ensures (sym crowded.crowded.ensures ∙ c.if-crowded.false)

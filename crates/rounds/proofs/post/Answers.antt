@@ -1,0 +1,27 @@
+-- `post` adds to the total at the position that was found, and settles what `post_of` says by the sum.
+-- Rests on the laws of a post.
+use Prim.Native.Nat.{ℕ}
+use mathlib.Core.Path.{sym, ◌∙◌, ap}
+use borrow.Author.Rules.{rules}
+use Rattle.sums.specs.Sums.{sum_of}
+use Rattle.rounds.proofs.Laws.{post_within, post_outside}
+use Rattle.rounds.proofs.post.Goals as goal
+
+pub returns-in-Within : goal.returns-in-Within
+returns-in-Within c =
+    let known = c.before.before.before in
+    let sum = known.before.before in
+    let s = sum.args in
+    c.settle.ensures
+    ∙ post_within s.state s.j s.p s.u _ _
+    (sym (sum.sum_of.ensures ∙ ap (λ (k : ℕ). sum_of k s.u.total) sum.total.ensures) ∙ known.in-Within.is)
+    c.put.ensures
+
+pub returns-in-Outside : goal.returns-in-Outside
+returns-in-Outside c =
+    let known = c.before in
+    let sum = known.before.before in
+    let s = sum.args in
+    c.settle-in-Outside.ensures
+    ∙ post_outside s.state s.j s.p s.u
+    (sym (sum.sum_of.ensures ∙ ap (λ (k : ℕ). sum_of k s.u.total) sum.total.ensures) ∙ known.in-Outside.is)

@@ -1,0 +1,19 @@
+-- `first_bits` shifts away all but the first d bits of the place; of a depth above 32 it shifts nothing away, as in the machine.
+-- Rests on the contract of `place_in`.
+use Prim.Native.Nat.{◌-◌}
+use native.Mathlib.Omega.{arith}
+use mathlib.Core.Logic.{⊎_elim}
+use mathlib.Core.Path.{◌≡◌}
+use borrow.Author.Rules.{rules}
+use Rattle.machine.specs.Sequential.{first_bits}
+use Rattle.rules.proofs.first_bits.Goals as goal
+
+pub overflow_shr-result : goal.overflow_shr-result
+overflow_shr-result c = ⊎_elim (λ w. omega arith) (λ w. omega arith) c.if-d-lt32.either
+
+pub returns : goal.returns
+unfolding first_bits
+returns c =
+    let rest : c.if-d-lt32.rest ≡ 32 - c.args.d =
+    ⊎_elim (λ w. omega arith) (λ w. omega arith) c.if-d-lt32.either in
+    rw (rest, c.before.IsPlace-in.ensures)

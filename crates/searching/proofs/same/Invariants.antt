@@ -1,0 +1,16 @@
+-- `same` compares word by word. The loop's invariant: what is compared from k on decides. Rests on the laws of the
+-- comparison.
+use Prim.Native.Nat.{◌-◌, ◌≤◌}
+use mathlib.Core.Path.{◌≡◌, refl, sym, ◌∙◌}
+use lib.ListN.{drop}
+use native.Mathlib.Omega.{arith}
+use borrow.Author.Rules.{rules}
+use Rattle.logs.specs.Same.{same_numbers}
+use Rattle.logs.proofs.SameLaws.{same_differ, same_next, same_end}
+use Rattle.searching.proofs.same.Given as goal
+
+abbrev pub invariant-loop-k : goal.invariant-loop-k
+invariant-loop-k l = (l.k ≤ 24) × (same_numbers l.x l.y ≡ same_numbers (drop l.k l.x) (drop l.k l.y))
+
+abbrev pub decreases-loop-k : goal.decreases-loop-k
+decreases-loop-k l = 24 - l.k

@@ -1,0 +1,36 @@
+-- `first-entry` gives the first entry of a bucket, and no product leaves the word.
+-- Rests on the laws of entries.
+use Prim.Native.Nat.{◌-◌, ◌^◌}
+use native.Mathlib.Omega.{arith}
+use mathlib.Core.Path.{◌≡◌, ◌∙◌}
+use mathlib.Core.Logic.{⊎_elim}
+use lib.Pow.{pow_pos, pow_mono}
+use borrow.Author.Rules.{rules}
+use Rattle.rules.proofs.Bits.{shift_one}
+use Rattle.spares.proofs.PoolLaws.{entry_is, width_one, entry_product}
+use Rattle.spares.proofs.first_entry.Goals as goal
+use Rattle.spares.proofs.first_entry.Goals.{After-row_known-1}
+
+pub nonzero_rem-result : goal.nonzero_rem-result
+nonzero_rem-result c =
+    let start = c.before.before.before in
+    omega (arith, pow_mono start.requires, pow_pos start.args.g.depth)
+
+width_is :
+    (c : After-row_known-1) → let args = c.args in c.if-d-g.width ≡ 2 ^ (args.g.depth - args.d)
+width_is c = ⊎_elim (λ w. w.2 ∙ shift_one _ (omega arith)) (λ w. w.1 ∙ width_one _ _ w.0.left) c.if-d-g.either
+
+pub overflow_mul-result : goal.overflow_mul-result
+overflow_mul-result c =
+    let start = c.before.before.before.before in
+    omega (arith, entry_product start.args.q _ _ _ _ start.requires (omega arith) (shift_one _ (omega arith)) (width_is c))
+
+pub nonzero_rem-result-2 : goal.nonzero_rem-result-2
+nonzero_rem-result-2 c =
+    let start = c.before.before.before.before in
+    omega (arith, pow_mono start.requires, pow_pos start.args.g.depth)
+
+pub returns : goal.returns
+returns c =
+    let start = c.before.before.before.before in
+    entry_is start.args.g start.args.d start.args.q _ _ (shift_one _ (omega arith)) (width_is c)

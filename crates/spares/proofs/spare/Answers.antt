@@ -1,0 +1,75 @@
+-- `spare` gives the next record to use.
+use Prim.Native.Nat.{ℕ, ◌-◌, ◌<◌}
+use native.Mathlib.Nat.{mod-lt}
+use native.Mathlib.Omega.{arith}
+use mathlib.Core.Path.{◌≡◌, sym, ◌∙◌, ap}
+use mathlib.Core.Logic.{⊎_elim}
+use borrow.Author.Rules.{rules}
+use borrow.Author.Tests.{not-false, not-true}
+use Rattle.fields.specs.Regions.{pool_size}
+use Rattle.spares.specs.Records.{spare_from, spare_of}
+use Rattle.spares.proofs.PoolLaws.{pool_bound, spare_start, spare_found, spare_up, spare_round, spare_end}
+use Rattle.layout.proofs.Positions.{long}
+use Rattle.spares.proofs.spare.Goals as goal
+
+pub pool-all-requires : goal.pool-all-requires
+pool-all-requires c = (c.requires.fits.workers, c.requires.fits.depth)
+
+pub get-requires : goal.get-requires
+get-requires c = omega (arith, long c.requires.fits)
+
+pub nonzero_rem-r : goal.nonzero_rem-r
+unfolding pool_size
+nonzero_rem-r c = omega (arith, c.pool-all.ensures)
+
+pub loop-k-init : goal.loop-k-init
+unfolding pool_size
+loop-k-init c =
+    let few : 0 < c.pool-all.result = omega (arith, c.pool-all.ensures) in
+    (omega (arith, c.pool-all.ensures, mod-lt c.get.result few), spare_start _ _ _ _ c.pool-all.ensures c.get.ensures)
+
+pub used-requires : goal.used-requires
+used-requires c = (c.requires, c.loop-k.invariant.0)
+
+pub returns-then-not-used : goal.returns-then-not-used
+returns-then-not-used c =
+    let turn = c.before.before in
+    sym (spare_found _ _ _ _ turn.loop-k-test.true (sym c.used.ensures ∙ not-true _ c.if-not-used.true))
+    ∙ turn.loop-k.invariant.1
+
+pub overflow_add-r : goal.overflow_add-r
+overflow_add-r c =
+    let here = c.before.before.before in
+    let fits = here.requires.fits in
+    omega (arith, here.loop-k.invariant.0, pool_bound here.args.g fits.workers fits.depth)
+
+pub overflow_add-r-then-r-all : goal.overflow_add-r-then-r-all
+overflow_add-r-then-r-all c =
+    let here = c.before.before.before.before in
+    let fits = here.requires.fits in
+    omega (arith, here.loop-k.invariant.0, pool_bound here.args.g fits.workers fits.depth)
+
+pub loop-k-preserved : goal.loop-k-preserved
+loop-k-preserved c =
+    let tested = c.before in
+    let turn = tested.before.before in
+    let here = turn.before in
+    let all = here.pool-all.ensures in
+    let full = sym tested.used.ensures ∙ not-false _ tested.if-not-used.false-raw in
+    let search_from : ℕ → ℕ = λ (r : ℕ). spare_from here.args.words.now
+    here.args.g r (here.loop-k.k - 1) in
+    ⊎_elim
+    (λ w. (
+      omega arith,
+      ap search_from w.1 ∙ spare_up _ _ _ _ turn.loop-k-test.true full (omega (arith, w.0.taken))
+          ∙ here.loop-k.invariant.1,
+    ))
+    (λ w. (
+      omega arith,
+      ap search_from w.1 ∙ spare_round _ _ _ _ turn.loop-k-test.true full (omega (arith, w.0.left))
+          ∙ here.loop-k.invariant.1,
+    ))
+    c.if-r-all.either
+
+pub returns : goal.returns
+returns c = sym (spare_end _ _ _ _ c.loop-k-test.false) ∙ c.loop-k.invariant.1

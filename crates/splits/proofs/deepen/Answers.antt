@@ -1,0 +1,14 @@
+-- `deepen` makes the directory's depth at least d.
+-- Rests on both outcomes of the test.
+use borrow.Author.Rules.{rules}
+use Rattle.splits.proofs.Splitting.{deepened_more, deepened_same}
+use Rattle.splits.proofs.deepen.Goals as goal
+
+pub returns-then-get-d : goal.returns-then-get-d
+returns-then-get-d c =
+    let put = c.before.before in
+    let tested = put.before.before in
+    deepened_more _ _ _ tested.get.ensures _ tested.if-get-d.true put.put.ensures
+
+pub returns-else-get-d : goal.returns-else-get-d
+returns-else-get-d c = deepened_same _ _ _ c.get.ensures c.if-get-d.false

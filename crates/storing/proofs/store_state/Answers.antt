@@ -1,0 +1,135 @@
+-- `store_state` stores two arrays at a time, then three.
+use Prim.Native.Nat.{◌+◌, ◌≤◌, ◌-◌}
+use mathlib.Core.Path.{◌≡◌, sym, ◌∙◌, ap}
+use native.Mathlib.Nat.{le_antisymm, le_trans}
+use native.Mathlib.Numerals.{add-one}
+use native.Mathlib.Omega.{arith}
+use lib.ListN.{length, length-set, length-map}
+use Rattle.fields.specs.Fields.{record_count, accounts_from, totals_from, settled_from, answers_from, posted_from, widest_record}
+use Rattle.memory.specs.Words.{stored}
+use Rattle.storing.specs.Stores.{stored_state}
+use Rattle.memory.proofs.Runs.{stored_none}
+use Rattle.bucket.proofs.Sizes.{Sized}
+use Rattle.record.proofs.WordAddresses.{Room, Addressed, Pair, addressed, begins, nearer, accounts_pair, workers_pair, posted_pair}
+use Rattle.storing.proofs.States.{pair_stored, triple_stored, state_stored}
+use Rattle.memory.proofs.Lesser.{count_bound}
+use Rattle.storing.proofs.Trips.{length_state}
+use borrow.Author.Rules.{rules}
+use Rattle.storing.proofs.store_state.Goals as goal
+use Rattle.storing.proofs.store_state.Goals.{After-least-c, After-loop-j, In-loop-i, In-loop-j, Start}
+
+-- the arrays of the state passed have their items
+sized : (c : Start2 goal.the-decreases-loop-j) → Sized c.args.t5
+sized c =
+    let known = c.well-formed.1.1.1.1.0.1.1 in
+    record {
+      accounts = sym (length-map c.args.t5.accounts (λ x. x)) ∙ known.0.1.0.1;
+      totals = sym (length-map c.args.t5.totals (λ x. x)) ∙ known.1.0.1.0.1;
+      settled = sym (length-map c.args.t5.settled (λ x. x)) ∙ known.1.1.0.1.0.1;
+      answers = sym (length-map c.args.t5.answers (λ x. x)) ∙ known.1.1.1.0.1.0.1;
+      posted = sym (length-map c.args.t5.posted (λ x. x)) ∙ known.1.1.1.1.0.1.0.1;
+    }
+
+-- the record inside the words
+room :
+    (c : Start2 goal.the-decreases-loop-j) → let s = c.args in Room s.q s.b s.n (length s.words.now)
+room c = record { inside = c.requires.0; low = c.well-formed.0.1; capacity = c.requires.1.0; workers = c.requires.1.1 }
+
+-- the address of the count
+counted :
+    (c : After-least-c2 goal.the-decreases-loop-j) → let s = c.args in
+    Addressed (length s.words.now) (s.q + record_count)
+counted c = addressed (room c.before.before) record_count (omega arith)
+
+-- the addresses of an account and its total, of a worker's ticket and answer, and of the answer's total
+account :
+    (c : In-loop-i2 goal.the-decreases-loop-j) → let s = c.args in
+    Pair s.q (accounts_from s.q) (totals_from s.q s.b) c.loop-i.i
+account c =
+    accounts_pair _ _ _ _ _ _ (room c.before.before.before.before) c.loop-i-test.true c.loop-i.invariant.1.0
+
+worker :
+    (c : In-loop-j2 goal.the-decreases-loop-j) → let s = c.args in
+    Pair s.q (settled_from s.q s.b) (answers_from s.q s.b s.n) c.loop-j.j
+worker c = workers_pair _ _ _ _ _ (room c.before.before.before.before.before.before) c.loop-j-test.true
+
+total :
+    (c : In-loop-j2 goal.the-decreases-loop-j) → let s = c.args in
+    Pair s.q (answers_from s.q s.b s.n) (posted_from s.q s.b s.n) c.loop-j.j
+total c = posted_pair _ _ _ _ _ (room c.before.before.before.before.before.before) c.loop-j-test.true
+
+pub bounds-words-q-2 : goal.bounds-words-q-2
+bounds-words-q-2 c = simp length-set (omega arith)
+
+pub loop-i-init : goal.loop-i-init
+loop-i-init c =
+    (search rules, (count_bound _ _ _ c.least-c.ensures, (simp length-set (omega arith), sym (stored_none _ _ _ ∙ stored_none _ _ _))))
+
+pub bounds-words-totals : goal.bounds-words-totals
+bounds-words-totals c =
+    let here = c.before.before in
+    simp length-set (le_trans (account here).second_inside here.loop-i.invariant.1.1.0)
+
+pub loop-i-preserved : goal.loop-i-preserved
+loop-i-preserved c =
+    let here = c.before.before in
+    let known = here.loop-i.invariant in
+    let start = here.before.before.before.before in
+    let long = sized start in
+    let items = account here in (
+      rw add-one here.loop-i-test.true,
+      (
+        known.1.0,
+        (
+          simp length-set known.1.1.0,
+          pair_stored _ _ _ _ _ _ _ known.1.1.1 items.apart (simp length-set (le_trans items.second_inside start.requires.0))
+              (rw long.accounts items.small) (rw long.totals items.small),
+        ),
+      ),
+    )
+
+pub loop-j-init : goal.loop-j-init
+loop-j-init c = (search rules, (search rules, sym (stored_none _ _ _ ∙ stored_none _ _ _ ∙ stored_none _ _ _)))
+
+pub bounds-words-answers : goal.bounds-words-answers
+bounds-words-answers c =
+    let here = c.before.before in
+    simp length-set (le_trans (worker here).second_inside here.loop-j.invariant.1.0)
+
+pub bounds-words-posted : goal.bounds-words-posted
+bounds-words-posted c =
+    let here = c.before.before.before in
+    simp length-set (le_trans (total here).second_inside here.loop-j.invariant.1.0)
+
+pub loop-j-preserved : goal.loop-j-preserved
+loop-j-preserved c =
+    let here = c.before.before.before in
+    let known = here.loop-j.invariant in
+    let first = here.before.before.before in
+    let long = sized first.before.before.before in
+    let items = total here in (
+      rw add-one here.loop-j-test.true,
+      (
+        simp length-set known.1.0,
+        triple_stored _ _ _ _ _ _ _ _ _ known.1.1 (worker here).apart items.apart
+            (le_trans items.second_inside first.loop-i.invariant.1.1.0) (rw long.settled items.small)
+            (rw long.answers items.small) (rw long.posted items.small),
+      ),
+    )
+
+whole :
+    (c : After-loop-j2 goal.the-decreases-loop-j) → let s = c.args in
+    c.loop-j.words ≡ stored_state s.words.now s.q s.b s.n s.t5
+whole c =
+    let here = c.before.before.before in
+    let first = rw (le_antisymm here.loop-i.invariant.0 c.loop-i-test.false) at here.loop-i.invariant.1.1.1 in
+    let second = rw (le_antisymm c.loop-j.invariant.0 c.loop-j-test.false) at c.loop-j.invariant.1.1 in
+    state_stored _ _ _ _ _ _ _ _ here.least-c.ensures first second
+
+pub shape_of-words : goal.shape_of-words
+shape_of-words c =
+    let start = c.before.before.before.before.before.before in
+    ap length (whole c) ∙ length_state _ _ _ _ _ start.requires.0 start.requires.1.0 start.requires.1.1 (sized start)
+
+pub returns : goal.returns
+returns c = whole c

@@ -1,0 +1,35 @@
+-- `store_state` stores two arrays at a time, then three. The loops' invariants: the items passed are stored; the measures: the items left.
+-- Rests on the laws of one item more, of the whole state, and of the addresses.
+use Prim.Native.Nat.{◌+◌, ◌≤◌, ◌-◌}
+use mathlib.Core.Path.{◌≡◌, sym, ◌∙◌, ap}
+use native.Mathlib.Nat.{le_antisymm, le_trans}
+use native.Mathlib.Numerals.{add-one}
+use native.Mathlib.Omega.{arith}
+use lib.ListN.{length, length-set, length-map}
+use Rattle.fields.specs.Fields.{record_count, accounts_from, totals_from, settled_from, answers_from, posted_from, widest_record}
+use Rattle.memory.specs.Words.{stored}
+use Rattle.storing.specs.Stores.{stored_state}
+use Rattle.memory.proofs.Runs.{stored_none}
+use Rattle.bucket.proofs.Sizes.{Sized}
+use Rattle.record.proofs.WordAddresses.{Room, Addressed, Pair, addressed, begins, nearer, accounts_pair, workers_pair, posted_pair}
+use Rattle.storing.proofs.States.{pair_stored, triple_stored, state_stored}
+use Rattle.memory.proofs.Lesser.{count_bound}
+use Rattle.storing.proofs.Trips.{length_state}
+use borrow.Author.Rules.{rules}
+use Rattle.storing.proofs.store_state.Given as goal
+
+abbrev pub invariant-loop-i : goal.invariant-loop-i
+invariant-loop-i l =
+    (l.i ≤ l.c) × ((l.c ≤ l.b) × ((l.q + widest_record ≤ length l.words)
+    × (l.words ≡ stored (stored l.initial.words l.accounts l.s.accounts l.i) l.totals l.s.totals l.i)))
+
+abbrev pub decreases-loop-i : goal.decreases-loop-i
+decreases-loop-i l = l.c - l.i
+
+abbrev pub invariant-loop-j : goal.invariant-loop-j
+invariant-loop-j l =
+    (l.j ≤ l.n) × ((l.q + widest_record ≤ length l.words)
+    × (l.words ≡ stored (stored (stored l.initial.words l.settled l.s.settled l.j) l.answers l.s.answers l.j) l.posted l.s.posted l.j))
+
+abbrev pub decreases-loop-j : goal.decreases-loop-j
+decreases-loop-j l = l.n - l.j

@@ -1,0 +1,21 @@
+-- `carry` carries out one update in a record.
+-- Rests on the words of the slot one after another.
+use Rattle.fields.specs.Regions.{worker_at}
+use Rattle.taking.proofs.TakingLaws.{carried_is}
+use borrow.Author.Rules.{rules}
+use Rattle.taking.proofs.carry.Goals as goal
+
+pub store_state-requires : goal.store_state-requires
+store_state-requires c =
+    let known = c.requires in
+    (known.1.1.1, (known.0.capacity, known.0.workers))
+
+pub returns : goal.returns
+returns c =
+    let stored = c.before.before in
+    let done = stored.before in
+    let read = done.before.before in
+    let loaded = read.before.before in
+    let args = loaded.args in
+    carried_is _ _ _ (worker_at args.g.workers args.w) args.i _ _ _ _ loaded.load_state-s.ensures read.slot_read-u.ensures
+    done.carry.ensures stored.store_state.ensures

@@ -1,0 +1,47 @@
+-- `dues` gives the workers whose update is due, as bits.
+use Prim.Native.Nat.{◌-◌, ◌≤◌}
+use native.Mathlib.Omega.{arith}
+use mathlib.Core.Path.{◌≡◌, ◌∙◌, ap}
+use mathlib.Core.Logic.{⊎_elim}
+use borrow.Author.Rules.{rules}
+use Rattle.fields.specs.Regions.{worker_at}
+use Rattle.taking.specs.Taking.{dues_at}
+use lib.Pow.{pow_mono}
+use Rattle.rules.proofs.Bits.{shift_one}
+use Rattle.taking.proofs.TakingLaws.{Dues, dues_start, dues_more, dues_same}
+use Rattle.taking.proofs.dues.Goals as goal
+
+pub loop-i-init : goal.loop-i-init
+loop-i-init c = (search rules, dues_start _ _ _ _)
+
+pub due-requires : goal.due-requires
+due-requires c =
+    let start = c.before.before.before in
+    (start.requires.0, (start.requires.1.0, (c.loop-i-test.true, start.requires.1.1)))
+
+pub overflow_shl-bits : goal.overflow_shl-bits
+overflow_shl-bits c = omega (arith, c.requires.0.workers)
+
+pub overflow_add-bits : goal.overflow_add-bits
+overflow_add-bits c =
+    let here = c.before.before.before in
+    let few = here.requires.0.workers in
+    omega (arith, here.loop-i.invariant.1.small, pow_mono {i = here.loop-i.i} {j = 15} (omega arith))
+
+pub loop-i-preserved : goal.loop-i-preserved
+loop-i-preserved c =
+    let here = c.before.before.before in
+    let few = here.requires.0.workers in
+    let more = c.due.ensures in (
+      search rules,
+      ⊎_elim
+          (λ w. dues_more _ _ _ _ _ _ _ here.loop-i.invariant.1 more _ _ w.0.taken (shift_one here.loop-i.i (omega arith)) w.1)
+          (λ w. dues_same _ _ _ _ _ _ _ here.loop-i.invariant.1 more _ w.0.left w.1)
+          c.if-due.either,
+    )
+
+pub returns : goal.returns
+returns c =
+    let args = c.args in
+    let all : c.loop-i.i ≡ args.g.workers = omega arith in
+    c.loop-i.invariant.1.bits ∙ ap (dues_at args.words.now args.g (worker_at args.g.workers args.w) args.q) all

@@ -1,0 +1,46 @@
+-- `take_all` takes the updates of some workers.
+use Prim.Native.Nat.{◌-◌, ◌≤◌}
+use native.Mathlib.Omega.{arith}
+use mathlib.Core.Path.{◌≡◌, refl, sym, ◌∙◌, ap}
+use mathlib.Core.Logic.{⊎_elim}
+use lib.ListN.{length}
+use borrow.Author.Rules.{rules}
+use Rattle.fields.specs.Regions.{worker_at}
+use Rattle.taking.specs.Taking.{taken_all}
+use Rattle.spares.proofs.PoolLaws.{whole_kept}
+use Rattle.taking.proofs.TakingLaws.{all_more, all_same}
+use Rattle.taking.proofs.take_all.Goals as goal
+
+pub loop-i-init : goal.loop-i-init
+unfolding taken_all
+loop-i-init c = (search rules, (refl, refl))
+
+pub overflow_shr-bits : goal.overflow_shr-bits
+overflow_shr-bits c = omega (arith, c.requires.0.fits.workers)
+
+pub take-requires : goal.take-requires
+take-requires c =
+    let turn = c.before.before in
+    let start = turn.before.before.before in
+    (whole_kept (sym turn.loop-i.invariant.1.0) start.requires.0, (start.requires.1, turn.loop-i-test.true))
+
+pub loop-i-preserved : goal.loop-i-preserved
+loop-i-preserved c =
+    let here = c.before.before in
+    ⊎_elim
+    (λ w. (
+      search rules,
+      (
+        ap length w.5 ∙ search rules,
+        w.5
+            ∙ all_more _ _ _ _ _ _ here.loop-i.invariant.1.1 _ w.0.taken w.2.ensures,
+      ),
+    ))
+    (λ w. (search rules, (ap length w.1 ∙ here.loop-i.invariant.1.0, w.1 ∙ all_same _ _ _ _ _ _ here.loop-i.invariant.1.1 w.0.left)))
+    c.if-bits-i-eq1.either
+
+pub returns : goal.returns
+returns c =
+    let args = c.args in
+    let all : c.loop-i.i ≡ args.g.workers = omega arith in
+    c.loop-i.invariant.1.1 ∙ ap (taken_all args.words.now args.g (worker_at args.g.workers args.w) args.bits) all

@@ -1,0 +1,25 @@
+-- `all_pairs` tries the operations in turn.
+use Prim.Native.Nat.{◌-◌}
+use mathlib.Core.Path.{sym}
+use borrow.Author.Rules.{rules}
+use Rattle.machine.specs.Choice.{◌and◌}
+use Rattle.logs.specs.Log.{all, apart, in_turn, logged_at}
+use Rattle.wellformed.proofs.All.{Passed, passed_none, passed_more, passed_all, passed_not}
+use Rattle.wellformed.proofs.all_pairs.Goals as goal
+
+pub loop-i-init : goal.loop-i-init
+loop-i-init c = passed_none _ _
+
+pub returns-then-not-pairs : goal.returns-then-not-pairs
+returns-then-not-pairs c =
+    let tested = c.before in
+    sym (passed_not _ _ _ tested.loop-i-test.true tested.pairs.ensures c.if-not-pairs.true)
+
+pub loop-i-preserved : goal.loop-i-preserved
+loop-i-preserved c =
+    let tested = c.before in
+    let turn = tested.before in
+    passed_more _ _ _ turn.loop-i-test.true turn.loop-i.invariant tested.pairs.ensures c.if-not-pairs.false-raw
+
+pub returns : goal.returns
+returns c = sym (passed_all _ _ _ c.loop-i-test.false c.loop-i.invariant)

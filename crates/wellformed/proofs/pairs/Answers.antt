@@ -1,0 +1,25 @@
+-- `pairs` tries the operations of lower places.
+use Prim.Native.Nat.{◌-◌}
+use mathlib.Core.Path.{sym}
+use borrow.Author.Rules.{rules}
+use Rattle.machine.specs.Choice.{◌and◌}
+use Rattle.logs.specs.Log.{apart, in_turn, logged_at}
+use Rattle.wellformed.proofs.All.{Passed, passed_none, passed_more, passed_all, passed_not}
+use Rattle.wellformed.proofs.pairs.Goals as goal
+
+pub loop-j-init : goal.loop-j-init
+loop-j-init c = passed_none _ _
+
+pub returns-then-not-pair : goal.returns-then-not-pair
+returns-then-not-pair c =
+    let tested = c.before in
+    sym (passed_not _ _ _ tested.loop-j-test.true tested.pair.ensures c.if-not-pair.true)
+
+pub loop-j-preserved : goal.loop-j-preserved
+loop-j-preserved c =
+    let tested = c.before in
+    let turn = tested.before in
+    passed_more _ _ _ turn.loop-j-test.true turn.loop-j.invariant tested.pair.ensures c.if-not-pair.false-raw
+
+pub returns : goal.returns
+returns c = sym (passed_all _ _ _ c.loop-j-test.false c.loop-j.invariant)
