@@ -20,14 +20,12 @@ loop-k-init c = (search rules, search rules, refl, sym (raised_start _ _))
 
 pub loop-k-preserved : goal.loop-k-preserved
 loop-k-preserved c =
-    let at_loop = c.before.before in
-    let s = at_loop.before.before.before in
-    let k = at_loop.loop-k.k in (
+    let k = c.loop-k.k in (
       search rules,
       search rules,
-      simp length-set at_loop.loop-k.invariant.2,
-      ap (λ (r : List ℕ). set r k (get_or r (k - 1) 0)) at_loop.loop-k.invariant.3
-          ∙ raised_turn s.args.a.now s.args.c k (omega arith) (omega arith) (omega arith),
+      simp length-set c.loop-k.invariant.2,
+      ap (λ (r : List ℕ). set r k (get_or r (k - 1) 0)) c.loop-k.invariant.3
+          ∙ raised_turn c.args.a.now c.args.c k (omega arith) (omega arith) (omega arith),
     )
 
 pub shape_of-a : goal.shape_of-a

@@ -13,27 +13,23 @@ loop-i-init c = (search rules, refl)
 
 pub returns-then-account-x-2 : goal.returns-then-account-x-2
 returns-then-account-x-2 c =
-    let at_loop = c.before.before.before.before in
-    let s = at_loop.args in
-    sym (scan_hit s.accounts.now s.account at_loop.loop-i.i (omega arith) (omega arith)) ∙ at_loop.loop-i.invariant.1
+    let s = c.args in
+    sym (scan_hit s.accounts.now s.account c.loop-i.i (omega arith) (omega arith)) ∙ c.loop-i.invariant.1
 
 pub returns-then-account-x : goal.returns-then-account-x
 returns-then-account-x c =
-    let at_loop = c.before.before.before.before in
-    let s = at_loop.args in
-    sym (scan_before s.accounts.now s.account at_loop.loop-i.i (omega arith) (omega (arith, c.if-account-x-2.false)))
-    ∙ at_loop.loop-i.invariant.1
+    let s = c.args in
+    sym (scan_before s.accounts.now s.account c.loop-i.i (omega arith) (omega (arith, c.if-account-x-2.false)))
+    ∙ c.loop-i.invariant.1
 
 pub loop-i-preserved : goal.loop-i-preserved
 loop-i-preserved c =
-    let at_loop = c.before.before.before in
-    let s = at_loop.args in (
+    let s = c.args in (
       search rules,
-      sym (scan_turn s.accounts.now s.account at_loop.loop-i.i (omega arith) (omega arith)) ∙ at_loop.loop-i.invariant.1,
+      sym (scan_turn s.accounts.now s.account c.loop-i.i (omega arith) (omega arith)) ∙ c.loop-i.invariant.1,
     )
 
 pub returns : goal.returns
 returns c =
-    let at_loop = c.before in
-    let s = at_loop.args in
-    sym (scan_end s.accounts.now s.account at_loop.loop-i.i (omega arith)) ∙ at_loop.loop-i.invariant.1
+    let s = c.args in
+    sym (scan_end s.accounts.now s.account c.loop-i.i (omega arith)) ∙ c.loop-i.invariant.1

@@ -9,58 +9,48 @@ use Rattle.calls.proofs.begin.Goals.{After-worker_at-p}
 
 -- the worker's record lies inside the words
 inside : (c : After-worker_at-p) → Placed c.args.words.now c.args.g c.worker_at-p.result
-inside c = let start = c.before.before in rw c.worker_at-p.ensures (placed start.requires.0 _ start.requires.1)
+inside c = rw c.worker_at-p.ensures (placed c.requires.0 _ c.requires.1)
 
 pub overflow_add-p : goal.overflow_add-p
-overflow_add-p c = let b = inside c.before in omega arith
+overflow_add-p c = let b = inside (goal.at.overflow_add-p c).After-worker_at-p in omega arith
 
 pub put-requires : goal.put-requires
-put-requires c = let b = inside c.before in omega arith
+put-requires c = let b = inside (goal.at.put-requires c).After-worker_at-p in omega arith
 
 pub overflow_add-p-2 : goal.overflow_add-p-2
-overflow_add-p-2 c = let b = inside c.before.before.before.before.before in omega arith
+overflow_add-p-2 c = let b = inside (goal.at.overflow_add-p-2 c).After-worker_at-p in omega arith
 
 pub put-requires-2 : goal.put-requires-2
-put-requires-2 c = let b = inside c.before.before.before.before.before in omega arith
+put-requires-2 c = let b = inside (goal.at.put-requires-2 c).After-worker_at-p in omega arith
 
 pub overflow_add-p-3 : goal.overflow_add-p-3
-overflow_add-p-3 c = let b = inside c.before.before.before.before.before.before.before.before.before in omega arith
+overflow_add-p-3 c = let b = inside (goal.at.overflow_add-p-3 c).After-worker_at-p in omega arith
 
 pub put-requires-3 : goal.put-requires-3
-put-requires-3 c = let b = inside c.before.before.before.before.before.before.before.before.before in omega arith
+put-requires-3 c = let b = inside (goal.at.put-requires-3 c).After-worker_at-p in omega arith
 
 pub overflow_add-p-4 : goal.overflow_add-p-4
 overflow_add-p-4 c =
-    let earlier = c.before.before.before.before.before.before.before.before in
-    let b = inside earlier.before.before.before.before.before in
+    let b = inside (goal.at.overflow_add-p-4 c).After-worker_at-p in
     omega arith
 
 pub put-requires-4 : goal.put-requires-4
 put-requires-4 c =
-    let earlier = c.before.before.before.before.before.before.before.before in
-    let b = inside earlier.before.before.before.before.before in
+    let b = inside (goal.at.put-requires-4 c).After-worker_at-p in
     omega arith
 
 pub overflow_add-p-5 : goal.overflow_add-p-5
 overflow_add-p-5 c =
-    let earlier = c.before.before.before.before.before.before.before.before in
-    let b = inside earlier.before.before.before.before.before.before.before.before.before in
+    let b = inside (goal.at.overflow_add-p-5 c).After-worker_at-p in
     omega arith
 
 pub put-requires-5 : goal.put-requires-5
 put-requires-5 c =
-    let earlier = c.before.before.before.before.before.before.before.before in
-    let b = inside earlier.before.before.before.before.before.before.before.before.before in
+    let b = inside (goal.at.put-requires-5 c).After-worker_at-p in
     omega arith
 
 pub returns : goal.returns
 unfolding begun_at
 returns c =
-    let put5 = c.before.before in
-    let put4 = put5.before.before.before.before in
-    let put3 = put4.before.before.before.before in
-    let put2 = put3.before.before.before.before in
-    let put1 = put2.before.before.before.before in
-    let start = put1.before.before in
-    rw (← start.worker_at-p.ensures, ← put1.put.ensures, ← put2.put2.ensures, ← put3.put3.ensures, ← put4.put4.ensures)
-    put5.put5.ensures
+    rw (← c.worker_at-p.ensures, ← c.put.ensures, ← c.put-2.ensures, ← c.put-3.ensures, ← c.put-4.ensures)
+    c.put-5.ensures

@@ -19,28 +19,15 @@ bounds-words-0 c = omega (arith, fits_of _ (sym c.strange_words.ensures ∙ c.if
 pub returns-then-g-worker : goal.returns-then-g-worker
 unfolding call_words
 returns-then-g-worker c =
-    let settings-of = c.before.before in
-    let test = settings-of.before.before in
-    let strange-words = test.before in
-    stranger_next _ _ _ strange-words.strange_words.ensures _ _ _ _ test.if-strange_words.false settings-of.settings_of-g.ensures
+    stranger_next _ _ _ c.strange_words.ensures _ _ _ _ c.if-strange_words.false c.settings_of-g.ensures
     c.if-g-worker.true
 
 pub call_in-requires : goal.call_in-requires
 call_in-requires c =
-    let test2 = c.before in
-    let settings-of = test2.before.before in
-    let test = settings-of.before.before in
-    let strange-words = test.before in
-    let f = fits_read _ _ _ strange-words.strange_words.ensures test.if-strange_words.false settings-of.settings_of-g.ensures in
-    (f, test2.if-g-worker.false)
+    let f = fits_read _ _ _ c.strange_words.ensures c.if-strange_words.false c.settings_of-g.ensures in
+    (f, c.if-g-worker.false)
 
 pub returns : goal.returns
 returns c =
-    let call-in = c.before.before in
-    let test2 = call-in.before.before in
-    let settings-of = test2.before.before in
-    let test = settings-of.before.before in
-    let strange-words = test.before in
-    let start = strange-words.before.before.before in
-    call-words _ _ _ _ strange-words.strange_words.ensures test.if-strange_words.false settings-of.settings_of-g.ensures test2.if-g-worker.false _
-    _ _ _ (call-in.call_in.ensures ∙ ap (call_in _ _ _ _) (to_z-of_z start.ranges.total))
+    call-words _ _ _ _ c.strange_words.ensures c.if-strange_words.false c.settings_of-g.ensures c.if-g-worker.false _
+    _ _ _ (c.call_in.ensures ∙ ap (call_in _ _ _ _) (to_z-of_z c.ranges.total))

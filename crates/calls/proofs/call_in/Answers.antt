@@ -15,86 +15,53 @@ use Rattle.calls.proofs.call_in.Goals.{After-worker_at-p}
 
 -- the worker's record lies inside the words
 inside : (c : After-worker_at-p) → Placed c.args.words.now c.args.g c.worker_at-p.result
-inside c = let start = c.before.before in rw c.worker_at-p.ensures (placed start.requires.0 _ start.requires.1)
+inside c = rw c.worker_at-p.ensures (placed c.requires.0 _ c.requires.1)
 
 pub overflow_add-p : goal.overflow_add-p
-overflow_add-p c = let b = inside c.before in omega arith
+overflow_add-p c = let b = inside c in omega arith
 
 pub get-requires : goal.get-requires
-get-requires c = let b = inside c.before in omega arith
+get-requires c = let b = inside c in omega arith
 
 pub returns-then-get-ne-KIND_NONE : goal.returns-then-get-ne-KIND_NONE
 returns-then-get-ne-KIND_NONE c =
-    let read = c.before in
-    let at = read.before.before in
-    rw (← at.worker_at-p.ensures) (call_busy _ _ _ _ _ _ read.get.ensures c.if-get-ne-KIND_NONE.true)
+    rw (← c.worker_at-p.ensures) (call_busy _ _ _ _ _ _ c.get.ensures c.if-get-ne-KIND_NONE.true)
 
 pub returns-then-kind-lt-KIND_INSERT : goal.returns-then-kind-lt-KIND_INSERT
 returns-then-kind-lt-KIND_INSERT c =
-    let free = c.before in
-    let read = free.before in
-    let at = read.before.before in
-    rw (← at.worker_at-p.ensures) (call_kind _ _ _ _ _ _ read.get.ensures free.if-get-ne-KIND_NONE.false (inl c.if-kind-lt-KIND_INSERT.true))
+    rw (← c.worker_at-p.ensures) (call_kind _ _ _ _ _ _ c.get.ensures c.if-get-ne-KIND_NONE.false (inl c.if-kind-lt-KIND_INSERT.true))
 
 pub returns-then-kind-gt-GREATEST_KIND : goal.returns-then-kind-gt-GREATEST_KIND
 returns-then-kind-gt-GREATEST_KIND c =
-    let free = c.before.before in
-    let read = free.before in
-    let at = read.before.before in
-    rw (← at.worker_at-p.ensures) (call_kind _ _ _ _ _ _ read.get.ensures free.if-get-ne-KIND_NONE.false (inr c.if-kind-gt-GREATEST_KIND.true))
+    rw (← c.worker_at-p.ensures) (call_kind _ _ _ _ _ _ c.get.ensures c.if-get-ne-KIND_NONE.false (inr c.if-kind-gt-GREATEST_KIND.true))
 
 pub overflow_add-p-2 : goal.overflow_add-p-2
-overflow_add-p-2 c = let b = inside c.before.before.before.before.before.before in omega arith
+overflow_add-p-2 c = let b = inside (goal.at.overflow_add-p-2 c).After-worker_at-p in omega arith
 
 pub get-last-requires : goal.get-last-requires
-get-last-requires c = let b = inside c.before.before.before.before.before.before in omega arith
+get-last-requires c = let b = inside (goal.at.get-last-requires c).After-worker_at-p in omega arith
 
 pub returns-then-kind-eq-KIND_LOOKUP : goal.returns-then-kind-eq-KIND_LOOKUP
 returns-then-kind-eq-KIND_LOOKUP c =
-    let begun = c.before.before in
-    let kind = begun.before.before in
-    let last = kind.before in
-    let high = last.before.before in
-    let low = high.before in
-    let free = low.before in
-    let read = free.before in
-    let at = read.before.before in
-    rw (← at.worker_at-p.ensures)
-    (call_lookup _ _ _ _ _ _ read.get.ensures free.if-get-ne-KIND_NONE.false low.if-kind-lt-KIND_INSERT.false high.if-kind-gt-GREATEST_KIND.false _ last.get-last.ensures _
-    kind.if-kind-eq-KIND_LOOKUP.true
-    (rw at.worker_at-p.ensures begun.begin.ensures))
+    rw (← c.worker_at-p.ensures)
+    (call_lookup _ _ _ _ _ _ c.get.ensures c.if-get-ne-KIND_NONE.false c.if-kind-lt-KIND_INSERT.false c.if-kind-gt-GREATEST_KIND.false _ c.get-last.ensures _
+    c.if-kind-eq-KIND_LOOKUP.true
+    (rw c.worker_at-p.ensures c.begin.ensures))
 
 pub returns-then-last-ge-GREATEST_TICKET : goal.returns-then-last-ge-GREATEST_TICKET
 returns-then-last-ge-GREATEST_TICKET c =
-    let kind = c.before in
-    let last = kind.before in
-    let high = last.before.before in
-    let low = high.before in
-    let free = low.before in
-    let read = free.before in
-    let at = read.before.before in
-    rw (← at.worker_at-p.ensures)
-    (call_spent _ _ _ _ _ _ read.get.ensures free.if-get-ne-KIND_NONE.false low.if-kind-lt-KIND_INSERT.false high.if-kind-gt-GREATEST_KIND.false _ last.get-last.ensures
-    kind.if-kind-eq-KIND_LOOKUP.false
+    rw (← c.worker_at-p.ensures)
+    (call_spent _ _ _ _ _ _ c.get.ensures c.if-get-ne-KIND_NONE.false c.if-kind-lt-KIND_INSERT.false c.if-kind-gt-GREATEST_KIND.false _ c.get-last.ensures
+    c.if-kind-eq-KIND_LOOKUP.false
     c.if-last-ge-GREATEST_TICKET.true)
 
 pub returns : goal.returns
 returns c =
-    let begun = c.before.before in
-    let total = begun.before.before in
-    let room = total.before in
-    let kind = room.before in
-    let last = kind.before in
-    let high = last.before.before in
-    let low = high.before in
-    let free = low.before in
-    let read = free.before in
-    let at = read.before.before in
     let word =
     ⊎_elim (λ w. w.1 ∙ sym (if_eq _ _ _ _ w.0.taken))
-    (λ w. w.2 ∙ w.1.ensures ∙ ap (of_z w64) (to_z-of_z at.ranges.total) ∙ sym (if_ne _ _ _ _ w.0.left))
-    total.if-kind-eq-KIND_DELETE.either in
-    rw (← at.worker_at-p.ensures)
-    (call_update _ _ _ _ _ _ read.get.ensures free.if-get-ne-KIND_NONE.false low.if-kind-lt-KIND_INSERT.false high.if-kind-gt-GREATEST_KIND.false _ last.get-last.ensures
-    kind.if-kind-eq-KIND_LOOKUP.false
-    _ _ room.if-last-ge-GREATEST_TICKET.false word (rw at.worker_at-p.ensures begun.begin2.ensures))
+    (λ w. w.2 ∙ w.1.ensures ∙ ap (of_z w64) (to_z-of_z c.ranges.total) ∙ sym (if_ne _ _ _ _ w.0.left))
+    c.if-kind-eq-KIND_DELETE.either in
+    rw (← c.worker_at-p.ensures)
+    (call_update _ _ _ _ _ _ c.get.ensures c.if-get-ne-KIND_NONE.false c.if-kind-lt-KIND_INSERT.false c.if-kind-gt-GREATEST_KIND.false _ c.get-last.ensures
+    c.if-kind-eq-KIND_LOOKUP.false
+    _ _ c.if-last-ge-GREATEST_TICKET.false word (rw c.worker_at-p.ensures c.begin-2.ensures))

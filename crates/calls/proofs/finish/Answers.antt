@@ -5,6 +5,4 @@ use Rattle.calls.proofs.finish.Goals as goal
 
 pub returns : goal.returns
 returns c =
-    let put2 = c.before.before in
-    let put = put2.before.before.before.before in
-    rw (← put.put.ensures) put2.put2.ensures
+    rw (← c.put.ensures) c.put-2.ensures

@@ -10,6 +10,4 @@ use Rattle.capi.proofs.totals_call.Goals as goal
 
 pub returns : goal.returns
 returns c =
-    let call = c.before.before.before in
-    let start = call.before.before.before in
-    flat_is called_number _ _ _ _ (call.call-answer.ensures ∙ ap (call_words _ _ _ _) (to_z-of_z start.ranges.total)) c.called_number.ensures
+    flat_is called_number _ _ _ _ (c.call-answer.ensures ∙ ap (call_words _ _ _ _) (to_z-of_z c.ranges.total)) c.called_number.ensures

@@ -7,7 +7,5 @@ use Rattle.capi.proofs.totals_export.Goals as goal
 
 pub returns : goal.returns
 returns c =
-    let at_number = c.before.before in
-    let at_export = at_number.before.before.before.before in
-    let n = at_number.exported_number.ensures in
-    reported_is exported_number _ _ _ _ at_export.export-answer.ensures n.1 exported_report _ _ n.0
+    let n = c.exported_number.ensures in
+    reported_is exported_number _ _ _ _ c.export-answer.ensures n.1 exported_report _ _ n.0

@@ -6,6 +6,4 @@ use Rattle.capi.proofs.totals_list.Goals as goal
 
 pub returns : goal.returns
 returns c =
-    let at_number = c.before.before in
-    let at_listing = at_number.before.before.before.before.before in
-    written_is _ _ _ _ _ _ _ at_listing.listing-answer.ensures at_number.listed_number.ensures.1 at_number.listed_number.ensures.0
+    written_is _ _ _ _ _ _ _ c.listing-answer.ensures c.listed_number.ensures.1 c.listed_number.ensures.0

@@ -6,7 +6,5 @@ use Rattle.capi.proofs.totals_rebates.Goals as goal
 
 pub returns : goal.returns
 returns c =
-    let at_number = c.before.before in
-    let at_rebates = at_number.before.before.before.before.before.before in
-    let number = at_number.listed_number.ensures in
-    written_rebates_is _ _ _ _ _ _ _ at_rebates.rebates-answer.ensures number.1 number.0
+    let number = c.listed_number.ensures in
+    written_rebates_is _ _ _ _ _ _ _ c.rebates-answer.ensures number.1 number.0

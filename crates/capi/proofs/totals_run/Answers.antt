@@ -7,7 +7,5 @@ use Rattle.capi.proofs.totals_run.Goals as goal
 
 pub returns : goal.returns
 returns c =
-    let at_number = c.before.before in
-    let at_run = at_number.before.before.before.before in
-    let n = at_number.ran_number.ensures in
-    reported_is ran_number _ _ _ _ at_run.run-answer.ensures n.1 ran_report _ _ n.0
+    let n = c.ran_number.ensures in
+    reported_is ran_number _ _ _ _ c.run-answer.ensures n.1 ran_report _ _ n.0

@@ -7,7 +7,5 @@ use Rattle.capi.proofs.totals_step.Goals as goal
 
 pub returns : goal.returns
 returns c =
-    let at_number = c.before.before in
-    let at_step = at_number.before.before.before.before in
-    let n = at_number.stepped_number.ensures in
-    reported_is stepped_number _ _ _ _ at_step.step-answer.ensures n.1 stepped_report _ _ n.0
+    let n = c.stepped_number.ensures in
+    reported_is stepped_number _ _ _ _ c.step-answer.ensures n.1 stepped_report _ _ n.0

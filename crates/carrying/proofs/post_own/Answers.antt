@@ -25,30 +25,21 @@ sum_is :
     (c : After-sum_of) → let s = c.args in
     sum_of (total_in (bucket_at s.words.now s.g s.q) s.p) s.u.total ≡ c.sum_of.result
 sum_is c =
-    let read = c.before in
-    let amount = read.args.u.total in
-    ap (λ (v : ℕ). sum_of v amount) (sym read.total_own.ensures) ∙ sym c.sum_of.ensures
+    let amount = c.args.u.total in
+    ap (λ (v : ℕ). sum_of v amount) (sym c.total_own.ensures) ∙ sym c.sum_of.ensures
 
 pub returns-in-Within : goal.returns-in-Within
 unfolding put_at changed_at
 returns-in-Within c =
-    let put = c.before.before in
-    let total = put.before.before.before in
-    let summed = total.before.before in
-    let entry = summed.before.before.before.before in
-    let s = entry.args in
-    put.put_own.ensures
+    let s = c.args in
+    c.put_own.ensures
     ∙ ap (record_as s.words.now s.g s.q s.toggle)
-    (change_posted _ s.j s.p s.u entry.requires.1.1 _ _ (sum_is summed ∙ total.in-Within.is) refl)
+    (change_posted _ s.j s.p s.u c.requires.1.1 _ _ (sum_is (goal.at.returns-in-Within c).After-sum_of ∙ c.in-Within.is) refl)
 
 pub returns-in-Outside : goal.returns-in-Outside
 unfolding changed_at
 returns-in-Outside c =
-    let settled = c.before.before in
-    let told = settled.before.before in
-    let summed = told.before.before in
-    let entry = summed.before.before.before.before in
-    let s = entry.args in
-    settled.settle_own.ensures
+    let s = c.args in
+    c.settle_own.ensures
     ∙ ap (record_as s.words.now s.g s.q s.toggle)
-    (change_overrun _ s.j s.p s.u entry.requires.1.1 (sum_is summed ∙ told.in-Outside.is))
+    (change_overrun _ s.j s.p s.u c.requires.1.1 (sum_is (goal.at.returns-in-Outside c).After-sum_of ∙ c.in-Outside.is))

@@ -11,10 +11,8 @@ use Rattle.commands.proofs.open.Goals as goal
 use Rattle.commands.proofs.open.Goals.{In-Values}
 
 both_read : (c : In-Values) →
-    let p = c.before.before.before in
-    let s = p.before.before.before.before in
-    let v = c.before.n.given.0 in
-    (small_of s.args.x.now ≡ some v.0) × (small_of s.args.y.now ≡ some v.1.0)
+    let v = c.n.given.0 in
+    (small_of c.args.x.now ≡ some v.0) × (small_of c.args.y.now ≡ some v.1.0)
 unfolding small_of
 both_read c = pair_some _ _ _ _ (sym c.in-Values.is ∙ c.read_pair.ensures)
 
@@ -25,13 +23,11 @@ returns-in_default c = unread3 Open _ _ _ (sym c.in_default.is ∙ c.read_pair.e
 pub returns-in_default-read_number : goal.returns-in_default-read_number
 unfolding small_of with3
 returns-in_default-read_number c =
-    let t = c.before.before in
-    let b = both_read t.before in
-    rw (b.0, b.1, number_none _ (sym c.in_default-read_number.is ∙ t.read_number.ensures))
+    let b = both_read (goal.at.returns-in_default-read_number c).In-Values in
+    rw (b.0, b.1, number_none _ (sym c.in_default-read_number.is ∙ c.read_number.ensures))
 
 pub returns : goal.returns
 unfolding small_of with3
 returns c =
-    let t = c.before.before.before in
-    let b = both_read t.before in
-    rw (b.0, b.1, number_some _ _ (sym c.in-Value.is ∙ t.read_number.ensures))
+    let b = both_read (goal.at.returns c).In-Values in
+    rw (b.0, b.1, number_some _ _ (sym c.in-Value.is ∙ c.read_number.ensures))

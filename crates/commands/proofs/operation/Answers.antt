@@ -20,20 +20,16 @@ use Rattle.commands.proofs.operation.Goals as goal
 use Rattle.commands.proofs.operation.Goals.{In-Value, In-Values}
 
 both_read : (c : In-Values) →
-    let p = c.before.before.before in
-    let s = p.before.before.before.before in
-    let v = c.before.w.given.0 in
-    (small_of s.args.x.now ≡ some v.0) × (account_of s.args.y.now ≡ some v.1.0)
+    let v = c.w.given.0 in
+    (small_of c.args.x.now ≡ some v.0) × (account_of c.args.y.now ≡ some v.1.0)
 unfolding account_of
 both_read c = pair_some _ _ _ _ (sym c.in-Values.is ∙ c.read_pair.ensures)
 
 pub returns-in_default : goal.returns-in_default
 unfolding account_of
 returns-in_default c =
-    let p = c.before.before in
-    let s = p.before.before.before.before in
-    no_operation s.args.kind s.args.x.now s.args.y.now s.args.z.now
-    (sym c.in_default.is ∙ p.read_pair.ensures)
+    no_operation c.args.kind c.args.x.now c.args.y.now c.args.z.now
+    (sym c.in_default.is ∙ c.read_pair.ensures)
 
 pub overflow_cast-account : goal.overflow_cast-account
 unfolding account_of
@@ -41,44 +37,41 @@ overflow_cast-account c = record { fits = omega (arith, limited greatest_account
 
 pub returns-then-kind-eq-KIND_DELETE : goal.returns-then-kind-eq-KIND_DELETE
 unfolding operation_command if◌then◌else◌ with2
-returns-then-kind-eq-KIND_DELETE c = let b = both_read c.before in rw (eq-eqb _ kind_delete c.if-kind-eq-KIND_DELETE.true, b.0, b.1)
+returns-then-kind-eq-KIND_DELETE c = let b = both_read (goal.at.returns-then-kind-eq-KIND_DELETE c).In-Values in rw (eq-eqb _ kind_delete c.if-kind-eq-KIND_DELETE.true, b.0, b.1)
 
 pub returns-then-kind-eq-KIND_LOOKUP : goal.returns-then-kind-eq-KIND_LOOKUP
 unfolding operation_command if◌then◌else◌ with2
 returns-then-kind-eq-KIND_LOOKUP c =
-    let b = both_read c.before.before in
+    let b = both_read (goal.at.returns-then-kind-eq-KIND_LOOKUP c).In-Values in
     rw (ne_eqb _ kind_delete c.if-kind-eq-KIND_DELETE.false, eq-eqb _ kind_lookup c.if-kind-eq-KIND_LOOKUP.true, b.0, b.1)
 
 pub returns-in_default-read_signed : goal.returns-in_default-read_signed
 unfolding total_of
 returns-in_default-read_signed c =
-    let t = c.before.before in
-    no_total _ _ _ _ (ne_eqb _ kind_delete t.if-kind-eq-KIND_DELETE.false) (ne_eqb _ kind_lookup t.if-kind-eq-KIND_LOOKUP.false)
-    (signed_none _ (sym c.in_default-read_signed.is ∙ t.read_signed.ensures))
+    no_total _ _ _ _ (ne_eqb _ kind_delete c.if-kind-eq-KIND_DELETE.false) (ne_eqb _ kind_lookup c.if-kind-eq-KIND_LOOKUP.false)
+    (signed_none _ (sym c.in_default-read_signed.is ∙ c.read_signed.ensures))
 
 -- where all three fields are read, by the kind
 all_read : (c : In-Value) →
-    let p = c.before.before.before.before.before.before.before.before.before in
-    let a = p.args in
-    let v = c.before.before.before.before.before.before.before.w.given.0 in
+    let a = c.args in
+    let v = c.w.given.0 in
     let t = to_z w64 (of_z w64 c.in-Value.total) in
     (if eqb a.kind kind_post then Post v.0 v.1.0 t else Insert v.0 v.1.0 t)
     ≡ operation_command a.kind a.x.now a.y.now a.z.now
 unfolding operation_command if◌then◌else◌ total_of with3
 all_read c =
-    let t = c.before.before.before in
-    let b = both_read t.before.before.before in
+    let b = both_read (goal.at.In-Value c).In-Values in
     rw (
-      ne_eqb _ kind_delete t.if-kind-eq-KIND_DELETE.false,
-      ne_eqb _ kind_lookup t.if-kind-eq-KIND_LOOKUP.false,
+      ne_eqb _ kind_delete c.if-kind-eq-KIND_DELETE.false,
+      ne_eqb _ kind_lookup c.if-kind-eq-KIND_LOOKUP.false,
       b.0,
       b.1,
-      signed_some _ _ (sym c.in-Value.is ∙ t.read_signed.ensures),
+      signed_some _ _ (sym c.in-Value.is ∙ c.read_signed.ensures),
       to_z-of_z {w = w64} {z = c.in-Value.total} (record { sfits = c.known-told2.given.0.1 }),
     )
 
 pub returns-then-kind-eq-KIND_POST : goal.returns-then-kind-eq-KIND_POST
-returns-then-kind-eq-KIND_POST c = sym (if_true _ _ (eq-eqb _ kind_post c.if-kind-eq-KIND_POST.true)) ∙ all_read c.before
+returns-then-kind-eq-KIND_POST c = sym (if_true _ _ (eq-eqb _ kind_post c.if-kind-eq-KIND_POST.true)) ∙ all_read (goal.at.returns-then-kind-eq-KIND_POST c).In-Value
 
 pub returns : goal.returns
-returns c = sym (if_false _ _ (ne_eqb _ kind_post c.if-kind-eq-KIND_POST.false)) ∙ all_read c.before
+returns c = sym (if_false _ _ (ne_eqb _ kind_post c.if-kind-eq-KIND_POST.false)) ∙ all_read (goal.at.returns c).In-Value

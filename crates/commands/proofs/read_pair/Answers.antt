@@ -21,11 +21,9 @@ returns-in_default c = rw (number_none _ (sym c.in_default.is ∙ c.read_number.
 pub returns-in_default-read_number : goal.returns-in_default-read_number
 unfolding as_pair
 returns-in_default-read_number c =
-    let two = c.before.before in
-    rw (first_read two.before, number_none _ (sym c.in_default-read_number.is ∙ two.read-number2.ensures))
+    rw (first_read (goal.at.returns-in_default-read_number c).In-Value, number_none _ (sym c.in_default-read_number.is ∙ c.read_number-2.ensures))
 
 pub returns : goal.returns
 unfolding as_pair
 returns c =
-    let two = c.before.before.before in
-    rw (first_read two.before, number_some _ _ (sym c.in-Value-read_number.is ∙ two.read-number2.ensures))
+    rw (first_read (goal.at.returns c).In-Value, number_some _ _ (sym c.in-Value-read_number.is ∙ c.read_number-2.ensures))

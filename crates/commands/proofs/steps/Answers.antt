@@ -13,10 +13,8 @@ use Rattle.commands.proofs.steps.Goals as goal
 use Rattle.commands.proofs.steps.Goals.{In-Values}
 
 both_read : (c : In-Values) →
-    let p = c.before.before.before in
-    let s = p.before.before.before in
-    let v = c.before.w.given.0 in
-    (small_of s.args.x.now ≡ some v.0) × (up_to greatest_steps (numeral s.args.y.now) ≡ some v.1.0)
+    let v = c.w.given.0 in
+    (small_of c.args.x.now ≡ some v.0) × (up_to greatest_steps (numeral c.args.y.now) ≡ some v.1.0)
 both_read c = pair_some _ _ _ _ (sym c.in-Values.is ∙ c.read_pair.ensures)
 
 pub returns-in_default : goal.returns-in_default
@@ -25,8 +23,8 @@ returns-in_default c = unread2 Steps _ _ _ (ap (from least_steps)) (sym c.in_def
 
 pub returns-then-k-lt-LEAST_STEPS : goal.returns-then-k-lt-LEAST_STEPS
 unfolding steps_of from with2 if◌then◌else◌
-returns-then-k-lt-LEAST_STEPS c = let b = both_read c.before in rw (b.0, b.1, lt-leb least_steps _ c.if-k-lt-LEAST_STEPS.true)
+returns-then-k-lt-LEAST_STEPS c = let b = both_read (goal.at.returns-then-k-lt-LEAST_STEPS c).In-Values in rw (b.0, b.1, lt-leb least_steps _ c.if-k-lt-LEAST_STEPS.true)
 
 pub returns : goal.returns
 unfolding steps_of from with2 if◌then◌else◌
-returns c = let b = both_read c.before in rw (b.0, b.1, le-leb least_steps _ c.if-k-lt-LEAST_STEPS.false)
+returns c = let b = both_read (goal.at.returns c).In-Values in rw (b.0, b.1, le-leb least_steps _ c.if-k-lt-LEAST_STEPS.false)

@@ -13,13 +13,11 @@ use Rattle.csv_file.proofs.row_size.Goals as goal
 
 pub returns : goal.returns
 returns c =
-    let two = c.before.before in
-    let s = two.before.before in
-    let cents = two.signed.ensures ∙ ap sign_of (to_z-of_z s.ranges.total) in
+    let cents = c.signed.ensures ∙ ap sign_of (to_z-of_z c.ranges.total) in
     let units = ap (λ (d : Decimal). length (decimal_text d)) c.units.ensures in
-    let second = text_length two.signed.result in
-    let row = row-size s.args.account s.args.total two.signed.result cents in
-    let short = row_short s.args.account s.args.total s.ranges.account.fits s.ranges.total.sfits in
-    let first = two.digit_count-first.ensures.0 in
+    let second = text_length c.signed.result in
+    let row = row-size c.args.account c.args.total c.signed.result cents in
+    let short = row_short c.args.account c.args.total c.ranges.account.fits c.ranges.total.sfits in
+    let first = c.digit_count-first.ensures.0 in
     let third = c.width-second.ensures.0 in
     (omega arith, omega arith)

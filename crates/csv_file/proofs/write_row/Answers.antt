@@ -19,9 +19,8 @@ use Rattle.csv_file.proofs.write_row.Goals.{After-digit_count-k, After-signed, A
 room_for : (c : After-digit_count-k)
     → c.args.at + c.digit_count-k.result < length c.args.out.now
 room_for c =
-    let s = c.before.before in
-    let a = s.args.account in
-    omega (arith, s.requires, row_length a s.args.total, length_decimal a, c.digit_count-k.ensures.0)
+    let a = c.args.account in
+    omega (arith, c.requires, row_length a c.args.total, length_decimal a, c.digit_count-k.ensures.0)
 
 abbrev counted : After-signed → After-digit_count-k
 counted c = c.before.before.before.before.before.before
@@ -43,10 +42,10 @@ size_of c =
     )
 
 pub spell-requires : goal.spell-requires
-spell-requires c = let h = room_for c.before in omega arith
+spell-requires c = let h = room_for (goal.at.spell-requires c).After-digit_count-k in omega arith
 
 pub bounds-out-comma : goal.bounds-out-comma
-bounds-out-comma c = let h = room_for c.before.before.before.before in omega (arith, c.spell.auto.0)
+bounds-out-comma c = let h = room_for (goal.at.bounds-out-comma c).After-digit_count-k in omega (arith, c.spell.auto.0)
 
 pub write_total-end-requires : goal.write_total-end-requires
 write_total-end-requires c =
@@ -60,37 +59,36 @@ last_length c = c.write_total-end.auto.0 ∙ simp length-set c.spell.auto.0
 end_of : (c : After-write_total-end)
     → c.write_total-end.result + 2
     ≡ (start c.before).args.at + length (csv_row (start c.before).args.account (start c.before).args.total)
-end_of c = let n = size_of c.before in omega (arith, c.write_total-end.ensures.1)
+end_of c = let n = size_of (goal.at.After-write_total-end c).After-signed in omega (arith, c.write_total-end.ensures.1)
 
 room_behind : (c : After-write_total-end) → c.write_total-end.result + 2 ≤ length (start c.before).args.out.now
 room_behind c = let e = end_of c in omega (arith, (start c.before).requires)
 
 pub bounds-out-end : goal.bounds-out-end
-bounds-out-end c = let h = room_behind c.before.before in let n = last_length c.before.before in omega arith
+bounds-out-end c = let h = room_behind (goal.at.bounds-out-end c).After-write_total-end in let n = last_length (goal.at.bounds-out-end c).After-write_total-end in omega arith
 
 pub overflow_add-out : goal.overflow_add-out
-overflow_add-out c = let h = room_behind c.before.before in omega (arith, (start c.before.before.before).well-formed)
+overflow_add-out c = let h = room_behind (goal.at.overflow_add-out c).After-write_total-end in omega (arith, (start c.before.before.before).well-formed)
 
 pub bounds-out-end-2 : goal.bounds-out-end-2
 bounds-out-end-2 c =
-    let h = room_behind c.before.before in
-    let n = last_length c.before.before in
+    let h = room_behind (goal.at.bounds-out-end-2 c).After-write_total-end in
+    let n = last_length (goal.at.bounds-out-end-2 c).After-write_total-end in
     simp length-set (omega arith)
 
 pub overflow_add-result : goal.overflow_add-result
-overflow_add-result c = let h = room_behind c.before.before in omega (arith, (start c.before.before.before).well-formed)
+overflow_add-result c = let h = room_behind (goal.at.overflow_add-result c).After-write_total-end in omega (arith, (start c.before.before.before).well-formed)
 
 pub shape_of-out : goal.shape_of-out
-shape_of-out c = simp length-set (last_length c.before.before)
+shape_of-out c = simp length-set (last_length (goal.at.shape_of-out c).After-write_total-end)
 
 pub returns : goal.returns
 returns c =
-    let total = c.before.before in
     let s = start total.before in
     let k = counted total.before in (
-      row_written s.args.out.now s.args.at s.args.account s.args.total total.signed.result
-          k.digit_count-k.result total.write_total-end.result (cents total.before) k.digit_count-k.ensures.0 s.requires
-          total.spell.ensures total.write_total-end.ensures.0
-          total.write_total-end.ensures.1,
-      end_of total,
+      row_written s.args.out.now s.args.at s.args.account s.args.total c.signed.result
+          k.digit_count-k.result c.write_total-end.result (cents (goal.at.returns c).After-signed) k.digit_count-k.ensures.0 s.requires
+          c.spell.ensures c.write_total-end.ensures.0
+          c.write_total-end.ensures.1,
+      end_of (goal.at.returns c).After-write_total-end,
     )

@@ -14,43 +14,34 @@ use Rattle.csv_file.proofs.write_total.Goals.{After-width}
 room_for : (c : After-width)
     → c.args.at + (c.width.result + 3) ≤ length c.args.out.now
 room_for c =
-    let s = c.before.before.before in
     let e = ap (λ (d : Decimal). length (decimal_text d)) c.units-whole.ensures in
-    omega (arith, s.requires, text_length s.args.d, c.width.ensures.0)
+    omega (arith, c.requires, text_length c.args.d, c.width.ensures.0)
 
 pub spell_decimal-requires : goal.spell_decimal-requires
-spell_decimal-requires c = let h = room_for c.before in omega (arith, c.width.ensures.0)
+spell_decimal-requires c = let h = room_for (goal.at.spell_decimal-requires c).After-width in omega (arith, c.width.ensures.0)
 
 pub bounds-out-point : goal.bounds-out-point
 bounds-out-point c =
-    let whole = c.before.before in
-    let h = room_for whole.before.before in
-    omega (arith, whole.spell_decimal.auto.0)
+    let h = room_for (goal.at.bounds-out-point c).After-width in
+    omega (arith, c.spell_decimal.auto.0)
 
 pub spell-requires : goal.spell-requires
 spell-requires c =
-    let whole = c.before.before.before in
-    let h = room_for whole.before.before in
-    simp length-set (omega (arith, whole.spell_decimal.auto.0))
+    let h = room_for (goal.at.spell-requires c).After-width in
+    simp length-set (omega (arith, c.spell_decimal.auto.0))
 
 pub shape_of-out : goal.shape_of-out
 shape_of-out c =
-    let cents = c.before.before in
-    let whole = cents.before.before.before.before in
-    cents.spell.auto.0 ∙ simp length-set whole.spell_decimal.auto.0
+    c.spell.auto.0 ∙ simp length-set c.spell_decimal.auto.0
 
 pub returns : goal.returns
 returns c =
-    let cents = c.before.before in
-    let whole = cents.before.before.before.before in
-    let p = whole.before.before in
-    let s = p.before.before.before in
-    let u = p.units-whole in
-    let h = room_for p in
-    let k = text_length s.args.d in
+    let u = c.units-whole in
+    let h = room_for (goal.at.returns c).After-width in
+    let k = text_length c.args.d in
     let e = ap (λ (d : Decimal). length (decimal_text d)) u.ensures in
-    let n = p.width.ensures.0 in (
-      units_written s.args.out.now s.args.at s.args.d u.result p.width.result u.ensures n (omega arith)
-          whole.spell_decimal.ensures cents.spell.ensures,
+    let n = c.width.ensures.0 in (
+      units_written c.args.out.now c.args.at c.args.d u.result c.width.result u.ensures n (omega arith)
+          c.spell_decimal.ensures c.spell.ensures,
       omega arith,
     )

@@ -13,18 +13,16 @@ loop-rest-init c = add_comm 1 _
 
 pub overflow_add-k : goal.overflow_add-k
 overflow_add-k c =
-    let l = c.before in
-    let n = l.args.n in
+    let n = c.args.n in
     let m = digit_count_within 19 n (omega arith) in
-    omega (arith, l.loop-rest.invariant, digit_count_large l.loop-rest.rest c.loop-rest-test.true)
+    omega (arith, c.loop-rest.invariant, digit_count_large c.loop-rest.rest c.loop-rest-test.true)
 
 pub loop-rest-preserved : goal.loop-rest-preserved
-loop-rest-preserved c = let l = c.before in omega (arith, l.loop-rest.invariant, digit_count_large l.loop-rest.rest c.loop-rest-test.true)
+loop-rest-preserved c = omega (arith, c.loop-rest.invariant, digit_count_large c.loop-rest.rest c.loop-rest-test.true)
 
 pub returns : goal.returns
 returns c =
-    let l = c.before in
-    let n = l.args.n in
+    let n = c.args.n in
     let m = digit_count_within 19 n (omega arith) in
-    let one = digit_count_small l.loop-rest.rest c.loop-rest-test.false in
-    (omega (arith, l.loop-rest.invariant), omega (arith, l.loop-rest.invariant))
+    let one = digit_count_small c.loop-rest.rest c.loop-rest-test.false in
+    (omega (arith, c.loop-rest.invariant), omega (arith, c.loop-rest.invariant))

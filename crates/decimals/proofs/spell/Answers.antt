@@ -16,26 +16,22 @@ loop-i-init c = (search rules, (refl, refl))
 
 pub loop-i-preserved : goal.loop-i-preserved
 loop-i-preserved c =
-    let l = c.before in
-    let s = l.before in
-    let o = l.loop-i.out in
-    let at = s.args.at in
-    let i = l.loop-i.i in
-    let r = l.loop-i.rest in (
+    let o = c.loop-i.out in
+    let at = c.args.at in
+    let i = c.loop-i.i in
+    let r = c.loop-i.rest in (
       search rules,
       (
-        length-set o (at + (i - 1)) (zero_digit + r % 10) ∙ l.loop-i.invariant.1.0,
+        length-set o (at + (i - 1)) (zero_digit + r % 10) ∙ c.loop-i.invariant.1.0,
         spelled o at i r (omega arith) (omega arith) ∙
-            l.loop-i.invariant.1.1,
+            c.loop-i.invariant.1.1,
       ),
     )
 
 pub returns : goal.returns
 unfolding digits
 returns c =
-    let l = c.before in
-    let s = l.before in
-    let e : l.loop-i.i ≡ 0 = omega arith in
-    sym (overlay_nil l.loop-i.out s.args.at)
-    ∙ ap (λ (j : ℕ). overlay l.loop-i.out s.args.at (digits j l.loop-i.rest)) (sym e)
-    ∙ l.loop-i.invariant.1.1
+    let e : c.loop-i.i ≡ 0 = omega arith in
+    sym (overlay_nil c.loop-i.out c.args.at)
+    ∙ ap (λ (j : ℕ). overlay c.loop-i.out c.args.at (digits j c.loop-i.rest)) (sym e)
+    ∙ c.loop-i.invariant.1.1

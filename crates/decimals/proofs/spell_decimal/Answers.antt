@@ -24,45 +24,41 @@ text_of c = ap (λ (k : ℕ). digits k c.args.d.size) c.digit_count-k.ensures.0
 below_size : (c : Then-d) → length (decimal_text c.args.d) ≡ suc c.digit_count-k.result
 below_size c =
     ap length (text_minus c.args.d c.if-d.true)
-    ∙ ap (λ (l : List ℕ). suc (length l)) (sym (text_of c.before)) ∙ ap suc (length_digits _ _)
+    ∙ ap (λ (l : List ℕ). suc (length l)) (sym (text_of (goal.at.Then-d c).After-digit_count-k)) ∙ ap suc (length_digits _ _)
 
 above_size : (c : Else-d) → length (decimal_text c.args.d) ≡ c.digit_count-k.result
 above_size c =
-    ap length (text_plain c.args.d c.if-d.false) ∙ ap length (sym (text_of c.before)) ∙ length_digits _ _
+    ap length (text_plain c.args.d c.if-d.false) ∙ ap length (sym (text_of (goal.at.Else-d c).After-digit_count-k)) ∙ length_digits _ _
 
 pub bounds-out-at : goal.bounds-out-at
 bounds-out-at c = let e = below_size c in omega (arith, c.requires)
 
 pub overflow_add-at : goal.overflow_add-at
-overflow_add-at c = let e = below_size c.before in omega (arith, c.requires)
+overflow_add-at c = let e = below_size (goal.at.overflow_add-at c).Then-d in omega (arith, c.requires)
 
 pub spell-requires : goal.spell-requires
-spell-requires c = let e = below_size c.before in simp length-set (omega (arith, c.requires))
+spell-requires c = let e = below_size (goal.at.spell-requires c).Then-d in simp length-set (omega (arith, c.requires))
 
 pub spell-requires-else-d : goal.spell-requires-else-d
-spell-requires-else-d c = let e = above_size c.before in omega (arith, c.requires)
+spell-requires-else-d c = let e = above_size (goal.at.spell-requires-else-d c).Else-d in omega (arith, c.requires)
 
 pub shape_of-out-then-d : goal.shape_of-out-then-d
 shape_of-out-then-d c = c.spell.auto.0 ∙ simp length-set
 
 pub returns-then-d : goal.returns-then-d
 returns-then-d c =
-    let g = c.before.before.before.before in
-    let s = g.before.before.before in
-    let l = s.args.out.now in
-    let at = s.args.at in
-    let e = below_size g in
+    let l = c.args.out.now in
+    let at = c.args.at in
+    let e = below_size (goal.at.returns-then-d c).Then-d in
     c.spell.ensures
-    ∙ byte_then l at minus_sign (digits g.digit_count-k.result s.args.d.size) (omega (arith, s.requires))
-    ∙ ap (λ (t : List ℕ). overlay l at (minus_sign ∷ t)) (text_of g.before)
-    ∙ ap (overlay l at) (sym (text_minus s.args.d g.if-d.true))
+    ∙ byte_then l at minus_sign (digits c.digit_count-k.result c.args.d.size) (omega (arith, c.requires))
+    ∙ ap (λ (t : List ℕ). overlay l at (minus_sign ∷ t)) (text_of (goal.at.returns-then-d c).After-digit_count-k)
+    ∙ ap (overlay l at) (sym (text_minus c.args.d c.if-d.true))
 
 pub returns-else-d : goal.returns-else-d
 returns-else-d c =
-    let g = c.before.before.before.before in
-    let s = g.before.before.before in
-    let l = s.args.out.now in
-    let at = s.args.at in
+    let l = c.args.out.now in
+    let at = c.args.at in
     c.spell-else-d.ensures
-    ∙ ap (overlay l at) (text_of g.before)
-    ∙ ap (overlay l at) (sym (text_plain s.args.d g.if-d.false))
+    ∙ ap (overlay l at) (text_of (goal.at.returns-else-d c).After-digit_count-k)
+    ∙ ap (overlay l at) (sym (text_plain c.args.d c.if-d.false))

@@ -24,29 +24,21 @@ returns-then-worker_word-get c = redirected_not _ _ _ _ _ c.worker_word.ensures 
 
 pub resolve-requires : goal.resolve-requires
 resolve-requires c =
-    let start = c.before.before.before.before.before.before.before.before.before.before.before.before in
-    (whole_else _ _ _ start.requires.0 (sym c.nothing.ensures ∙ not-true _ c.if-not-nothing.true), start.requires.1)
+    (whole_else _ _ _ c.requires.0 (sym c.nothing.ensures ∙ not-true _ c.if-not-nothing.true), c.requires.1)
 
 pub put-requires : goal.put-requires
 put-requires c =
-    let start = c.before.before.before.before.before.before.before.before.before.before.before.before in
-    let h = same c.before in
-    omega (arith, long start.requires.0)
+    let h = same (goal.at.put-requires c).Joined-not-nothing in
+    omega (arith, long c.requires.0)
 
 pub shape_of-words : goal.shape_of-words
-shape_of-words c = let h = same c.before.before.before.before in search rules
+shape_of-words c = let h = same (goal.at.shape_of-words c).Joined-not-nothing in search rules
 
 pub returns : goal.returns
 unfolding if◌then◌else◌
 returns c =
-    let put = c.before.before in
-    let joined = put.before.before in
-    let idle = joined.before in
-    let fresh = idle.before.before in
-    let tested = fresh.before.before in
-    let read = tested.before.before.before in
-    redirected_done _ _ _ _ _ read.worker_word.ensures tested.get.ensures joined.if-not-nothing.words _ _ idle.nothing.result
-    tested.if-worker_word-get.false fresh.fresh_directory-x.ensures idle.nothing.ensures put.put.ensures
-    (⊎_elim (λ w. rw (w.5, w.2.ensures, not-true idle.nothing.result w.0.taken))
-    (λ w. rw (w.1, not-false idle.nothing.result w.0.left))
-    joined.if-not-nothing.either)
+    redirected_done _ _ _ _ _ c.worker_word.ensures c.get.ensures c.if-not-nothing.words _ _ c.nothing.result
+    c.if-worker_word-get.false c.fresh_directory-x.ensures c.nothing.ensures c.put.ensures
+    (⊎_elim (λ w. rw (w.5, w.2.ensures, not-true c.nothing.result w.0.taken))
+    (λ w. rw (w.1, not-false c.nothing.result w.0.left))
+    c.if-not-nothing.either)

@@ -13,8 +13,7 @@ loop-i-init c = (search rules, ((refl, (refl, (refl, refl))), refl))
 
 pub loop-i-preserved : goal.loop-i-preserved
 loop-i-preserved c =
-    let l = c.before.before.before.before.before in
-    let lengths = l.loop-i.invariant.1.0 in (
+    let lengths = c.loop-i.invariant.1.0 in (
       search rules,
       let next = fed_next _ _ _ _ _ c.loop-i-test.true c.roomy.ensures
           c.if-roomy.true in
@@ -30,7 +29,7 @@ loop-i-preserved c =
             ),
             next (same_feeding _ w.15 w.16 w.17 w.18 w.19 w.20
                 ∙ took_line _ _ _ _ _ w.0.taken w.5.ensures w.6.ensures w.14.ensures)
-                ∙ l.loop-i.invariant.1.1,
+                ∙ c.loop-i.invariant.1.1,
           ))
           (λ w. (
             (
@@ -38,7 +37,7 @@ loop-i-preserved c =
               (ap length w.3 ∙ lengths.1.0, (ap length w.4 ∙ lengths.1.1.0, ap length w.5 ∙ lengths.1.1.1)),
             ),
             next (same_feeding _ w.2 w.3 w.4 w.5 w.6 w.7 ∙ took_byte _ _ _ w.0.left w.1.ensures)
-                ∙ l.loop-i.invariant.1.1,
+                ∙ c.loop-i.invariant.1.1,
           ))
           c.if-byte-eq10.either,
     )

@@ -19,90 +19,57 @@ overflow_add-n c = omega (arith, c.requires.0.workers, ap (λ (s : Settings). s.
 
 pub read_state-requires : goal.read_state-requires
 read_state-requires c =
-    let start = c.before.before.before.before.before.before in
-    rw c.settings_of.ensures (start.requires.0, start.requires.1.0)
+    rw c.settings_of.ensures (c.requires.0, c.requires.1.0)
 
 pub returns-then-j-lt1 : goal.returns-then-j-lt1
 unfolding update_at
 returns-then-j-lt1 c =
-    let read-state = c.before.before in
-    let settings_of2 = read-state.before in
-    let test = settings_of2.before.before in
-    let reduce = test.before in
-    let settings-of = reduce.before in
-    let start = settings-of.before.before in
-    let at = early_round _ _ _ start.requires.1.1.0 start.requires.1.1.1
-    (rw settings-of.settings_of-n.ensures at reduce.reduce-j.ensures) in
-    at_phase _ _ _ _ _ _ _ read_state (at ∙ bucket_state _ _ test.if-j-lt1.true)
-    (ap (λ (l : List ℕ). (l, Stepped.Moved)) (rw settings_of2.settings_of.ensures at read-state.read_state.ensures))
+    let at = early_round _ _ _ c.requires.1.1.0 c.requires.1.1.1
+    (rw c.settings_of-n.ensures at c.reduce-j.ensures) in
+    at_phase _ _ _ _ _ _ _ read_state (at ∙ bucket_state _ _ c.if-j-lt1.true)
+    (ap (λ (l : List ℕ). (l, Stepped.Moved)) (rw c.settings_of.ensures at c.read_state.ensures))
 
 pub read_toggle-requires : goal.read_toggle-requires
 read_toggle-requires c =
-    let start = c.before.before.before.before.before.before.before in
-    rw c.settings_of-then-j-lt2.ensures (start.requires.0, start.requires.1.0)
+    rw c.settings_of-then-j-lt2.ensures (c.requires.0, c.requires.1.0)
 
 pub returns-then-j-lt2 : goal.returns-then-j-lt2
 unfolding update_at
 returns-then-j-lt2 c =
-    let read-toggle = c.before.before in
-    let settings_of3 = read-toggle.before in
-    let test2 = settings_of3.before.before in
-    let test = test2.before in
-    let reduce = test.before in
-    let settings-of = reduce.before in
-    let start = settings-of.before.before in
-    let at = early_round _ _ _ start.requires.1.1.0 start.requires.1.1.1
-    (rw settings-of.settings_of-n.ensures at reduce.reduce-j.ensures) in
-    at_phase _ _ _ _ _ _ _ read_toggle (at ∙ bucket_toggle _ _ test.if-j-lt1.false test2.if-j-lt2.true)
-    (ap (λ (l : List ℕ). (l, Stepped.Moved)) (rw settings_of3.settings_of-then-j-lt2.ensures at read-toggle.read_toggle.ensures))
+    let at = early_round _ _ _ c.requires.1.1.0 c.requires.1.1.1
+    (rw c.settings_of-n.ensures at c.reduce-j.ensures) in
+    at_phase _ _ _ _ _ _ _ read_toggle (at ∙ bucket_toggle _ _ c.if-j-lt1.false c.if-j-lt2.true)
+    (ap (λ (l : List ℕ). (l, Stepped.Moved)) (rw c.settings_of-then-j-lt2.ensures at c.read_toggle.ensures))
 
 pub overflow_add-n-2 : goal.overflow_add-n-2
 overflow_add-n-2 c =
-    let settings-of = c.before.before.before in
-    let start = settings-of.before.before in
-    omega (arith, start.requires.0.workers, ap (λ (s : Settings). s.workers) settings-of.settings_of-n.ensures)
+    omega (arith, c.requires.0.workers, ap (λ (s : Settings). s.workers) c.settings_of-n.ensures)
 
 pub read_slot-requires : goal.read_slot-requires
 read_slot-requires c =
-    let settings-of = c.before.before.before.before.before.before in
-    let start = settings-of.before.before in
     rw c.settings_of-then-j-n.ensures (
-      start.requires.0,
-      (start.requires.1.0, omega (arith, ap (λ (s : Settings). s.workers) settings-of.settings_of-n.ensures)),
+      c.requires.0,
+      (c.requires.1.0, omega (arith, ap (λ (s : Settings). s.workers) c.settings_of-n.ensures)),
     )
 
 pub returns-then-j-n : goal.returns-then-j-n
 unfolding update_at
 returns-then-j-n c =
-    let read-slot = c.before.before in
-    let settings_of4 = read-slot.before in
-    let test3 = settings_of4.before.before in
-    let test2 = test3.before in
-    let reduce = test2.before.before in
-    let settings-of = reduce.before in
-    let start = settings-of.before.before in
-    let at = early_round _ _ _ start.requires.1.1.0 start.requires.1.1.1
-    (rw settings-of.settings_of-n.ensures at reduce.reduce-j.ensures) in
+    let at = early_round _ _ _ c.requires.1.1.0 c.requires.1.1.1
+    (rw c.settings_of-n.ensures at c.reduce-j.ensures) in
     at_phase _ _ _ _ _ _ _ (read_slot _)
-    (at ∙ bucket_slot _ _ test2.if-j-lt2.false (rw settings-of.settings_of-n.ensures at test3.if-j-n.true))
-    (ap (λ (l : List ℕ). (l, Stepped.Moved)) (rw settings_of4.settings_of-then-j-n.ensures at read-slot.read_slot.ensures))
+    (at ∙ bucket_slot _ _ c.if-j-lt2.false (rw c.settings_of-n.ensures at c.if-j-n.true))
+    (ap (λ (l : List ℕ). (l, Stepped.Moved)) (rw c.settings_of-then-j-n.ensures at c.read_slot.ensures))
 
 pub swap-requires : goal.swap-requires
 swap-requires c =
-    let start = c.before.before.before.before.before.before.before.before in
-    rw c.settings_of-2.ensures (start.requires.0, start.requires.1.0)
+    rw c.settings_of-2.ensures (c.requires.0, c.requires.1.0)
 
 pub returns : goal.returns
 unfolding update_at
 returns c =
-    let swap = c.before.before in
-    let settings_of5 = swap.before in
-    let test3 = settings_of5.before.before in
-    let reduce = test3.before.before.before in
-    let settings-of = reduce.before in
-    let start = settings-of.before.before in
-    let reduced = rw settings-of.settings_of-n.ensures at reduce.reduce-j.ensures in
-    let at = early_round _ _ _ start.requires.1.1.0 start.requires.1.1.1 reduced in
+    let reduced = rw c.settings_of-n.ensures at c.reduce-j.ensures in
+    let at = early_round _ _ _ c.requires.1.1.0 c.requires.1.1.1 reduced in
     at_phase _ _ _ _ _ _ _ swap_state
-    (at ∙ bucket_swap _ _ (rw settings-of.settings_of-n.ensures at test3.if-j-n.false) (reduced_below _ _ _ reduced (omega arith)))
-    (ap (λ (l : List ℕ). (l, Stepped.Moved)) (rw settings_of5.settings_of5.ensures at swap.swap.ensures))
+    (at ∙ bucket_swap _ _ (rw c.settings_of-n.ensures at c.if-j-n.false) (reduced_below _ _ _ reduced (omega arith)))
+    (ap (λ (l : List ℕ). (l, Stepped.Moved)) (rw c.settings_of-2.ensures at c.swap.ensures))

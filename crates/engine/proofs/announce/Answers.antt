@@ -14,4 +14,4 @@ copy-requires c =
 
 pub returns : goal.returns
 unfolding announced_at
-returns c = let copied = c.before.before in rw (copied.copy.ensures, copied.worker_at.ensures)
+returns c = rw (c.copy.ensures, c.worker_at.ensures)

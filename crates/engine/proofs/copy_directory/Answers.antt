@@ -7,6 +7,4 @@ use Rattle.engine.proofs.copy_directory.Goals as goal
 pub returns : goal.returns
 unfolding directory_read_at
 returns c =
-    let second = c.before.before in
-    let first = second.before.before.before.before in
-    rw (second.put-worker-word2.ensures, first.put_worker_word.ensures, first.get.ensures)
+    rw (c.put_worker_word-2.ensures, c.put_worker_word.ensures, c.get.ensures)

@@ -12,23 +12,21 @@ use Rattle.engine.proofs.flip.Goals.{After-held_by-q}
 
 -- the record that the worker holds is inside the words
 inside : (c : After-held_by-q) → c.held_by-q.result + widest_record ≤ length c.args.words.now
-inside c = let start = c.before.before.before in rw c.held_by-q.ensures (held_inside start.requires.0 _)
+inside c = rw c.held_by-q.ensures (held_inside c.requires.0 _)
 
 pub overflow_add-q : goal.overflow_add-q
-overflow_add-q c = let h = inside c.before in omega arith
+overflow_add-q c = let h = inside (goal.at.overflow_add-q c).After-held_by-q in omega arith
 
 pub overflow_add-q-2 : goal.overflow_add-q-2
-overflow_add-q-2 c = let h = inside c.before.before in omega arith
+overflow_add-q-2 c = let h = inside (goal.at.overflow_add-q-2 c).After-held_by-q in omega arith
 
 pub get-requires : goal.get-requires
-get-requires c = let h = inside c.before.before in omega arith
+get-requires c = let h = inside (goal.at.get-requires c).After-held_by-q in omega arith
 
 pub put-requires : goal.put-requires
-put-requires c = let h = inside c.before.before.before.before in omega arith
+put-requires c = let h = inside (goal.at.put-requires c).After-held_by-q in omega arith
 
 pub returns : goal.returns
 unfolding flipped_at
 returns c =
-    let put = c.before.before in
-    let read = put.before.before in
-    rw (put.put.ensures, put.flip_bit.ensures, read.get.ensures, read.held_by-q.ensures)
+    rw (c.put.ensures, c.flip_bit.ensures, c.get.ensures, c.held_by-q.ensures)

@@ -7,5 +7,4 @@ use Rattle.engine.proofs.read_directory.Goals as goal
 pub returns : goal.returns
 unfolding bucket_read_at
 returns c =
-    let put = c.before.before in
-    rw (put.put_worker_word.ensures, put.record_of-q.ensures, put.worker_word.ensures)
+    rw (c.put_worker_word.ensures, c.record_of-q.ensures, c.worker_word.ensures)

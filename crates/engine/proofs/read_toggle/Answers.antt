@@ -6,4 +6,4 @@ use Rattle.engine.proofs.read_toggle.Goals as goal
 
 pub returns : goal.returns
 unfolding toggle_read_at
-returns c = let put = c.before.before in rw (put.put_worker_word.ensures, put.held_word.ensures)
+returns c = rw (c.put_worker_word.ensures, c.held_word.ensures)

@@ -16,20 +16,18 @@ use Rattle.layout.proofs.addresses.size.Reads as size-reads
 use Rattle.entries.proofs.count_in.Goals as goal
 
 pub size-c-requires : goal.size-c-requires
-size-c-requires c = let start = c.before.before in (start.requires.0, entry_inside _ _ start.requires.0 c.entry_record-q.ensures)
+size-c-requires c = (c.requires.0, entry_inside _ _ c.requires.0 c.entry_record-q.ensures)
 
 pub loop-i-init : goal.loop-i-init
 unfolding rows_in
 loop-i-init c =
-    let start = c.before.before.before in
-    (looked _ _ _ start.requires.0 c.entry_record-q.ensures c.size-c.ensures, (search rules, (search rules, refl)))
+    (looked _ _ _ c.requires.0 c.entry_record-q.ensures c.size-c.ensures, (search rules, (search rules, refl)))
 
 pub loop-i-preserved : goal.loop-i-preserved
 loop-i-preserved c =
-    let at_loop = c.before.before.before.before in
-    let s = at_loop.args in
-    let l = at_loop.loop-i in
-    let q = at_loop.entry_record-q.result in
+    let s = c.args in
+    let l = c.loop-i in
+    let q = c.entry_record-q.result in
     let same = same_bits s.words.now s.g q l.i _ _ c.get.ensures c.first_bits.ensures in (
       l.invariant.0,
       (

@@ -14,9 +14,8 @@ use Rattle.entries.proofs.entry_record.Goals as goal
 
 pub overflow_add-directory_start : goal.overflow_add-directory_start
 overflow_add-directory_start c =
-    let start = c.before.before in
-    let f = start.requires.0 in
-    omega (arith, start_bound start.args.g.workers f.workers, span_limit start.args.g.depth f.depth)
+    let f = c.requires.0 in
+    omega (arith, start_bound c.args.g.workers f.workers, span_limit c.args.g.depth f.depth)
 
 pub returns : goal.returns
 unfolding entry_record

@@ -19,29 +19,25 @@ use Rattle.entries.proofs.write_in.Goals as goal
 use Rattle.entries.proofs.write_in.Goals.{Then-first_bits-e}
 
 pub size-c-requires : goal.size-c-requires
-size-c-requires c = let start = c.before.before.before in (start.requires.0, entry_inside _ _ start.requires.0 c.entry_record-q.ensures)
+size-c-requires c = (c.requires.0, entry_inside _ _ c.requires.0 c.entry_record-q.ensures)
 
 pub loop-i-init : goal.loop-i-init
 loop-i-init c =
-    let start = c.before.before.before.before in
-    (looked _ _ _ start.requires.0 c.entry_record-q.ensures c.size-c.ensures, (search rules, written_start _ _ _ _ _ _ _))
+    (looked _ _ _ c.requires.0 c.entry_record-q.ensures c.size-c.ensures, (search rules, written_start _ _ _ _ _ _ _))
 
 -- there is a place for one row more in each list
 room :
     (c : Then-first_bits-e)
-    → let at_loop = c.before.before.before.before in
-    let s = at_loop.args in
-    (at_loop.loop-i.at < length s.accounts.now) × (at_loop.loop-i.at < length s.totals.now)
+    → let s = c.args in
+    (c.loop-i.at < length c.accounts.now) × (c.loop-i.at < length c.totals.now)
 room c =
-    let at_loop = c.before.before.before.before in
-    let s = at_loop.before.before.before.before.before in
-    let l = at_loop.loop-i in
-    let bits = same_bits s.args.words.now s.args.g _ l.i _ _ c.get-a.ensures
+    let l = c.loop-i in
+    let bits = same_bits c.args.words.now c.args.g _ l.i _ _ c.get-a.ensures
     c.first_bits.ensures in
     let hit = sym bits ∙ c.if-first_bits-e.true in
     let test = c.loop-i-test.true in (
-      written_room _ _ _ _ _ _ _ _ _ _ _ l.invariant.1.1 _ _ l.invariant.0 hit test s.requires.1.1.0,
-      written_room _ _ _ _ _ _ _ _ _ _ _ l.invariant.1.1 _ _ l.invariant.0 hit test s.requires.1.1.1,
+      written_room _ _ _ _ _ _ _ _ _ _ _ l.invariant.1.1 _ _ l.invariant.0 hit test c.requires.1.1.0,
+      written_room _ _ _ _ _ _ _ _ _ _ _ l.invariant.1.1 _ _ l.invariant.0 hit test c.requires.1.1.1,
     )
 
 pub offset_bounds-accounts-at : goal.offset_bounds-accounts-at
@@ -52,33 +48,28 @@ bounds-accounts-at c = let h = room c in omega arith
 
 pub offset_bounds-totals-at : goal.offset_bounds-totals-at
 offset_bounds-totals-at c =
-    let here = c.before.before in
-    let h = room here in
-    let long = here.before.before.before.before.before.before.before.before.before.well-formed.1.1.1.1.1.0 in
+    let h = room (goal.at.offset_bounds-totals-at c).Then-first_bits-e in
+    let long = c.well-formed.1.1.1.1.1.0 in
     omega arith
 
 pub bounds-totals-at : goal.bounds-totals-at
 bounds-totals-at c =
-    let here = c.before.before in
-    let h = room here in
-    let long = here.before.before.before.before.before.before.before.before.before.well-formed.1.1.1.1.1.0 in
+    let h = room (goal.at.bounds-totals-at c).Then-first_bits-e in
+    let long = c.well-formed.1.1.1.1.1.0 in
     omega arith
 
 pub overflow_add-at : goal.overflow_add-at
 overflow_add-at c =
-    let here = c.before.before in
-    let h = room here in
-    let long = here.before.before.before.before.before.before.before.before.before.well-formed.1.1.1.1.1.0 in
+    let h = room (goal.at.overflow_add-at c).Then-first_bits-e in
+    let long = c.well-formed.1.1.1.1.1.0 in
     omega arith
 
 pub loop-i-preserved : goal.loop-i-preserved
 unfolding row_at
 loop-i-preserved c =
-    let at_loop = c.before.before.before.before in
-    let start = at_loop.before.before.before.before.before in
-    let s = start.args in
-    let l = at_loop.loop-i in
-    let q = at_loop.entry_record-q.result in
+    let s = c.args in
+    let l = c.loop-i in
+    let q = c.entry_record-q.result in
     let get = c.get-a.ensures in
     let same = same_bits s.words.now s.g q l.i _ _ get c.first_bits.ensures in
     let test = c.loop-i-test.true in
@@ -92,8 +83,8 @@ loop-i-preserved c =
             rw (w.3, w.4, w.5)
             (written_more _ _ _ _ _ _ _ _ _ _ _ written _ _ hit (ap (λ (a : ℕ). a % 4_294_967_296) get)
             (total_kept _ _ _ w.2.ensures w.1.ok w.1.ensures)
-            (written_room _ _ _ _ _ _ _ _ _ _ _ written _ _ l.invariant.0 hit test start.requires.1.1.0)
-            (written_room _ _ _ _ _ _ _ _ _ _ _ written _ _ l.invariant.0 hit test start.requires.1.1.1)))
+            (written_room _ _ _ _ _ _ _ _ _ _ _ written _ _ l.invariant.0 hit test c.requires.1.1.0)
+            (written_room _ _ _ _ _ _ _ _ _ _ _ written _ _ l.invariant.0 hit test c.requires.1.1.1)))
             (λ w. rw (w.1, w.2, w.3) (written_same _ _ _ _ _ _ _ _ _ _ _ written (λ h. w.0.left (same ∙ h))))
             c.if-first_bits-e.either,
       ),

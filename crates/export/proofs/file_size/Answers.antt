@@ -21,11 +21,10 @@ overflow_add-size c = omega (arith, c.row_size-size.ensures.1)
 
 pub loop-i-preserved : goal.loop-i-preserved
 loop-i-preserved c =
-    let at_loop = c.before.before.before.before in
-    let a = at_loop.args.accounts.now in
-    let t = at_loop.args.totals.now in
-    let i = at_loop.loop-i.i in
-    let kept : _ ≡ get_or t i (pos 0) = to_z-of_z (record { sfits = c.before.row-size-arg.given }) in
+    let a = c.args.accounts.now in
+    let t = c.args.totals.now in
+    let i = c.loop-i.i in
+    let kept : _ ≡ get_or t i (pos 0) = to_z-of_z (record { sfits = c.row-size-arg.given }) in
     let e = c.row_size-size.ensures.0 ∙ ap (λ (z : ℤ). length (csv_row (get_or a i 0) z)) kept in
     let n = lines_size a t i in
     (search rules, (omega arith, omega (arith, c.row_size-size.ensures.1)))

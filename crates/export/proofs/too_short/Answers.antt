@@ -8,7 +8,7 @@ use borrow.Author.Tests.{le-ltb}
 use Rattle.export.proofs.too_short.Goals as goal
 
 pub returns-then-k-bytes : goal.returns-then-k-bytes
-returns-then-k-bytes c = let s = c.before.before in sym (le-ltb s.args.bytes _ (omega (arith, s.requires.1.1.1, c.if-k-bytes.true)))
+returns-then-k-bytes c = sym (le-ltb c.args.bytes _ (omega (arith, c.requires.1.1.1, c.if-k-bytes.true)))
 
 pub returns : goal.returns
 returns c = ap (ltb c.args.bytes) c.file_size.ensures

@@ -19,7 +19,7 @@ room_for : (s : Start)
 room_for s = omega (arith, s.requires, file-size (rows_at s.args.accounts.now s.args.totals.now 0 s.args.k))
 
 pub write_header-requires : goal.write_header-requires
-write_header-requires c = let h = room_for c.before.before.before in omega arith
+write_header-requires c = let h = room_for (goal.at.write_header-requires c).Start in omega arith
 
 pub loop-i-init : goal.loop-i-init
 unfolding csv_rows rows_at
@@ -27,26 +27,20 @@ loop-i-init c = (search rules, (refl, (refl, sym (overlay_nil _ _))))
 
 pub write_row-at-requires : goal.write_row-at-requires
 write_row-at-requires c =
-    let at_loop = c.before.before.before.before in
-    let header = at_loop.before.before.before in
-    let s = header.before.before.before.before in
-    let h = room_for s in
-    let i = at_loop.loop-i.i in
-    let n = line-room s.args.accounts.now s.args.totals.now i s.args.k c.loop-i-test.true in
-    rw (to_z-of_z (record { sfits = c.write-row-arg2.given })) (omega (arith, header.write_header.auto.0, at_loop.loop-i.invariant))
+    let h = room_for (goal.at.write_row-at-requires c).Start in
+    let i = c.loop-i.i in
+    let n = line-room c.args.accounts.now c.args.totals.now i c.args.k c.loop-i-test.true in
+    rw (to_z-of_z (record { sfits = c.write-row-arg2.given })) (omega (arith, c.write_header.auto.0, c.loop-i.invariant))
 
 pub loop-i-preserved : goal.loop-i-preserved
 loop-i-preserved c =
-    let written = c.before.before in
-    let at_loop = written.before.before.before.before.before in
-    let header = at_loop.before.before.before in
-    let h = room_for header.before.before.before.before in
-    let l = at_loop.loop-i in (
+    let h = room_for (goal.at.loop-i-preserved c).Start in
+    let l = c.loop-i in (
       search rules,
       (
-        written.write_row-at.auto.0 ∙ l.invariant.1.0,
-        line_behind _ _ _ _ _ _ _ l.i _ (to_z-of_z (record { sfits = written.before.write-row-arg2.given }))
-            (omega (arith, header.write_header.auto.0)) l.invariant.1.1 written.write_row-at.ensures,
+        c.write_row-at.auto.0 ∙ l.invariant.1.0,
+        line_behind _ _ _ _ _ _ _ l.i _ (to_z-of_z (record { sfits = c.write-row-arg2.given }))
+            (omega (arith, c.write_header.auto.0)) l.invariant.1.1 c.write_row-at.ensures,
       ),
     )
 

@@ -28,7 +28,6 @@ loop-i-preserved c =
 
 pub returns : goal.returns
 returns c =
-    let at_loop = c.before in
-    let s = at_loop.args in
-    let e = le_antisymm at_loop.loop-i.invariant.1 c.loop-i-test.false in
-    halved_end s.state _ _ _ _ _ _ at_loop.loop-i.invariant.3 (e ∙ at_loop.size-n.ensures)
+    let s = c.args in
+    let e = le_antisymm c.loop-i.invariant.1 c.loop-i-test.false in
+    halved_end s.state _ _ _ _ _ _ c.loop-i.invariant.3 (e ∙ c.size-n.ensures)

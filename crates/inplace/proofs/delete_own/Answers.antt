@@ -13,7 +13,7 @@ use Rattle.rounds.proofs.Laws.{change_delete}
 use Rattle.inplace.specs.InPlace.{record_as, changed_at}
 use Rattle.inplace.proofs.OwnUpdate.{Start, start, found_as, removed}
 use Rattle.inplace.proofs.delete_own.Goals as goal
-use Rattle.inplace.proofs.delete_own.Goals.{In-At-2}
+use Rattle.inplace.proofs.delete_own.Goals.{In-At-2, Start}
 
 -- what the update starts from
 begun : (c : goal.Start) → let s = c.args in Start s.words.now s.g s.q s.c
@@ -24,23 +24,19 @@ found_at :
     (c : In-At-2) → let s = c.args in
     (c.in-At.i < s.c) × (totals_from s.q s.g.capacity + s.c < length s.words.now)
 found_at c =
-    let entry = c.before.before.before in
-    let y = begun entry in (found_as y entry.args.u.account entry.requires.0.1.1 (At _) c.in-At.is, y.behind)
+    let y = begun (goal.at.In-At-2 c).Start in (found_as y c.args.u.account c.requires.0.1.1 (At _) c.in-At.is, y.behind)
 
 pub overflow_sub-c : goal.overflow_sub-c
-overflow_sub-c c = let h = found_at c.before.before in omega arith
+overflow_sub-c c = let h = found_at (goal.at.overflow_sub-c c).In-At-2 in omega arith
 
 pub lower_in-requires : goal.lower_in-requires
 lower_in-requires c =
-    let first = c.before.before.before in
-    let h = found_at first.before.before.before in
+    let h = found_at (goal.at.lower_in-requires c).In-At-2 in
     (omega arith, h.0)
 
 pub lower_in-requires-in-At : goal.lower_in-requires-in-At
 lower_in-requires-in-At c =
-    let accounts = c.before.before.before in
-    let first = accounts.before.before.before.before in
-    let h = found_at first.before.before.before in
+    let h = found_at (goal.at.lower_in-requires-in-At c).In-At-2 in
     (omega arith, h.0)
 
 pub settle_own-requires : goal.settle_own-requires
@@ -49,25 +45,16 @@ settle_own-requires c = let known = c.requires.0 in (known.0, known.1.0)
 pub returns-in-At : goal.returns-in-At
 unfolding changed_at delete_answer answer_by
 returns-in-At c =
-    let settled = c.before.before in
-    let totals = settled.before.before.before.before in
-    let accounts = totals.before.before.before.before in
-    let first = accounts.before.before.before.before in
-    let found = first.before.before.before in
-    let entry = found.before.before.before in
-    let s = entry.args in
-    rw found.in-At.is
-    (removed (begun entry) _ _ _ _ _ entry.requires.0.1.0 settled.settle.ensures (found_at found).0 first.put_first.ensures
-    accounts.lower_in.ensures totals.lower_in-in-At.ensures
-    ∙ ap (record_as s.words.now s.g s.q s.toggle) (change_delete _ s.j (At _) s.u _ _ entry.requires.1 refl refl))
+    let s = c.args in
+    rw c.in-At.is
+    (removed (begun (goal.at.returns-in-At c).Start) _ _ _ _ _ c.requires.0.1.0 c.settle.ensures (found_at (goal.at.returns-in-At c).In-At-2).0 c.put_first.ensures
+    c.lower_in.ensures c.lower_in-in-At.ensures
+    ∙ ap (record_as s.words.now s.g s.q s.toggle) (change_delete _ s.j (At _) s.u _ _ c.requires.1 refl refl))
 
 pub returns-in-Before : goal.returns-in-Before
 unfolding changed_at delete_answer answer_by remove_of
 returns-in-Before c =
-    let settled = c.before.before in
-    let told = settled.before.before in
-    let entry = told.before.before.before in
-    let s = entry.args in
-    rw told.in-Before.is
-    (settled.settle_own.ensures
-    ∙ ap (record_as s.words.now s.g s.q s.toggle) (change_delete _ s.j (Before _) s.u _ _ entry.requires.1 refl refl))
+    let s = c.args in
+    rw c.in-Before.is
+    (c.settle_own.ensures
+    ∙ ap (record_as s.words.now s.g s.q s.toggle) (change_delete _ s.j (Before _) s.u _ _ c.requires.1 refl refl))

@@ -10,7 +10,7 @@ use Rattle.arrays.specs.declared.Position.TheVariants.{At, Before}
 use Rattle.inplace.specs.InPlace.{RoomAt, put_at}
 use Rattle.inplace.proofs.OwnUpdate.{Start, start, found_as, replaced, inserted}
 use Rattle.inplace.proofs.put_own.Goals as goal
-use Rattle.inplace.proofs.put_own.Goals.{In-At-2, In-Before-2}
+use Rattle.inplace.proofs.put_own.Goals.{In-At-2, In-Before-2, Start}
 
 -- what the update starts from
 begun : (c : goal.Start) → let s = c.args in Start s.words.now s.g s.q s.c
@@ -21,59 +21,45 @@ found_at :
     (c : In-At-2) → let s = c.args in
     (c.in-At.i < s.c) × (totals_from s.q s.g.capacity + s.c < length s.words.now)
 found_at c =
-    let entry = c.before.before.before in
-    let y = begun entry in (found_as y entry.args.u.account entry.requires.0.1.1 (At _) c.in-At.is, y.behind)
+    let y = begun (goal.at.In-At-2 c).Start in (found_as y c.args.u.account c.requires.0.1.1 (At _) c.in-At.is, y.behind)
 
 -- or just past them, and there is room
 found-before :
     (c : In-Before-2) → let s = c.args in
     (c.in-Before.i ≤ s.c) × ((s.c < s.g.capacity) × (totals_from s.q s.g.capacity + s.c < length s.words.now))
 found-before c =
-    let entry = c.before.before.before in
-    let s = entry.args in
-    let y = begun entry in
-    let room : RoomAt s.g s.c (Before c.in-Before.i) = subst (RoomAt s.g s.c) c.in-Before.is entry.requires.1 in
-    (found_as y s.u.account entry.requires.0.1.1 (Before _) c.in-Before.is, (room, y.behind))
+    let s = c.args in
+    let y = begun (goal.at.In-Before-2 c).Start in
+    let room : RoomAt s.g s.c (Before c.in-Before.i) = subst (RoomAt s.g s.c) c.in-Before.is c.requires.1 in
+    (found_as y s.u.account c.requires.0.1.1 (Before _) c.in-Before.is, (room, y.behind))
 
 pub overflow_add-totals-in-At : goal.overflow_add-totals-in-At
-overflow_add-totals-in-At c = let h = found_at c.before.before.before.before.before.before in omega arith
+overflow_add-totals-in-At c = let h = found_at (goal.at.overflow_add-totals-in-At c).In-At-2 in omega arith
 
 pub put-requires : goal.put-requires
-put-requires c = let h = found_at c.before.before.before.before.before.before in omega arith
+put-requires c = let h = found_at (goal.at.put-requires c).In-At-2 in omega arith
 
 pub overflow_add-c : goal.overflow_add-c
-overflow_add-c c = let h = found-before c.before.before in omega arith
+overflow_add-c c = let h = found-before (goal.at.overflow_add-c c).In-Before-2 in omega arith
 
 pub raise_in-requires : goal.raise_in-requires
-raise_in-requires c = let h = found-before c.before.before.before.before.before.before in (omega arith, h.0)
+raise_in-requires c = let h = found-before (goal.at.raise_in-requires c).In-Before-2 in (omega arith, h.0)
 
 pub raise_in-requires-in-Before : goal.raise_in-requires-in-Before
 raise_in-requires-in-Before c =
-    let accounts = c.before.before.before in
-    let h = found-before accounts.before.before.before.before.before.before.before in (omega arith, h.0)
+    let h = found-before (goal.at.raise_in-requires-in-Before c).In-Before-2 in (omega arith, h.0)
 
 pub returns-in-At : goal.returns-in-At
 unfolding put_at
 returns-in-At c =
-    let settled = c.before.before in
-    let total = settled.before.before.before.before in
-    let first = total.before.before.before.before in
-    let found = first.before.before.before in
-    let entry = found.before.before.before in
-    rw found.in-At.is
-    (replaced (begun entry) _ _ _ _ _ entry.requires.0.1.0 settled.settle.ensures _ _ (found_at found).0 first.put_first.ensures
-    refl total.put.ensures)
+    rw c.in-At.is
+    (replaced (begun (goal.at.returns-in-At c).Start) _ _ _ _ _ c.requires.0.1.0 c.settle.ensures _ _ (found_at (goal.at.returns-in-At c).In-At-2).0 c.put_first.ensures
+    refl c.put.ensures)
 
 pub returns-in-Before : goal.returns-in-Before
 unfolding put_at
 returns-in-Before c =
-    let settled = c.before.before in
-    let totals = settled.before.before.before.before in
-    let accounts = totals.before.before.before.before in
-    let first = accounts.before.before.before.before in
-    let found = first.before.before.before in
-    let entry = found.before.before.before in
-    let h = found-before found in
-    rw found.in-Before.is
-    (inserted (begun entry) _ _ _ _ _ entry.requires.0.1.0 settled.settle-in-Before.ensures _ _ h.0 h.1.0 first.put_first-in-Before.ensures
-    accounts.raise_in.ensures totals.raise_in-in-Before.ensures)
+    let h = found-before (goal.at.returns-in-Before c).In-Before-2 in
+    rw c.in-Before.is
+    (inserted (begun (goal.at.returns-in-Before c).Start) _ _ _ _ _ c.requires.0.1.0 c.settle-in-Before.ensures _ _ h.0 h.1.0 c.put_first-in-Before.ensures
+    c.raise_in.ensures c.raise_in-in-Before.ensures)

@@ -19,10 +19,9 @@ overflow_add-end c = let h = (begun c).behind in omega arith
 -- DROPPED part-scan-end c = let h = (begun c).behind in omega arith
 
 pub scan-requires : goal.scan-requires
-scan-requires c = let h = (begun c.before).few in rw length-take (omega arith)
+scan-requires c = let h = (begun (goal.at.scan-requires c).After-shared_slice_known-1).few in rw length-take (omega arith)
 
 pub returns : goal.returns
 returns c =
-    let start = c.before.before.before in
-    let s = start.args in
-    c.scan.ensures ∙ search_is s.words.now s.g s.q s.c s.account start.requires
+    let s = c.args in
+    c.scan.ensures ∙ search_is s.words.now s.g s.q s.c s.account c.requires

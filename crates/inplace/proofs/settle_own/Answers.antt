@@ -7,9 +7,6 @@ use Rattle.inplace.proofs.settle_own.Goals as goal
 
 pub returns : goal.returns
 returns c =
-    let settled = c.before.before in
-    let first = settled.before.before.before.before in
-    let entry = first.before.before.before in
-    let s = entry.args in
-    kept (start s.words.now s.g s.q s.c entry.requires.0) _ _ _ _ _ entry.requires.1 settled.settle.ensures
-    first.put_first.ensures refl refl
+    let s = c.args in
+    kept (start s.words.now s.g s.q s.c c.requires.0) _ _ _ _ _ c.requires.1 c.settle.ensures
+    c.put_first.ensures refl refl

@@ -15,8 +15,7 @@ loop-i-init c = (search rules, refl)
 
 pub loop-i-preserved : goal.loop-i-preserved
 loop-i-preserved c =
-    let at_loop = c.before in
-    (search rules, ap (λ x. set x at_loop.loop-i.i 1) at_loop.loop-i.invariant.1 ∙ left_more at_loop.loop-i.i (omega arith))
+    (search rules, ap (λ x. set x c.loop-i.i 1) c.loop-i.invariant.1 ∙ left_more c.loop-i.i (omega arith))
 
 pub returns : goal.returns
 returns c = c.loop-i.invariant.1 ∙ ap all_left (le_antisymm c.loop-i.invariant.0 c.loop-i-test.false)

@@ -18,44 +18,39 @@ returns-in_default c =
     refused_as _ _ _ _ _ (wrong_settings _ _ _ _ (settings_out _ _ _ (sym c.new.ensures ∙ c.in_default.is)))
 
 -- past the first check, and past the second
-in-range : (c : After-is_log) → let start = c.before.before.before.before.before.before in
-    in_range least_workers start.args.capacity start.args.depth ≡ true
+in-range : (c : After-is_log) → in_range least_workers c.args.capacity c.args.depth ≡ true
 in-range c = settings_in _ _ _ (sym c.new.ensures ∙ c.in-Settings.is)
 
 good : (c : Else-not-is_log) → are_log c.args.log.now ≡ true
 good c = sym c.is_log.ensures ∙ not-false _ c.if-not-is_log.false-raw
 
 pub returns-then-not-is_log : goal.returns-then-not-is_log
-returns-then-not-is_log c = refused_as _ _ _ _ _ (bad_log _ _ _ _ (in-range c.before) (sym c.is_log.ensures ∙ not-true _ c.if-not-is_log.true))
+returns-then-not-is_log c = refused_as _ _ _ _ _ (bad_log _ _ _ _ (in-range (goal.at.returns-then-not-is_log c).After-is_log) (sym c.is_log.ensures ∙ not-true _ c.if-not-is_log.true))
 
 pub returns-then-order-count : goal.returns-then-order-count
 unfolding count_of
-returns-then-order-count c = refused_as _ _ _ _ _ (too_narrow _ _ _ _ (in-range c.before.before) (good c.before) c.if-order-count.true)
+returns-then-order-count c = refused_as _ _ _ _ _ (too_narrow _ _ _ _ (in-range (goal.at.returns-then-order-count c).After-is_log) (good (goal.at.returns-then-order-count c).Else-not-is_log) c.if-order-count.true)
 
 pub all_left-requires : goal.all_left-requires
 unfolding count_of
-all_left-requires c = few _ (good c.before)
+all_left-requires c = few _ (good (goal.at.all_left-requires c).Else-not-is_log)
 
 pub search-requires : goal.search-requires
 search-requires c =
-    let at = c.before.before in
-    (short _ (good at.before), (search rules, at.if-order-count.false))
+    (short _ (good (goal.at.search-requires c).Else-not-is_log), (search rules, c.if-order-count.false))
 
 -- what the search found
-found : (c : After-search) → let start = c.before.before.before.before.before.before.before.before.before.before.before in
-    (c.search.new.1.1.1.1.1.1.1.0, if c.search.result then Verdict.Accepted else Verdict.No)
-    ≡ check_log_words start.args.log.now start.args.capacity start.args.depth start.args.order.now
+found : (c : After-search) → (c.search.new.1.1.1.1.1.1.1.0, if c.search.result then Verdict.Accepted else Verdict.No)
+    ≡ check_log_words c.args.log.now c.args.capacity c.args.depth c.args.order.now
 unfolding count_of
 found c =
-    let at_left = c.before.before in
-    let tests = at_left.before in
-    answered _ _ _ _ (in-range tests.before.before) (good tests.before) tests.if-order-count.false _ _ at_left.all_left.ensures
+    answered _ _ _ _ (in-range (goal.at.After-search c).After-is_log) (good (goal.at.After-search c).Else-not-is_log) c.if-order-count.false _ _ c.all_left.ensures
     c.search.ensures.1 _ c.search.ensures.0
 
 pub returns-then-search : goal.returns-then-search
 unfolding count_of if◌then◌else◌
-returns-then-search c = rw c.if-search.true at (found c.before.before.before)
+returns-then-search c = rw c.if-search.true at (found (goal.at.returns-then-search c).After-search)
 
 pub returns : goal.returns
 unfolding count_of if◌then◌else◌
-returns c = rw c.if-search.false at (found c.before.before.before)
+returns c = rw c.if-search.false at (found (goal.at.returns c).After-search)

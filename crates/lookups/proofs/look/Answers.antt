@@ -31,12 +31,10 @@ here c =
 -- the position is one of the accounts
 found : (c : In-At-2) → c.in-At.i < c.size-c.result
 found c =
-    let search = c.before.before in
-    let size = search.before.before in
-    let s = size.args in
-    let room = few size in
-    let below = found_below s.words.now s.g s.q s.account _ _ size.size-c.ensures search.scan.ensures (omega arith) in
-    subst (Among size.size-c.result) c.in-At.is below
+    let s = c.args in
+    let room = few (goal.at.In-At-2 c).After-size-c in
+    let below = found_below s.words.now s.g s.q s.account _ _ c.size-c.ensures c.scan.ensures (omega arith) in
+    subst (Among c.size-c.result) c.in-At.is below
 
 pub overflow_add-end : goal.overflow_add-end
 overflow_add-end c = let h = few c in omega arith
@@ -48,21 +46,20 @@ offset_bounds-words-accounts c = let h = few c in omega arith
 -- DROPPED part-scan-end c = let h = few c in omega arith
 
 pub scan-requires : goal.scan-requires
-scan-requires c = let h = few c.before in rw length-take (omega arith)
+scan-requires c = let h = few (goal.at.scan-requires c).After-size-c in rw length-take (omega arith)
 
 pub overflow_add-at-in-At : goal.overflow_add-at-in-At
-overflow_add-at-in-At c = let h = found c.before in let k = few c.before.before.before.before.before in omega arith
+overflow_add-at-in-At c = let h = found (goal.at.overflow_add-at-in-At c).In-At-2 in let k = few (goal.at.overflow_add-at-in-At c).After-size-c in omega arith
 
 pub get-requires : goal.get-requires
-get-requires c = let h = found c.before in let k = few c.before.before.before.before.before in omega arith
+get-requires c = let h = found (goal.at.get-requires c).In-At-2 in let k = few (goal.at.get-requires c).After-size-c in omega arith
 
 pub returns-in-At : goal.returns-in-At
 unfolding found_at
 returns-in-At c =
-    let i = c.before.before.before in
     ap Answer.Found (total_kept _ _ _ c.total_of.ensures c.get.type-inv c.get.ensures)
-    ∙ sym (here i.before.before ∙ ap (found_at _ _ _) i.in-At.is)
+    ∙ sym (here (goal.at.returns-in-At c).After-scan ∙ ap (found_at _ _ _) c.in-At.is)
 
 pub returns-in-Before : goal.returns-in-Before
 unfolding found_at
-returns-in-Before c = sym (here c.before.before ∙ ap (found_at _ _ _) c.in-Before.is)
+returns-in-Before c = sym (here (goal.at.returns-in-Before c).After-scan ∙ ap (found_at _ _ _) c.in-Before.is)

@@ -11,34 +11,22 @@ use Rattle.lookups.proofs.lookup_step.Goals as goal
 pub returns-then-k-eq0 : goal.returns-then-k-eq0
 unfolding lookup_at bucket_read_at
 returns-then-k-eq0 c =
-    let put = c.before.before in
-    let record-of = put.before.before in
-    let get = record-of.before in
-    let test = get.before.before in
-    rw (test.if-k-eq0.true, ← get.get.ensures, ← record-of.record_of-q.ensures, ← put.put.ensures)
+    rw (c.if-k-eq0.true, ← c.get.ensures, ← c.record_of-q.ensures, ← c.put.ensures)
 
 pub look-answer-requires : goal.look-answer-requires
 look-answer-requires c =
-    let record-in = c.before.before in
-    let start = record-in.before.before.before.before.before in
-    (start.requires.0, rw record-in.record_in-q.ensures (record_in_inside _ _ (long start.requires.0)))
+    (c.requires.0, rw c.record_in-q.ensures (record_in_inside _ _ (long c.requires.0)))
 
 pub returns : goal.returns
 unfolding ended_at held_by
 returns c =
-    let finish = c.before.before.before in
-    let look = finish.before.before in
-    let get3 = look.before in
-    let record-in = get3.before.before in
-    let get2 = record-in.before in
-    let test = get2.before.before in
     rw (
-      lookup_later _ _ _ _ test.if-k-eq0.false,
+      lookup_later _ _ _ _ c.if-k-eq0.false,
       c.completed.ensures,
-      ← get2.get2.ensures,
-      ← record-in.record_in-q.ensures,
+      ← c.get-2.ensures,
+      ← c.record_in-q.ensures,
       ←
-          get3.get3.ensures,
-      ← look.look-answer.ensures,
-      ← finish.finish.ensures,
+          c.get-3.ensures,
+      ← c.look-answer.ensures,
+      ← c.finish.ensures,
     )

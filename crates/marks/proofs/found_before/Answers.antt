@@ -21,43 +21,33 @@ overflow_shr-bits c = let few = c.requires.0.workers in omega arith
 pub returns-then-record_of-q : goal.returns-then-record_of-q
 unfolding bit
 returns-then-record_of-q c =
-    let here = c.before in
-    let slot = here.before in
-    let marked = slot.before in
-    let turn = marked.before in
-    let loop = turn.before in
     sym
-    (any_hit _ _ turn.loop-i-test.true
-    (found_it _ _ _ _ _ _ loop.worker_word-bits.ensures _ _ slot.slot_word.ensures here.record_of.ensures
-    marked.if-bits-i-eq1.true
+    (any_hit _ _ c.loop-i-test.true
+    (found_it _ _ _ _ _ _ c.worker_word-bits.ensures _ _ c.slot_word.ensures c.record_of.ensures
+    c.if-bits-i-eq1.true
     c.if-record_of-q.true))
-    ∙ loop.loop-i.invariant.1
+    ∙ c.loop-i.invariant.1
 
 pub loop-i-preserved-else-record_of-q : goal.loop-i-preserved-else-record_of-q
 loop-i-preserved-else-record_of-q c =
-    let here = c.before in
-    let slot = here.before in
-    let turn = slot.before.before in
-    let loop = turn.before in (
+    (
       search rules,
-      any_turn _ _ turn.loop-i-test.true
-          (found_not _ _ _ _ _ _ loop.worker_word-bits.ensures _ _ slot.slot_word.ensures here.record_of.ensures
+      any_turn _ _ c.loop-i-test.true
+          (found_not _ _ _ _ _ _ c.worker_word-bits.ensures _ _ c.slot_word.ensures c.record_of.ensures
           c.if-record_of-q.false)
-          ∙ loop.loop-i.invariant.1,
+          ∙ c.loop-i.invariant.1,
     )
 
 pub loop-i-preserved : goal.loop-i-preserved
 unfolding bit
 loop-i-preserved c =
-    let turn = c.before in
-    let loop = turn.before in
-    let args = loop.args in (
+    let args = c.args in (
       search rules,
-      any_turn _ _ turn.loop-i-test.true
+      any_turn _ _ c.loop-i-test.true
           (found_unmarked args.words.now args.g (worker_at args.g.workers args.w) args.q _ _
-          loop.worker_word-bits.ensures
+          c.worker_word-bits.ensures
           c.if-bits-i-eq1.false)
-          ∙ loop.loop-i.invariant.1,
+          ∙ c.loop-i.invariant.1,
     )
 
 pub returns : goal.returns

@@ -24,9 +24,8 @@ inside c = rw c.record_of-q.ensures (record_inside c.requires.0 _)
 -- whether the bucket is to be split
 tested :
     (c : After-splittable)
-    → let found = c.before.before.before in
-    let args = found.args in
-    c.splittable.result ≡ splittable_at args.words.now args.g found.record_of-q.result
+    → let args = c.args in
+    c.splittable.result ≡ splittable_at args.words.now args.g c.record_of-q.result
 tested c = both_read (splittable_by _) c.splittable.ensures c.get-depth.ensures c.get.ensures
 
 pub returns-then-slot_word-eq-KIND_NONE : goal.returns-then-slot_word-eq-KIND_NONE
@@ -41,47 +40,32 @@ pub get-depth-requires : goal.get-depth-requires
 get-depth-requires c = let h = inside c in omega arith
 
 pub overflow_add-q-2 : goal.overflow_add-q-2
-overflow_add-q-2 c = let h = inside c.before in omega arith
+overflow_add-q-2 c = let h = inside (goal.at.overflow_add-q-2 c).After-record_of-q in omega arith
 
 pub get-requires : goal.get-requires
-get-requires c = let h = inside c.before in omega arith
+get-requires c = let h = inside (goal.at.get-requires c).After-record_of-q in omega arith
 
 pub returns-then-not-splittable : goal.returns-then-not-splittable
 returns-then-not-splittable c =
-    let found = c.before.before.before.before in
-    let slot = found.before in
-    let used = slot.before in
-    let args = used.args in
-    marks_not _ args.g (worker_at args.g.workers args.w) args.j _ used.slot_word.ensures used.if-slot_word-eq-KIND_NONE.false _ _
-    slot.slot-word2.ensures found.record_of-q.ensures _ (tested c.before) (not-true _ c.if-not-splittable.true)
+    let args = c.args in
+    marks_not _ args.g (worker_at args.g.workers args.w) args.j _ c.slot_word.ensures c.if-slot_word-eq-KIND_NONE.false _ _
+    c.slot_word-2.ensures c.record_of-q.ensures _ (tested (goal.at.returns-then-not-splittable c).After-splittable) (not-true _ c.if-not-splittable.true)
 
 pub settled_ticket-requires : goal.settled_ticket-requires
 settled_ticket-requires c =
-    let found = c.before.before.before.before.before in
-    let known = found.requires in
-    (known.0, (known.1.1, inside found))
+    let known = c.requires in
+    (known.0, (known.1.1, inside (goal.at.settled_ticket-requires c).After-record_of-q))
 
 pub returns-then-slot_word-settled_ticket : goal.returns-then-slot_word-settled_ticket
 returns-then-slot_word-settled_ticket c =
-    let ticket = c.before.before in
-    let full = ticket.before in
-    let found = full.before.before.before.before in
-    let slot = found.before in
-    let used = slot.before in
-    let args = used.args in
-    marks_settled _ args.g (worker_at args.g.workers args.w) args.j _ used.slot_word.ensures used.if-slot_word-eq-KIND_NONE.false _ _
-    slot.slot-word2.ensures found.record_of-q.ensures _ (tested full.before) (not-false _ full.if-not-splittable.false-raw) _
-    ticket.slot-word3.ensures _ c.settled_ticket.ensures c.if-slot_word-settled_ticket.true
+    let args = c.args in
+    marks_settled _ args.g (worker_at args.g.workers args.w) args.j _ c.slot_word.ensures c.if-slot_word-eq-KIND_NONE.false _ _
+    c.slot_word-2.ensures c.record_of-q.ensures _ (tested (goal.at.returns-then-slot_word-settled_ticket c).After-splittable) (not-false _ c.if-not-splittable.false-raw) _
+    c.slot_word-3.ensures _ c.settled_ticket.ensures c.if-slot_word-settled_ticket.true
 
 pub returns : goal.returns
 returns c =
-    let later = c.before in
-    let ticket = later.before.before in
-    let full = ticket.before in
-    let found = full.before.before.before.before in
-    let slot = found.before in
-    let used = slot.before in
-    let args = used.args in
-    marks_found _ args.g (worker_at args.g.workers args.w) args.j _ used.slot_word.ensures used.if-slot_word-eq-KIND_NONE.false _ _
-    slot.slot-word2.ensures found.record_of-q.ensures _ (tested full.before) (not-false _ full.if-not-splittable.false-raw) _
-    ticket.slot-word3.ensures _ later.settled_ticket.ensures later.if-slot_word-settled_ticket.false _ c.found_before.ensures
+    let args = c.args in
+    marks_found _ args.g (worker_at args.g.workers args.w) args.j _ c.slot_word.ensures c.if-slot_word-eq-KIND_NONE.false _ _
+    c.slot_word-2.ensures c.record_of-q.ensures _ (tested (goal.at.returns c).After-splittable) (not-false _ c.if-not-splittable.false-raw) _
+    c.slot_word-3.ensures _ c.settled_ticket.ensures c.if-slot_word-settled_ticket.false _ c.found_before.ensures

@@ -11,26 +11,19 @@ use Rattle.marks.proofs.state_step.Goals as goal
 pub returns-then-x-j-eq0 : goal.returns-then-x-j-eq0
 unfolding bit
 returns-then-x-j-eq0 c =
-    let put = c.before.before in
-    let flipped = put.before in
-    let clear = flipped.before.before in
-    let read = clear.before in
-    let marked = read.before.before in
-    let args = marked.args in
-    rw put.put_worker_word.ensures
-    (step_marked args.words.now args.g (worker_at args.g.workers args.w) args.j _ marked.marking.ensures
-    marked.if-marking.true _ _
-    read.worker_word-x.ensures (flipped.flip_bit.ensures ∙ mark_set _ args.j clear.if-x-j-eq0.true))
+    let args = c.args in
+    rw c.put_worker_word.ensures
+    (step_marked args.words.now args.g (worker_at args.g.workers args.w) args.j _ c.marking.ensures
+    c.if-marking.true _ _
+    c.worker_word-x.ensures (c.flip_bit.ensures ∙ mark_set _ args.j c.if-x-j-eq0.true))
 
 pub returns-else-x-j-eq0 : goal.returns-else-x-j-eq0
 unfolding bit
 returns-else-x-j-eq0 c =
-    let read = c.before in
-    let marked = read.before.before in
-    let args = marked.args in
-    step_kept args.words.now args.g (worker_at args.g.workers args.w) args.j _ marked.marking.ensures
-    marked.if-marking.true _
-    read.worker_word-x.ensures c.if-x-j-eq0.false
+    let args = c.args in
+    step_kept args.words.now args.g (worker_at args.g.workers args.w) args.j _ c.marking.ensures
+    c.if-marking.true _
+    c.worker_word-x.ensures c.if-x-j-eq0.false
 
 pub returns-else-marking : goal.returns-else-marking
 returns-else-marking c =

@@ -15,19 +15,17 @@ loop-i-init c = (search rules, (refl, sym (overlay_nil _ _)))
 
 pub loop-i-preserved : goal.loop-i-preserved
 loop-i-preserved c =
-    let here = c.before.before in
-    let known = here.requires in (
+    let known = c.requires in (
       search rules,
       (
         search rules,
-        copy_more _ _ _ _ _ _ here.loop-i.invariant.1.1 known.0 known.1.0 known.1.1
+        copy_more _ _ _ _ _ _ c.loop-i.invariant.1.1 known.0 known.1.0 known.1.1
             c.loop-i-test.true,
       ),
     )
 
 pub returns : goal.returns
 returns c =
-    let start = c.before.before in
     c.loop-i.invariant.1.1
-    ∙ ap (λ (j : ℕ). overlay start.args.words.now start.args.to (part start.args.words.now start.args.from j))
+    ∙ ap (λ (j : ℕ). overlay c.args.words.now c.args.to (part c.args.words.now c.args.from j))
     (le_antisymm c.loop-i.invariant.0 c.loop-i-test.false)

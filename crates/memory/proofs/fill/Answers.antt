@@ -28,6 +28,5 @@ loop-i-preserved c = (
 
 pub returns : goal.returns
 returns c =
-    let start = c.before.before in
-    let e : c.loop-i.i - start.args.from ≡ start.args.to - start.args.from = omega arith in
-    c.loop-i.invariant.1.1.1 ∙ ap (λ (j : ℕ). overlay start.args.words.now start.args.from (replicate j start.args.v)) e
+    let e : c.loop-i.i - c.args.from ≡ c.args.to - c.args.from = omega arith in
+    c.loop-i.invariant.1.1.1 ∙ ap (λ (j : ℕ). overlay c.args.words.now c.args.from (replicate j c.args.v)) e

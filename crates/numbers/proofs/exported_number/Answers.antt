@@ -7,7 +7,7 @@ use Rattle.numbers.proofs.exported_number.Goals as goal
 
 pub returns-in-Bytes : goal.returns-in-Bytes
 unfolding exported_number exported_report
-returns-in-Bytes c = let at_tell = c.before.before in rw at_tell.in-Bytes.is (at_tell.tell_one.ensures, refl)
+returns-in-Bytes c = rw c.in-Bytes.is (c.tell_one.ensures, refl)
 
 pub returns-in-Refused : goal.returns-in-Refused
 unfolding exported_number exported_report

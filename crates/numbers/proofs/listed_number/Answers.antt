@@ -7,7 +7,7 @@ use Rattle.numbers.proofs.listed_number.Goals as goal
 
 pub returns-in-Count : goal.returns-in-Count
 unfolding listed_number listed_report
-returns-in-Count c = let at_tell = c.before.before in rw at_tell.in-Count.is (at_tell.tell_one.ensures, refl)
+returns-in-Count c = rw c.in-Count.is (c.tell_one.ensures, refl)
 
 pub returns-in-Refused : goal.returns-in-Refused
 unfolding listed_number listed_report

@@ -7,11 +7,11 @@ use Rattle.numbers.proofs.ran_number.Goals as goal
 
 pub returns-in-Moved : goal.returns-in-Moved
 unfolding ran_number ran_report
-returns-in-Moved c = let at_tell = c.before.before in rw at_tell.in-Moved.is (at_tell.tell.ensures, refl)
+returns-in-Moved c = rw c.in-Moved.is (c.tell.ensures, refl)
 
 pub returns-in-Answered : goal.returns-in-Answered
 unfolding ran_number ran_report
-returns-in-Answered c = let at_ended = c.before.before in rw at_ended.in-Answered.is at_ended.ended.ensures
+returns-in-Answered c = rw c.in-Answered.is c.ended.ensures
 
 pub returns-in-Refused : goal.returns-in-Refused
 unfolding ran_number ran_report

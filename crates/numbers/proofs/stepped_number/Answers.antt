@@ -11,7 +11,7 @@ returns-in-Moved c = rw c.in-Moved.is (refl, refl)
 
 pub returns-in-Answered : goal.returns-in-Answered
 unfolding stepped_number stepped_report
-returns-in-Answered c = let at_ended = c.before.before in rw at_ended.in-Answered.is at_ended.ended.ensures
+returns-in-Answered c = rw c.in-Answered.is c.ended.ensures
 
 pub returns-in-Refused : goal.returns-in-Refused
 unfolding stepped_number stepped_report

@@ -13,50 +13,38 @@ loop-i-init c = (search rules, (search rules, refl))
 
 pub returns-then-byte-lt48 : goal.returns-then-byte-lt48
 returns-then-byte-lt48 c =
-    let l = c.before.before.before in
-    let s = l.before.before in
-    let f = s.args.field.now in
-    nothing _ (sym l.loop-i.invariant.1.1 ∙ stop_low s.args.most l.loop-i.value f l.loop-i.i (omega arith) c.if-byte-lt48.true)
+    let f = c.args.field.now in
+    nothing _ (sym c.loop-i.invariant.1.1 ∙ stop_low c.args.most c.loop-i.value f c.loop-i.i (omega arith) c.if-byte-lt48.true)
 
 pub returns-then-byte-gt57 : goal.returns-then-byte-gt57
 returns-then-byte-gt57 c =
-    let l = c.before.before.before.before in
-    let s = l.before.before in
-    let f = s.args.field.now in
-    nothing _ (sym l.loop-i.invariant.1.1 ∙ stop_high s.args.most l.loop-i.value f l.loop-i.i (omega arith) c.if-byte-gt57.true)
+    let f = c.args.field.now in
+    nothing _ (sym c.loop-i.invariant.1.1 ∙ stop_high c.args.most c.loop-i.value f c.loop-i.i (omega arith) c.if-byte-gt57.true)
 
 pub returns-then-most-value : goal.returns-then-most-value
 returns-then-most-value c =
-    let l = c.before.before.before.before.before.before in
-    let s = l.before.before in
-    let f = s.args.field.now in
-    nothing _ (sym l.loop-i.invariant.1.1 ∙ stop_large s.args.most l.loop-i.value f l.loop-i.i (omega arith) (omega arith)
+    let f = c.args.field.now in
+    nothing _ (sym c.loop-i.invariant.1.1 ∙ stop_large c.args.most c.loop-i.value f c.loop-i.i (omega arith) (omega arith)
     (omega arith) (omega arith))
 
 pub returns-then-most-tens : goal.returns-then-most-tens
 returns-then-most-tens c =
-    let l = c.before.before.before.before.before.before.before in
-    let s = l.before.before in
-    let f = s.args.field.now in
-    nothing _ (sym l.loop-i.invariant.1.1 ∙ stop_large s.args.most l.loop-i.value f l.loop-i.i (omega arith) (omega arith)
+    let f = c.args.field.now in
+    nothing _ (sym c.loop-i.invariant.1.1 ∙ stop_large c.args.most c.loop-i.value f c.loop-i.i (omega arith) (omega arith)
     (omega arith) (omega arith))
 
 pub loop-i-preserved : goal.loop-i-preserved
 loop-i-preserved c =
-    let l = c.before.before.before.before.before.before.before in
-    let s = l.before.before in
-    let f = s.args.field.now in (
+    let f = c.args.field.now in (
       omega arith,
       (
         omega arith,
         rw c.wide-digit.ensures
-            (sym (go_on s.args.most l.loop-i.value f l.loop-i.i (omega arith) (omega arith) (omega arith)) ∙ l.loop-i.invariant.1.1),
+            (sym (go_on c.args.most c.loop-i.value f c.loop-i.i (omega arith) (omega arith) (omega arith)) ∙ c.loop-i.invariant.1.1),
       ),
     )
 
 pub returns : goal.returns
 returns c =
-    let l = c.before in
-    let s = l.before.before in
-    value _ l.loop-i.value (sym l.loop-i.invariant.1.1 ∙ digits_end s.args.most l.loop-i.value s.args.field.now l.loop-i.i
+    value _ c.loop-i.value (sym c.loop-i.invariant.1.1 ∙ digits_end c.args.most c.loop-i.value c.args.field.now c.loop-i.i
     (omega arith) (omega arith))

@@ -17,20 +17,17 @@ returns-then-field-eq0 c =
 
 pub returns-then-field-eq1 : goal.returns-then-field-eq1
 returns-then-field-eq1 c =
-    let s = c.before.before.before.before.before in
-    let f = s.args.field.now in
-    value _ 0 (ap (up_to s.args.most) (only_zero f c.if-field-eq48.true c.if-field-eq1.true) ∙ up-to s.args.most 0 (zero-le))
+    let f = c.args.field.now in
+    value _ 0 (ap (up_to c.args.most) (only_zero f c.if-field-eq48.true c.if-field-eq1.true) ∙ up-to c.args.most 0 (zero-le))
 
 pub returns-then-field-eq48 : goal.returns-then-field-eq48
 unfolding up_to
 returns-then-field-eq48 c =
-    let s = c.before.before.before.before.before in
-    let f = s.args.field.now in
-    nothing _ (ap (up_to s.args.most) (leading_zero f c.if-field-eq48.true c.if-field-eq1.false))
+    let f = c.args.field.now in
+    nothing _ (ap (up_to c.args.most) (leading_zero f c.if-field-eq48.true c.if-field-eq1.false))
 
 pub returns : goal.returns
 returns c =
-    let s = c.before.before.before.before.before in
-    let f = s.args.field.now in
+    let f = c.args.field.now in
     c.read_digits.ensures
-    ∙ ap (λ (o : Option ℕ). as_number (up_to s.args.most o)) (sym (no_leading_zero f (omega arith) c.if-field-eq48.false))
+    ∙ ap (λ (o : Option ℕ). as_number (up_to c.args.most o)) (sym (no_leading_zero f (omega arith) c.if-field-eq48.false))

@@ -15,6 +15,5 @@ overflow_add-result c = omega (arith, wrote_within c.print_row.ensures 184467440
 
 pub returns : goal.returns
 returns c =
-    let s = c.before.before.before.before.before in
-    wrote_put c.print_row.ensures ∙ ap (λ (z : ℤ). emitted (record { bytes = s.args.out.now; used = s.args.used })
-    (printed_row s.args.account z)) (to_z-of_z s.ranges.total)
+    wrote_put c.print_row.ensures ∙ ap (λ (z : ℤ). emitted (record { bytes = c.args.out.now; used = c.args.used })
+    (printed_row c.args.account z)) (to_z-of_z c.ranges.total)

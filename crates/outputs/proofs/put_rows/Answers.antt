@@ -16,18 +16,17 @@ loop-i-init c = (search rules, (refl, rows_start _ _ _ _))
 
 pub loop-i-preserved : goal.loop-i-preserved
 loop-i-preserved c =
-    let l = c.before.before.before.before.before.before.before in
-    let a = l.args in
-    let o : Output = record { bytes = l.loop-i.out; used = l.loop-i.used } in
-    let row = printed_row (get_or a.accounts.now l.loop-i.i 0) in
-    let kept = to_z-of_z (record { sfits = c.before.before.before.put-row-arg2.given }) in
+    let a = c.args in
+    let o : Output = record { bytes = c.loop-i.out; used = c.loop-i.used } in
+    let row = printed_row (get_or a.accounts.now c.loop-i.i 0) in
+    let kept = to_z-of_z (record { sfits = c.put-row-arg2.given }) in
     let e = c.put_row-used.ensures ∙ ap (λ (z : ℤ). emitted o (row z)) kept in (
       search rules,
       (
         search rules,
-        rows_next a.accounts.now a.totals.now o _ l.loop-i.i a.count
+        rows_next a.accounts.now a.totals.now o _ c.loop-i.i a.count
             c.loop-i-test.true e
-            ∙ l.loop-i.invariant.1.1,
+            ∙ c.loop-i.invariant.1.1,
       ),
     )
 

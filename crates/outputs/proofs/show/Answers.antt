@@ -15,18 +15,12 @@ put_rows-next-requires c =
 
 pub returns-in-Count : goal.returns-in-Count
 returns-in-Count c =
-    let p = c.before.before.before.before.before.before in
-    let q = p.before.before.before.before.before in
-    listed_count _ _ q.listing.ensures _ _ _ q.in-Count.is p.put_rows-next.ensures
+    listed_count _ _ c.listing.ensures _ _ _ c.in-Count.is c.put_rows-next.ensures
     c.put_end.ensures
 
 pub returns-in-Refused : goal.returns-in-Refused
 returns-in-Refused c =
-    let put-reply = c.before.before in
-    let number = put-reply.before in
-    let why = number.before.before.before in
-    let listing = why.before.before.before.before.before in
     listed_refused _ _
-    listing.listing.ensures _ _ _
-    why.in-Refused.is number.number.ensures
-    put-reply.put_reply.ensures
+    c.listing.ensures _ _ _
+    c.in-Refused.is c.number.ensures
+    c.put_reply.ensures

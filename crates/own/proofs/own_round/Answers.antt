@@ -12,43 +12,27 @@ use Rattle.own.proofs.own_round.Goals.{After-holds_back}
 
 -- what every return has tested
 held :
-    (c : After-holds_back) → let counted = c.before.before.before in let s = counted.args in
-    Tested s.words.now s.g (worker_at s.g.workers s.w) s.q s.w s.toggle counted.least-c.result
+    (c : After-holds_back) → let s = c.args in
+    Tested s.words.now s.g (worker_at s.g.workers s.w) s.q s.w s.toggle c.least-c.result
     c.holds_back.result
 held c =
-    let deep = c.before in
-    let counted = deep.before.before in
-    let read = counted.before in
-    let entry = read.before.before.before in
-    let s = entry.args in
-    tested s.words.now s.g (worker_at s.g.workers s.w) s.q s.w s.toggle _ _ _ entry.requires
-    (counted.least-c.ensures ∙ ap (λ (k : ℕ). least k s.g.capacity) read.get.ensures) deep.get2.ensures c.holds_back.ensures
+    let s = c.args in
+    tested s.words.now s.g (worker_at s.g.workers s.w) s.q s.w s.toggle _ _ _ c.requires
+    (c.least-c.ensures ∙ ap (λ (k : ℕ). least k s.g.capacity) c.get.ensures) c.get-2.ensures c.holds_back.ensures
 
 pub returns-then-holds_back : goal.returns-then-holds_back
 returns-then-holds_back c =
-    let done = c.before.before in
-    let taken = done.before.before in
-    own_held_back (held taken.before) taken.if-holds_back.true done.put_first.ensures
+    own_held_back (held (goal.at.returns-then-holds_back c).After-holds_back) c.if-holds_back.true c.put_first.ensures
 
 pub returns-then-u-settled_ticket : goal.returns-then-u-settled_ticket
 returns-then-u-settled_ticket c =
-    let done = c.before.before in
-    let settled = done.before.before in
-    let last = settled.before.before in
-    let read = last.before.before in
-    let left = read.before.before in
-    own_settled (held left.before) read.slot_read-u.ensures last.settled_ticket.ensures (omega (arith, settled.if-u-settled_ticket.true))
-    done.put_first-then-u-settled_ticket.ensures
+    own_settled (held (goal.at.returns-then-u-settled_ticket c).After-holds_back) c.slot_read-u.ensures c.settled_ticket.ensures (omega (arith, c.if-u-settled_ticket.true))
+    c.put_first-then-u-settled_ticket.ensures
 
 pub carry_own-requires : goal.carry_own-requires
-carry_own-requires c = let left = c.before.before.before.before.before.before.before in own_required (held left.before)
+carry_own-requires c = own_required (held (goal.at.carry_own-requires c).After-holds_back)
 
 pub returns : goal.returns
 returns c =
-    let done = c.before.before in
-    let due = done.before.before in
-    let last = due.before.before in
-    let read = last.before.before in
-    let left = read.before.before in
-    own_carried (held left.before) read.slot_read-u.ensures last.settled_ticket.ensures left.if-holds_back.false due.if-u-settled_ticket.false
-    done.carry_own.ensures
+    own_carried (held (goal.at.returns c).After-holds_back) c.slot_read-u.ensures c.settled_ticket.ensures c.if-holds_back.false c.if-u-settled_ticket.false
+    c.carry_own.ensures

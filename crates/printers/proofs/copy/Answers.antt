@@ -15,24 +15,20 @@ loop-i-init c = (search rules, (refl, paste-zero c.args.out.now c.args.at c.args
 
 pub loop-i-preserved : goal.loop-i-preserved
 loop-i-preserved c =
-    let l = c.before.before in
-    let s = l.before in
-    let at = s.args.at in
-    let i = l.loop-i.i in
-    let w = s.args.word.now in (
+    let at = c.args.at in
+    let i = c.loop-i.i in
+    let w = c.args.word.now in (
       search rules,
       (
-        length-set l.loop-i.out (at + i) (get_or w i 0) ∙ l.loop-i.invariant.1.0,
+        length-set c.loop-i.out (at + i) (get_or w i 0) ∙ c.loop-i.invariant.1.0,
         ap (λ (o : List ℕ). set o (at + i) (get_or w i 0))
-            l.loop-i.invariant.1.1 ∙ paste-suc s.args.out.now at w i 0 (omega arith) (omega arith) ∙ rw add-one,
+            c.loop-i.invariant.1.1 ∙ paste-suc c.args.out.now at w i 0 (omega arith) (omega arith) ∙ rw add-one,
       ),
     )
 
 pub returns : goal.returns
 returns c =
-    let l = c.before in
-    let s = l.before in
-    let e : l.loop-i.i ≡ length s.args.word.now = omega arith in
-    l.loop-i.invariant.1.1
-    ∙ ap (paste s.args.out.now s.args.at s.args.word.now) e
-    ∙ overlay_paste s.args.out.now s.args.at s.args.word.now
+    let e : c.loop-i.i ≡ length c.args.word.now = omega arith in
+    c.loop-i.invariant.1.1
+    ∙ ap (paste c.args.out.now c.args.at c.args.word.now) e
+    ∙ overlay_paste c.args.out.now c.args.at c.args.word.now

@@ -36,62 +36,51 @@ room_for c = has_room _ _ _ c.room.ensures c.if-not-room.false-raw
 
 pub returns-then-not-room : goal.returns-then-not-room
 returns-then-not-room c =
-    let s = c.before.before.before.before.before in
-    let l = s.args.out.now in
-    let at = s.args.at in
-    let e = size_of c.before.before in
-    let h : length l < at + (length s.args.word.now + c.digit_count-second.result + 1) = no-room _ _ _
+    let l = c.args.out.now in
+    let at = c.args.at in
+    let e = size_of (goal.at.returns-then-not-room c).After-digit_count-second in
+    let h : length l < at + (length c.args.word.now + c.digit_count-second.result + 1) = no-room _ _ _
     c.room.ensures c.if-not-room.true in
     wrote_nothing l at _ (omega arith)
 
 pub copy-requires : goal.copy-requires
-copy-requires c = let h = room_for c.before in omega arith
+copy-requires c = let h = room_for (goal.at.copy-requires c).Else-not-room in omega arith
 
 pub overflow_add-next : goal.overflow_add-next
 overflow_add-next c =
-    let g = c.before.before.before.before in
-    let h = room_for g in
-    omega (arith, g.before.before.before.before.before.well-formed)
+    let h = room_for (goal.at.overflow_add-next c).Else-not-room in
+    omega (arith, c.well-formed)
 
 pub spell-requires : goal.spell-requires
 spell-requires c =
-    let h = room_for c.before.before.before.before.before in
+    let h = room_for (goal.at.spell-requires c).Else-not-room in
     omega (arith, c.copy.auto.0)
 
 pub overflow_add-feed : goal.overflow_add-feed
 overflow_add-feed c =
-    let copied = c.before.before.before.before.before.before in
-    let g = copied.before.before in
-    let h = room_for g in
-    omega (arith, g.before.before.before.before.before.well-formed)
+    let h = room_for (goal.at.overflow_add-feed c).Else-not-room in
+    omega (arith, c.well-formed)
 
 pub bounds-out-feed : goal.bounds-out-feed
 bounds-out-feed c =
-    let copied = c.before.before.before.before.before.before in
-    let h = room_for copied.before.before in
-    omega (arith, copied.copy.auto.0, c.spell.auto.0)
+    let h = room_for (goal.at.bounds-out-feed c).Else-not-room in
+    omega (arith, c.copy.auto.0, c.spell.auto.0)
 
 pub shape_of-out : goal.shape_of-out
 shape_of-out c =
-    let spell = c.before.before in
-    let copy = spell.before.before.before.before in
-    simp length-set (spell.spell.auto.0 ∙ copy.copy.auto.0)
+    simp length-set (c.spell.auto.0 ∙ c.copy.auto.0)
 
 pub returns : goal.returns
 unfolding decimal
 returns c =
-    let copied = c.before.before.before.before.before.before in
-    let g = copied.before.before in
-    let p = g.before.before in
-    let s = p.before.before.before in
-    let l = s.args.out.now in
-    let at = s.args.at in
-    let w = s.args.word.now in
-    let n = s.args.n in
-    let h = room_for g in
-    let e = size_of p in
+    let l = c.args.out.now in
+    let at = c.args.at in
+    let w = c.args.word.now in
+    let n = c.args.n in
+    let h = room_for (goal.at.returns c).Else-not-room in
+    let e = size_of (goal.at.returns c).After-digit_count-second in
     wrote l at (w ++ decimal n ++ line_feed ∷ []) _ _ (omega arith) (sym e)
-    (word_part_feed l at w (decimal n) p.digit_count-second.result h (p.digit_count-second.ensures.0 ∙ sym (length_decimal n))
-    copied.copy.ensures
+    (word_part_feed l at w (decimal n) c.digit_count-second.result h (c.digit_count-second.ensures.0 ∙ sym (length_decimal n))
+    c.copy.ensures
     (c.spell.ensures
-    ∙ ap (λ (k : ℕ). overlay copied.copy.new.0 (at + length w) (digits k n)) p.digit_count-second.ensures.0))
+    ∙ ap (λ (k : ℕ). overlay c.copy.new.0 (at + length w) (digits k n)) c.digit_count-second.ensures.0))

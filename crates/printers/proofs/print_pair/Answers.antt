@@ -17,11 +17,10 @@ size_of : (c : After-width-2)
     c.args.b) ≡ length c.args.word.now + (c.width.result
     + 1 + c.width-2.result + 1)
 size_of c =
-    let s = c.before.before.before.before in
     omega (
       arith,
-      length-append s.args.word.now (pair_text s.args.a s.args.b),
-      pair_length s.args.a s.args.b,
+      length-append c.args.word.now (pair_text c.args.a c.args.b),
+      pair_length c.args.a c.args.b,
       c.width.ensures.0,
       c.width-2.ensures.0,
     )
@@ -35,49 +34,40 @@ room_for c = has_room _ _ _ c.room.ensures c.if-not-room.false-raw
 
 pub returns-then-not-room : goal.returns-then-not-room
 returns-then-not-room c =
-    let s = c.before.before.before.before.before.before in
-    let l = s.args.out.now in
-    let at = s.args.at in
-    let e = size_of c.before.before in
-    let h : length l < at + (length s.args.word.now +
+    let l = c.args.out.now in
+    let at = c.args.at in
+    let e = size_of (goal.at.returns-then-not-room c).After-width-2 in
+    let h : length l < at + (length c.args.word.now +
     (c.width.result + 1 + c.width-2.result +
     1)) = no-room _ _ _ c.room.ensures c.if-not-room.true in
     wrote_nothing l at _ (omega arith)
 
 pub copy-requires : goal.copy-requires
-copy-requires c = let h = room_for c.before in omega arith
+copy-requires c = let h = room_for (goal.at.copy-requires c).Else-not-room in omega arith
 
 pub overflow_add-at : goal.overflow_add-at
 overflow_add-at c =
-    let g = c.before.before.before.before.before in
-    let h = room_for g in
-    omega (arith, g.before.before.before.before.before.before.well-formed)
+    let h = room_for (goal.at.overflow_add-at c).Else-not-room in
+    omega (arith, c.well-formed)
 
 pub spell_pair-requires : goal.spell_pair-requires
 spell_pair-requires c =
-    let g = c.before.before.before.before.before in
-    let p = g.before.before in
-    let s = p.before.before.before.before in
-    let h = room_for g in
+    let h = room_for (goal.at.spell_pair-requires c).Else-not-room in
     omega (
       arith,
       c.copy.auto.0,
-      pair_length s.args.a s.args.b,
-      p.width.ensures.0,
-      p.width2.ensures.0,
+      pair_length c.args.a c.args.b,
+      c.width.ensures.0,
+      c.width-2.ensures.0,
     )
 
 pub returns : goal.returns
 returns c =
-    let copied = c.before.before.before.before.before.before in
-    let g = copied.before.before in
-    let p = g.before.before in
-    let s = p.before.before.before.before in
-    let l = s.args.out.now in
-    let at = s.args.at in
-    let w = s.args.word.now in
-    let t = pair_text s.args.a s.args.b in
-    let h = room_for g in
-    let e = size_of p in
+    let l = c.args.out.now in
+    let at = c.args.at in
+    let w = c.args.word.now in
+    let t = pair_text c.args.a c.args.b in
+    let h = room_for (goal.at.returns c).Else-not-room in
+    let e = size_of (goal.at.returns c).After-width-2 in
     wrote l at (w ++ t) _ _ (omega arith) (sym e)
-    (next l at w (at + length w) t (omega arith) copied.copy.ensures c.spell_pair.ensures refl)
+    (next l at w (at + length w) t (omega arith) c.copy.ensures c.spell_pair.ensures refl)

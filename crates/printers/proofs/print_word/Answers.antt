@@ -7,15 +7,12 @@ use Rattle.printers.proofs.print_word.Goals as goal
 
 pub returns-then-not-room : goal.returns-then-not-room
 returns-then-not-room c =
-    let s = c.before.before.before.before in
-    wrote_nothing s.args.out.now s.args.at s.args.word.now (no-room _ _ _ c.room.ensures c.if-not-room.true)
+    wrote_nothing c.args.out.now c.args.at c.args.word.now (no-room _ _ _ c.room.ensures c.if-not-room.true)
 
 pub copy-requires : goal.copy-requires
 copy-requires c = has_room _ _ _ c.room.ensures c.if-not-room.false-raw
 
 pub returns : goal.returns
 returns c =
-    let g = c.before.before.before.before in
-    let s = g.before.before.before.before in
-    wrote s.args.out.now s.args.at s.args.word.now _ _ (has_room _ _ _ g.room.ensures g.if-not-room.false-raw) refl
+    wrote c.args.out.now c.args.at c.args.word.now _ _ (has_room _ _ _ c.room.ensures c.if-not-room.false-raw) refl
     c.copy.ensures

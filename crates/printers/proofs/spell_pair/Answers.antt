@@ -14,41 +14,33 @@ use Rattle.printers.proofs.spell_pair.Goals.{After-width}
 room_for : (c : After-width)
     → c.args.at + (c.width.result + 1 + length (decimal_text c.args.b) + 1)
     ≤ length c.args.out.now
-room_for c = let s = c.before.before in omega (arith, s.requires, pair_length s.args.a s.args.b, c.width.ensures.0)
+room_for c = omega (arith, c.requires, pair_length c.args.a c.args.b, c.width.ensures.0)
 
 pub spell_decimal-requires : goal.spell_decimal-requires
-spell_decimal-requires c = let h = room_for c.before in omega (arith, c.width.ensures.0)
+spell_decimal-requires c = let h = room_for (goal.at.spell_decimal-requires c).After-width in omega (arith, c.width.ensures.0)
 
 pub bounds-out-space : goal.bounds-out-space
-bounds-out-space c = let h = room_for c.before.before.before.before in omega (arith, c.spell_decimal.auto.0)
+bounds-out-space c = let h = room_for (goal.at.bounds-out-space c).After-width in omega (arith, c.spell_decimal.auto.0)
 
 pub spell_decimal-requires-2 : goal.spell_decimal-requires-2
 spell_decimal-requires-2 c =
-    let h = room_for c.before.before.before.before.before in
+    let h = room_for (goal.at.spell_decimal-requires-2 c).After-width in
     simp length-set (omega (arith, c.spell_decimal.auto.0))
 
 pub bounds-out-feed : goal.bounds-out-feed
 bounds-out-feed c =
-    let two = c.before.before.before in
-    let one = two.before.before.before.before in
-    let h = room_for one.before.before in
-    let k = simp length-set at two.spell-decimal2.auto.0 in
-    omega (arith, c.width-2.ensures.0, k, one.spell_decimal.auto.0)
+    let h = room_for (goal.at.bounds-out-feed c).After-width in
+    let k = simp length-set at c.spell_decimal-2.auto.0 in
+    omega (arith, c.width-2.ensures.0, k, c.spell_decimal.auto.0)
 
 pub shape_of-out : goal.shape_of-out
 shape_of-out c =
-    let two = c.before.before.before in
-    let one = two.before.before.before.before in
-    simp length-set (two.spell-decimal2.auto.0 ∙ simp length-set one.spell_decimal.auto.0)
+    simp length-set (c.spell_decimal-2.auto.0 ∙ simp length-set c.spell_decimal.auto.0)
 
 pub returns : goal.returns
 unfolding pair_text
 returns c =
-    let two = c.before.before.before in
-    let one = two.before.before.before.before in
-    let p = one.before.before in
-    let s = p.before.before in
-    let h = room_for p in
+    let h = room_for (goal.at.returns c).After-width in
     let k = c.width-2.ensures.0 in
-    part_space_part_feed s.args.out.now s.args.at (decimal_text s.args.a) (decimal_text s.args.b) p.width.result
-    c.width-2.result (omega arith) p.width.ensures.0 k one.spell_decimal.ensures two.spell-decimal2.ensures
+    part_space_part_feed c.args.out.now c.args.at (decimal_text c.args.a) (decimal_text c.args.b) c.width.result
+    c.width-2.result (omega arith) c.width.ensures.0 k c.spell_decimal.ensures c.spell_decimal-2.ensures

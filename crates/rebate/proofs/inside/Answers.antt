@@ -21,19 +21,17 @@ next c = rw add-one at (rw c.band_at-then-i-lt-BAND_COUNT.ensures at c.above.ens
 
 pub overflow_sub-result : goal.overflow_sub-result
 overflow_sub-result c =
-    let at_above = c.before.before.before in
-    let n = starts_ascend yearly.bands yearly.ascends at_above.args.i (omega arith) in
-    omega (arith, first at_above, next c)
+    let n = starts_ascend yearly.bands yearly.ascends c.args.i (omega arith) in
+    omega (arith, first (goal.at.overflow_sub-result c).After-above-part, next c)
 
 pub returns-then-i-lt-BAND_COUNT : goal.returns-then-i-lt-BAND_COUNT
 returns-then-i-lt-BAND_COUNT c =
-    let at_above = c.before.before.before in
-    let s = at_above.args in
+    let s = c.args in
     let n = inside_between yearly.bands s.i s.amount (omega arith) in
-    omega (arith, first at_above, next c)
+    omega (arith, first (goal.at.returns-then-i-lt-BAND_COUNT c).After-above-part, next c)
 
 pub returns-else-i-lt-BAND_COUNT : goal.returns-else-i-lt-BAND_COUNT
 returns-else-i-lt-BAND_COUNT c =
     let s = c.args in
     let e : suc s.i ≡ 4 = omega arith in
-    first c.before ∙ sym (inside_last yearly.bands s.i s.amount e)
+    first (goal.at.returns-else-i-lt-BAND_COUNT c).After-above-part ∙ sym (inside_last yearly.bands s.i s.amount e)

@@ -10,18 +10,15 @@ use Rattle.rebate.specs.Rebate.{whole_rate, due_by, rounded}
 use Rattle.rebate.proofs.Dues.{inside_most, rate_most, due_added, cents_most, parts_most}
 use borrow.Author.Rules.{rules}
 use Rattle.rebate.proofs.on_amount.Goals as goal
-use Rattle.rebate.proofs.on_amount.Goals.{After-band_at-rate, In-loop-i}
+use Rattle.rebate.proofs.on_amount.Goals.{After-band_at-rate}
 
 pub loop-i-init : goal.loop-i-init
 loop-i-init c = (search rules, (search rules, (search rules, omega arith)))
 
 -- one turn: its part, its rate, and what they come to
 module _ (c : After-band_at-rate) where
-  abbrev turn : In-loop-i
-  turn = c.before.before
-
   abbrev i : ℕ
-  i = turn.loop-i.i
+  i = c.loop-i.i
 
   abbrev part : ℕ
   part = c.inside-part.result
@@ -34,9 +31,9 @@ module _ (c : After-band_at-rate) where
 
   cents : part / whole_rate * rate ≤ 400_000_000_000_000_000
   cents =
-      let n = inside_most (drop i yearly.bands) turn.args.amount in
+      let n = inside_most (drop i yearly.bands) c.args.amount in
       let e = c.inside-part.ensures in
-      let h = turn.requires in
+      let h = c.requires in
       cents_most part rate (omega arith) (rw rate_is (rate_most i))
 
   parts : part % whole_rate * rate ≤ 3_500_000
@@ -46,17 +43,17 @@ pub overflow_mul-cents : goal.overflow_mul-cents
 overflow_mul-cents c = omega (arith, cents c)
 
 pub overflow_add-cents : goal.overflow_add-cents
-overflow_add-cents c = let n = (turn c).loop-i.invariant in omega (arith, cents c)
+overflow_add-cents c = let n = c.loop-i.invariant in omega (arith, cents c)
 
 pub overflow_mul-parts : goal.overflow_mul-parts
 overflow_mul-parts c = omega (arith, parts c)
 
 pub overflow_add-parts : goal.overflow_add-parts
-overflow_add-parts c = let n = (turn c).loop-i.invariant in omega (arith, parts c)
+overflow_add-parts c = let n = c.loop-i.invariant in omega (arith, parts c)
 
 pub loop-i-preserved : goal.loop-i-preserved
 loop-i-preserved c =
-    let l = (turn c).loop-i in (
+    let l = c.loop-i in (
       omega arith,
       (
         omega (arith, cents c),

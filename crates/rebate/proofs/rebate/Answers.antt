@@ -20,4 +20,4 @@ returns-then-total-lt0 c = none_below _ c.ranges.total c.if-total-lt0.true
 
 pub returns-else-total-lt0 : goal.returns-else-total-lt0
 unfolding rebate_on
-returns-else-total-lt0 c = rw (amount c.before).read at c.on_amount.ensures ∙ ap rebate_on (sym (amount c.before).total)
+returns-else-total-lt0 c = rw (amount (goal.at.returns-else-total-lt0 c).Else-total-lt0).read at c.on_amount.ensures ∙ ap rebate_on (sym (amount (goal.at.returns-else-total-lt0 c).Else-total-lt0).total)

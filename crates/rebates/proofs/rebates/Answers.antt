@@ -11,33 +11,27 @@ use Rattle.rebates.proofs.rebates.Goals as goal
 use Rattle.rebates.proofs.rebates.Goals.{In-Count-2}
 
 -- a listing that is counted has all rows
-counted : (c : In-Count-2) → let listing = c.before.before.before.before in
-    AllRows listing.args.words.now c.in-Count.n listing.listing.new.1.0
-    listing.listing.new.1.1.0
+counted : (c : In-Count-2) → AllRows c.args.words.now c.in-Count.n c.listing.new.1.0
+    c.listing.new.1.1.0
 counted c = rows_counted _ _ _ _ _ c.listing.ensures c.in-Count.is
 
 pub returns-then-accounts-k : goal.returns-then-accounts-k
-returns-then-accounts-k c = rebates_narrow (counted c.before.before) _ _ (inl c.if-accounts-k.true)
+returns-then-accounts-k c = rebates_narrow (counted (goal.at.returns-then-accounts-k c).In-Count-2) _ _ (inl c.if-accounts-k.true)
 
 pub returns-then-rebates-k : goal.returns-then-rebates-k
-returns-then-rebates-k c = rebates_narrow (counted c.before.before.before) _ _ (inr c.if-rebates-k.true)
+returns-then-rebates-k c = rebates_narrow (counted (goal.at.returns-then-rebates-k c).In-Count-2) _ _ (inr c.if-rebates-k.true)
 
 pub write-requires : goal.write-requires
 write-requires c =
-    let tests = c.before.before.before.before in
-    let all = counted tests.before.before.before in
-    (omega (arith, all.few), (omega (arith, all.few), (tests.if-accounts-k.false, tests.if-rebates-k.false)))
+    let all = counted (goal.at.write-requires c).In-Count-2 in
+    (omega (arith, all.few), (omega (arith, all.few), (c.if-accounts-k.false, c.if-rebates-k.false)))
 
 pub returns-in-Refused : goal.returns-in-Refused
 returns-in-Refused c =
-    let refused = c.before in
-    let listing = refused.before.before.before.before in
     rebates_refused
-    (rows_refused _ _ _ _ (zeros_long {A = ℕ} 0) (zeros_long (pos 0)) _ listing.listing.ensures refused.in-Refused.is) _ _
+    (rows_refused _ _ _ _ (zeros_long {A = ℕ} 0) (zeros_long (pos 0)) _ c.listing.ensures c.in-Refused.is) _ _
 
 pub returns-else-rebates-k : goal.returns-else-rebates-k
 returns-else-rebates-k c =
-    let write = c.before.before.before.before in
-    let tests = write.before.before.before.before.before in
-    rebates_all (counted tests.before.before.before) _ _ _ _ tests.if-accounts-k.false tests.if-rebates-k.false
-    write.write.ensures.0 write.write.ensures.1
+    rebates_all (counted (goal.at.returns-else-rebates-k c).In-Count-2) _ _ _ _ c.if-accounts-k.false c.if-rebates-k.false
+    c.write.ensures.0 c.write.ensures.1

@@ -21,11 +21,10 @@ loop-i-init c = (search rules, (refl, (refl, (sym (overlay_nil _ _), sym (overla
 pub loop-i-preserved : goal.loop-i-preserved
 unfolding row_at
 loop-i-preserved c =
-    let at_loop = c.before.before.before.before in
-    let s = at_loop.args in
-    let l = at_loop.loop-i in
+    let s = c.args in
+    let l = c.loop-i in
     let e : c.rebate.result ≡ rebate_on (get_or s.totals.now l.i (pos 0)) =
-    c.rebate.ensures ∙ ap rebate_on (to_z-of_z (record { sfits = c.before.rebate-arg.given })) in (
+    c.rebate.ensures ∙ ap rebate_on (to_z-of_z (record { sfits = c.rebate-arg.given })) in (
       search rules,
       (
         search rules,

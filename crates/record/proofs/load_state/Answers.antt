@@ -32,29 +32,27 @@ account :
     (c : In-loop-i2 goal.the-decreases-loop-j) → let s = c.args in
     Pair s.q (accounts_from s.q) (totals_from s.q s.b) c.loop-i.i
 account c =
-    accounts_pair _ _ _ _ _ _ (room c.before.before.before.before.before.before) c.loop-i-test.true c.loop-i.invariant.1.0
+    accounts_pair _ _ _ _ _ _ (room (goal.at.In-loop-i c).Start) c.loop-i-test.true c.loop-i.invariant.1.0
 
 worker :
     (c : In-loop-j2 goal.the-decreases-loop-j)
     → let s = c.args in
     Pair s.q (settled_from s.q s.b) (answers_from s.q s.b s.n) c.loop-j.j
-worker c = workers_pair _ _ _ _ _ (room c.before.before.before.before.before.before.before.before) c.loop-j-test.true
+worker c = workers_pair _ _ _ _ _ (room (goal.at.In-loop-j c).Start) c.loop-j-test.true
 
 total :
     (c : In-loop-j2 goal.the-decreases-loop-j)
     → let s = c.args in
     Pair s.q (answers_from s.q s.b s.n) (posted_from s.q s.b s.n) c.loop-j.j
-total c = posted_pair _ _ _ _ _ (room c.before.before.before.before.before.before.before.before) c.loop-j-test.true
+total c = posted_pair _ _ _ _ _ (room (goal.at.In-loop-j c).Start) c.loop-j-test.true
 
 -- an address in the record is inside the words
 account_inside :
-    (c : In-loop-i2 goal.the-decreases-loop-j) → let s = c.before.before.before.before.before.before in
-    (k : ℕ) → k < s.args.q + widest_record → k < length s.args.words.now
+    (c : In-loop-i2 goal.the-decreases-loop-j) → (k : ℕ) → k < c.args.q + widest_record → k < length c.args.words.now
 account_inside c k h = le_trans h c.requires.0
 
 worker_inside :
-    (c : In-loop-j2 goal.the-decreases-loop-j) → let s = c.before.before.before.before.before.before.before.before in
-    (k : ℕ) → k < s.args.q + widest_record → k < length s.args.words.now
+    (c : In-loop-j2 goal.the-decreases-loop-j) → (k : ℕ) → k < c.args.q + widest_record → k < length c.args.words.now
 worker_inside c k h = le_trans h c.requires.0
 
 pub loop-i-init : goal.loop-i-init
@@ -71,11 +69,9 @@ loop-j-init c = (search rules, rw (le_antisymm c.loop-i.invariant.0 c.loop-i-tes
 
 pub loop-j-preserved : goal.loop-j-preserved
 loop-j-preserved c =
-    let here = c.before.before.before in
-    (rw add-one here.loop-j-test.true, worker_loaded _ _ _ _ _ _ _ _ _ _ _ here.loop-j.invariant.1)
+    (rw add-one c.loop-j-test.true, worker_loaded _ _ _ _ _ _ _ _ _ _ _ c.loop-j.invariant.1)
 
 pub returns : goal.returns
 returns c =
-    let call = c.before.before.before.before.before in
-    state_loaded _ _ _ _ _ _ call.least-c.ensures
+    state_loaded _ _ _ _ _ _ c.least-c.ensures
     (rw (le_antisymm c.loop-j.invariant.0 c.loop-j-test.false) at c.loop-j.invariant.1)

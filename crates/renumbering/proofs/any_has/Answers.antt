@@ -12,16 +12,13 @@ loop-j-init c = (search rules, refl)
 
 pub returns-then-worker_word-x : goal.returns-then-worker_word-x
 returns-then-worker_word-x c =
-    let read = c.before in
-    let turn = read.before in
-    sym (any_hit _ _ turn.loop-j-test.true (eq-eqb _ _ (sym read.worker_word.ensures ∙ c.if-worker_word-x.true))) ∙ turn.loop-j.invariant.1
+    sym (any_hit _ _ c.loop-j-test.true (eq-eqb _ _ (sym c.worker_word.ensures ∙ c.if-worker_word-x.true))) ∙ c.loop-j.invariant.1
 
 pub loop-j-preserved : goal.loop-j-preserved
 loop-j-preserved c =
-    let read = c.before in
-    let turn = read.before in (
+    (
       search rules,
-      any_turn _ _ turn.loop-j-test.true (ne_eqb _ _ (λ e. c.if-worker_word-x.false (read.worker_word.ensures ∙ e))) ∙ turn.loop-j.invariant.1,
+      any_turn _ _ c.loop-j-test.true (ne_eqb _ _ (λ e. c.if-worker_word-x.false (c.worker_word.ensures ∙ e))) ∙ c.loop-j.invariant.1,
     )
 
 pub returns : goal.returns

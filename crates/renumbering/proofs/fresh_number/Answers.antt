@@ -17,16 +17,14 @@ number_taken-requires c = c.requires
 
 pub returns-then-not-number_taken : goal.returns-then-not-number_taken
 returns-then-not-number_taken c =
-    let tested = c.before in
-    sym (least_hit _ _ _ (sym tested.number_taken.ensures ∙ not-true _ c.if-not-number_taken.true)) ∙ tested.loop-x.invariant.1
+    sym (least_hit _ _ _ (sym c.number_taken.ensures ∙ not-true _ c.if-not-number_taken.true)) ∙ c.loop-x.invariant.1
 
 pub loop-x-preserved : goal.loop-x-preserved
 loop-x-preserved c =
-    let tested = c.before in
-    let turn = tested.before in (
+    (
       search rules,
-      least_turn _ _ _ turn.loop-x-test.true (sym tested.number_taken.ensures ∙ not-false _ c.if-not-number_taken.false-raw)
-          ∙ turn.loop-x.invariant.1,
+      least_turn _ _ _ c.loop-x-test.true (sym c.number_taken.ensures ∙ not-false _ c.if-not-number_taken.false-raw)
+          ∙ c.loop-x.invariant.1,
     )
 
 pub returns : goal.returns

@@ -18,15 +18,14 @@ loop-j-init c = (search rules, (search rules, refl))
 pub loop-j-preserved : goal.loop-j-preserved
 unfolding account_logged there_at
 loop-j-preserved c =
-    let at_loop = c.before.before in
-    let s = at_loop.args in
-    let inv = at_loop.loop-j.invariant in
+    let s = c.args in
+    let inv = c.loop-j.invariant in
     ⊎_elim
     (λ w. (
       search rules,
       (
         omega arith,
-        w.4 ∙ rw inv.1.1 (sym (agree_same s.log.now s.depth s.bits s.t4 at_loop.loop-j.j w.0.taken
+        w.4 ∙ rw inv.1.1 (sym (agree_same s.log.now s.depth s.bits s.t4 c.loop-j.j w.0.taken
             (sym (w.2.ensures ∙ ap (first_bits s.depth) w.1.ensures) ∙ w.3.taken))),
       ),
     ))
@@ -35,7 +34,7 @@ loop-j-preserved c =
       search rules,
       (
         omega arith,
-        w.4 ∙ rw inv.1.1 (sym (agree_other s.log.now s.depth s.bits s.t4 at_loop.loop-j.j w.0.taken
+        w.4 ∙ rw inv.1.1 (sym (agree_other s.log.now s.depth s.bits s.t4 c.loop-j.j w.0.taken
             (λ e. w.3.left (w.2.ensures ∙ ap (first_bits s.depth) w.1.ensures ∙ e)))),
       ),
     ))
@@ -43,7 +42,7 @@ loop-j-preserved c =
       search rules,
       (
         omega arith,
-        w.1 ∙ rw inv.1.1 (sym (agree_missing s.log.now s.depth s.bits s.t4 at_loop.loop-j.j w.0.left)),
+        w.1 ∙ rw inv.1.1 (sym (agree_missing s.log.now s.depth s.bits s.t4 c.loop-j.j w.0.left)),
       ),
     ))) c.if-balances-j-ne0.either
 

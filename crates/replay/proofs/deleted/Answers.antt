@@ -7,18 +7,14 @@ use Rattle.replay.proofs.deleted.Goals as goal
 
 pub returns-then-there-ne0 : goal.returns-then-there-ne0
 returns-then-there-ne0 c crowded total =
-    let read = c.before.before in
-    let start = read.before.before in
-    let s = start.args in
+    let s = c.args in
     rw (balance_there s.there total c.if-there-ne0.true)
-    ((rw read.word_at-answer.ensures at c.balance_if.ensures)
-    ∙ sym (delete_there s.log.now s.i start.requires.1 crowded _))
+    ((rw c.word_at-answer.ensures at c.balance_if.ensures)
+    ∙ sym (delete_there s.log.now s.i c.requires.1 crowded _))
 
 pub returns : goal.returns
 returns c crowded total =
-    let read = c.before.before in
-    let start = read.before.before in
-    let s = start.args in
+    let s = c.args in
     rw (balance_missing s.there total c.if-there-ne0.false)
-    ((rw read.word_at-answer.ensures at c.unchanged_if.ensures)
-    ∙ sym (delete_missing s.log.now s.i start.requires.1 crowded))
+    ((rw c.word_at-answer.ensures at c.unchanged_if.ensures)
+    ∙ sym (delete_missing s.log.now s.i c.requires.1 crowded))

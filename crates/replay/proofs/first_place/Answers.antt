@@ -17,25 +17,22 @@ loop-j-init c =
 pub returns-then-word_at-account : goal.returns-then-word_at-account
 unfolding account_logged
 returns-then-word_at-account c =
-    let at_loop = c.before.before.before in
-    let s = at_loop.args in (
-      sym (first_hit s.log.now _ s.i at_loop.loop-j.j (omega arith) (sym c.word_at.ensures ∙ c.if-word_at-account.true))
-          ∙ at_loop.loop-j.invariant.1,
+    let s = c.args in (
+      sym (first_hit s.log.now _ s.i c.loop-j.j (omega arith) (sym c.word_at.ensures ∙ c.if-word_at-account.true))
+          ∙ c.loop-j.invariant.1,
       search rules,
     )
 
 pub loop-j-preserved : goal.loop-j-preserved
 unfolding account_logged
 loop-j-preserved c =
-    let at_loop = c.before.before.before in
-    let s = at_loop.args in (
+    let s = c.args in (
       search rules,
-      sym (first_turn s.log.now _ s.i at_loop.loop-j.j (omega arith) (λ e. c.if-word_at-account.false (c.word_at.ensures ∙ e)))
-          ∙ at_loop.loop-j.invariant.1,
+      sym (first_turn s.log.now _ s.i c.loop-j.j (omega arith) (λ e. c.if-word_at-account.false (c.word_at.ensures ∙ e)))
+          ∙ c.loop-j.invariant.1,
     )
 
 pub returns : goal.returns
 returns c =
-    let at_loop = c.before in
-    let s = at_loop.args in
-    (sym (first_end s.log.now _ s.i at_loop.loop-j.j (omega arith)) ∙ at_loop.loop-j.invariant.1, search rules)
+    let s = c.args in
+    (sym (first_end s.log.now _ s.i c.loop-j.j (omega arith)) ∙ c.loop-j.invariant.1, search rules)

@@ -8,27 +8,21 @@ use Rattle.replay.proofs.inserted.Goals as goal
 
 pub returns-then-there-ne0 : goal.returns-then-there-ne0
 returns-then-there-ne0 c total =
-    let read = c.before.before in
-    let start = read.before.before.before in
-    let s = start.args in
+    let s = c.args in
     rw (balance_there s.there total c.if-there-ne0.true)
-    ((rw (read.word_at-answer.ensures, read.word_at-total.ensures) at c.balance_if.ensures)
-    ∙ sym (insert_there s.log.now s.i start.requires.1 (word_fits read.word_at-total.ensures read.word_at-total.type-inv) s.crowded _))
+    ((rw (c.word_at-answer.ensures, c.word_at-total.ensures) at c.balance_if.ensures)
+    ∙ sym (insert_there s.log.now s.i c.requires.1 (word_fits c.word_at-total.ensures c.word_at-total.type-inv) s.crowded _))
 
 pub returns-then-crowded : goal.returns-then-crowded
 returns-then-crowded c total =
-    let read = c.before.before.before in
-    let start = read.before.before.before in
-    let s = start.args in
+    let s = c.args in
     rw (balance_missing s.there total c.if-there-ne0.false, c.if-crowded.true)
-    ((rw read.word_at-answer.ensures at c.unchanged_if.ensures)
-    ∙ sym (insert_crowded s.log.now s.i start.requires.1 (word_fits read.word_at-total.ensures read.word_at-total.type-inv)))
+    ((rw c.word_at-answer.ensures at c.unchanged_if.ensures)
+    ∙ sym (insert_crowded s.log.now s.i c.requires.1 (word_fits c.word_at-total.ensures c.word_at-total.type-inv)))
 
 pub returns : goal.returns
 returns c total =
-    let read = c.before.before.before in
-    let start = read.before.before.before in
-    let s = start.args in
+    let s = c.args in
     rw (balance_missing s.there total c.if-there-ne0.false, c.if-crowded.false)
-    ((rw (read.word_at-answer.ensures, read.word_at-total.ensures) at c.balance_if-2.ensures)
-    ∙ sym (insert_new s.log.now s.i start.requires.1 (word_fits read.word_at-total.ensures read.word_at-total.type-inv)))
+    ((rw (c.word_at-answer.ensures, c.word_at-total.ensures) at c.balance_if-2.ensures)
+    ∙ sym (insert_new s.log.now s.i c.requires.1 (word_fits c.word_at-total.ensures c.word_at-total.type-inv)))

@@ -8,19 +8,15 @@ use Rattle.replay.proofs.looked_up.Goals as goal
 
 pub returns-then-there-ne0 : goal.returns-then-there-ne0
 returns-then-there-ne0 c crowded =
-    let read = c.before in
-    let start = read.before.before.before.before in
-    let s = start.args in
-    rw (balance_there s.there s.total read.if-there-ne0.true)
-    ((rw (read.word_at-answer.ensures, read.word_at-logged.ensures) at c.unchanged_if.ensures)
-    ∙ sym (lookup_there s.log.now s.i start.requires.1 crowded s.total start.ranges.total
-    (word_fits read.word_at-logged.ensures read.word_at-logged.type-inv)))
+    let s = c.args in
+    rw (balance_there s.there s.total c.if-there-ne0.true)
+    ((rw (c.word_at-answer.ensures, c.word_at-logged.ensures) at c.unchanged_if.ensures)
+    ∙ sym (lookup_there s.log.now s.i c.requires.1 crowded s.total c.ranges.total
+    (word_fits c.word_at-logged.ensures c.word_at-logged.type-inv)))
 
 pub returns : goal.returns
 returns c crowded =
-    let read = c.before.before in
-    let start = read.before.before in
-    let s = start.args in
+    let s = c.args in
     rw (balance_missing s.there s.total c.if-there-ne0.false)
-    ((rw read.word_at-answer.ensures at c.unchanged_if-2.ensures)
-    ∙ sym (lookup_missing s.log.now s.i start.requires.1 crowded))
+    ((rw c.word_at-answer.ensures at c.unchanged_if-2.ensures)
+    ∙ sym (lookup_missing s.log.now s.i c.requires.1 crowded))

@@ -15,8 +15,7 @@ returns-then-kind-eq-KIND_LOOKUP c = c.looked_up.ensures c.args.crowded
 
 pub returns : goal.returns
 returns c =
-    let read = c.before.before.before.before in
-    let s = read.args in
-    let e = read.word_at-kind.ensures in
+    let s = c.args in
+    let e = c.word_at-kind.ensures in
     sym (no_kind s.log.now s.i (λ f. c.if-kind-eq-KIND_INSERT.false (e ∙ f)) (λ f. c.if-kind-eq-KIND_DELETE.false (e ∙ f))
     (λ f. c.if-kind-eq-KIND_LOOKUP.false (e ∙ f)) (λ f. c.if-kind-eq-KIND_POST.false (e ∙ f)) s.crowded _)

@@ -17,15 +17,12 @@ returns-then-there-ne0 c =
 
 pub returns-then-crowded : goal.returns-then-crowded
 returns-then-crowded c =
-    let read = c.before in
-    let start = read.before.before.before.before in
-    let s = start.args in
-    rw (balance_missing s.there s.total read.if-there-ne0.false, read.if-crowded.true)
-    ((rw read.word_at-answer.ensures at c.unchanged_if.ensures) ∙ sym (post_crowded s.log.now s.i start.requires.1))
+    let s = c.args in
+    rw (balance_missing s.there s.total c.if-there-ne0.false, c.if-crowded.true)
+    ((rw c.word_at-answer.ensures at c.unchanged_if.ensures) ∙ sym (post_crowded s.log.now s.i c.requires.1))
 
 pub returns : goal.returns
 returns c =
-    let start = c.before.before.before.before in
-    let s = start.args in
+    let s = c.args in
     rw (balance_missing s.there s.total c.if-there-ne0.false, c.if-crowded.false)
-    (c.summed-2.ensures ∙ sym (post_new s.log.now s.i start.requires.1))
+    (c.summed-2.ensures ∙ sym (post_new s.log.now s.i c.requires.1))

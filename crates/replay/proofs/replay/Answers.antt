@@ -19,29 +19,26 @@ outcome :
     (outcome_of (logged_at l s.i) (crowds_at l s.capacity s.depth s.t4 s.i) (balance_at s.t4 (first_place l s.i)))
 unfolding balance_at there_at total_at
 outcome c =
-    let place = c.before.before in
-    let s = place.args in
+    let s = c.args in
     let x = logged_at s.log.now s.i in
     let crowded = crowds_at s.log.now s.capacity s.depth s.t4 s.i in
     c.outcome_of.ensures
     ∙ ap (as_outcome (still_at s.log.now s.i))
     (crowding_asked x _ crowded _ _
     (⊎_elim (λ w e. w.2 ∙ w.1.ensures) (λ w e. absurd (w.0.left e)) c.if-there-eq0.either)
-    ∙ ap (λ (j : ℕ). outcome_of x crowded (balance_at s.t4 j)) place.first_place-at.ensures.0)
+    ∙ ap (λ (j : ℕ). outcome_of x crowded (balance_at s.t4 j)) c.first_place-at.ensures.0)
 
 pub returns-in-Balance : goal.returns-in-Balance
 unfolding replayed
 returns-in-Balance c =
-    let given = c.before.before.before in
-    let place = given.before.before in
-    let s = place.args in
-    rw place.first_place-at.ensures.0
-    (after_balance s.t4 _ _ _ _ _ (sym (outcome given) ∙ c.in-Balance.is))
+    let s = c.args in
+    rw c.first_place-at.ensures.0
+    (after_balance s.t4 _ _ _ _ _ (sym (outcome (goal.at.returns-in-Balance c).After-outcome_of) ∙ c.in-Balance.is))
 
 pub returns-in-Unchanged : goal.returns-in-Unchanged
 unfolding replayed
-returns-in-Unchanged c = after_nothing _ _ _ _ (sym (outcome c.before.before) ∙ c.in-Unchanged.is)
+returns-in-Unchanged c = after_nothing _ _ _ _ (sym (outcome (goal.at.returns-in-Unchanged c).After-outcome_of) ∙ c.in-Unchanged.is)
 
 pub returns-in-Another : goal.returns-in-Another
 unfolding replayed
-returns-in-Another c = after_another _ _ _ _ (sym (outcome c.before.before) ∙ c.in-Another.is)
+returns-in-Another c = after_another _ _ _ _ (sym (outcome (goal.at.returns-in-Another c).After-outcome_of) ∙ c.in-Another.is)

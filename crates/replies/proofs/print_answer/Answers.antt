@@ -30,10 +30,9 @@ returns-in-Absent c = rw c.in-Absent.is c.print_counted-in-Absent.ensures
 pub returns-in-Found : goal.returns-in-Found
 unfolding printed_answer printed_line total_then answer_word answer_total bytes
 returns-in-Found c =
-    let known = c.before.before.before.before.before in
-    let a = known.before.answer.given in
-    let k = known.args.end.steps in
-    let kept = to_z-of_z (record { sfits = known.known-told.given.0.1 }) in
+    let a = c.answer.given in
+    let k = c.args.end.steps in
+    let kept = to_z-of_z (record { sfits = c.known-told.given.0.1 }) in
     let text = ap (λ (t : ℤ). bytes "answered found " ++ printed_line (signed_decimal t ∷ decimal k ∷ [])) kept in
     rw a.1 (retold text c.print_total.ensures)
 
@@ -44,10 +43,9 @@ returns-in-None c = rw c.in-None.is c.print_counted-in-None.ensures
 pub returns-in-Posted : goal.returns-in-Posted
 unfolding printed_answer printed_line total_then answer_word answer_total bytes
 returns-in-Posted c =
-    let known = c.before.before.before.before.before in
-    let a = known.before.answer2.given in
-    let k = known.args.end.steps in
-    let kept = to_z-of_z (record { sfits = known.known-told2.given.0.1 }) in
+    let a = c.answer2.given in
+    let k = c.args.end.steps in
+    let kept = to_z-of_z (record { sfits = c.known-told2.given.0.1 }) in
     let text = ap (λ (t : ℤ). bytes "answered posted " ++ printed_line (signed_decimal t ∷ decimal k ∷ [])) kept in
     rw a.1 (retold text c.print_total-in-Posted.ensures)
 

@@ -12,16 +12,12 @@ returns-in-Ok c = rw c.in-Ok.is c.print_word.ensures
 pub returns-in-Refused : goal.returns-in-Refused
 unfolding printed_reply printed printed_unread printed_line bytes
 returns-in-Refused c =
-    let print-counted = c.before.before in
-    let reply = print-counted.before.before.before.before in
-    rw reply.in-Refused.is print-counted.print_counted.ensures
+    rw c.in-Refused.is c.print_counted.ensures
 
 pub returns-in-Moved : goal.returns-in-Moved
 unfolding printed_reply printed printed_unread printed_line bytes
 returns-in-Moved c =
-    let print_counted2 = c.before.before in
-    let reply2 = print_counted2.before.before.before.before in
-    rw reply2.in-Moved.is print_counted2.print_counted-in-Moved.ensures
+    rw c.in-Moved.is c.print_counted-in-Moved.ensures
 
 pub returns-in-Answered : goal.returns-in-Answered
 unfolding printed_reply printed

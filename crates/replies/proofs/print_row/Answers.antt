@@ -13,9 +13,7 @@ use Rattle.replies.proofs.print_row.Goals as goal
 
 pub returns : goal.returns
 returns c =
-    let two = c.before.before.before in
-    let s = two.before.before.before.before.before in
-    let second = two.signed.ensures ∙ ap sign_of (to_z-of_z s.ranges.total) in
-    let numbers = ap (λ (d : Decimal). pair_text d two.signed.result) two.unsigned.ensures
-    ∙ ap (pair_text (sign_of (pos s.args.account))) second in
-    retold (numbers ∙ row_text s.args.account s.args.total) c.print_pair.ensures
+    let second = c.signed.ensures ∙ ap sign_of (to_z-of_z c.ranges.total) in
+    let numbers = ap (λ (d : Decimal). pair_text d c.signed.result) c.unsigned.ensures
+    ∙ ap (pair_text (sign_of (pos c.args.account))) second in
+    retold (numbers ∙ row_text c.args.account c.args.total) c.print_pair.ensures

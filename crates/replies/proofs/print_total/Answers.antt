@@ -14,11 +14,8 @@ use Rattle.replies.proofs.print_total.Goals as goal
 
 pub returns : goal.returns
 returns c =
-    let two = c.before.before.before in
-    let one = two.before in
-    let s = one.before.before.before.before in
-    let first = one.signed.ensures ∙ ap sign_of (to_z-of_z s.ranges.total) in
-    let numbers = ap (λ (d : Decimal). pair_text d two.unsigned.result) first
-    ∙ ap (pair_text (sign_of s.args.total)) two.unsigned.ensures in
-    let text = numbers ∙ total_text s.args.total s.args.steps in
-    retold (ap (λ (l : List ℕ). s.args.word.now ++ l) text) c.print_pair.ensures
+    let first = c.signed.ensures ∙ ap sign_of (to_z-of_z c.ranges.total) in
+    let numbers = ap (λ (d : Decimal). pair_text d c.unsigned.result) first
+    ∙ ap (pair_text (sign_of c.args.total)) c.unsigned.ensures in
+    let text = numbers ∙ total_text c.args.total c.args.steps in
+    retold (ap (λ (l : List ℕ). c.args.word.now ++ l) text) c.print_pair.ensures

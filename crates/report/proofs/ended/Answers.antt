@@ -10,11 +10,9 @@ use Rattle.report.proofs.ended.Goals as goal
 
 pub overflow_add-result : goal.overflow_add-result
 overflow_add-result c =
-    let start = c.before.before.before.before.before.before.before in
-    omega (arith, c.number.ensures, answer_small start.args.c.answer)
+    omega (arith, c.number.ensures, answer_small c.args.c.answer)
 
 pub returns : goal.returns
 unfolding ended_report ended_number
 returns c =
-    let at_tell = c.before.before.before in
-    (at_tell.tell.ensures ∙ rw at_tell.total_word.ensures, ap (λ (n : ℕ). 16 + n) c.number.ensures)
+    (c.tell.ensures ∙ rw c.total_word.ensures, ap (λ (n : ℕ). 16 + n) c.number.ensures)

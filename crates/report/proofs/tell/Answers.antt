@@ -9,8 +9,7 @@ use Rattle.report.proofs.tell.Goals as goal
 
 pub returns-then-report-lt3 : goal.returns-then-report-lt3
 returns-then-report-lt3 c =
-    let told = c.before.before in
-    told.tell_two.ensures ∙ three_short _ _ _ _ told.if-report-lt3.true
+    c.tell_two.ensures ∙ three_short _ _ _ _ c.if-report-lt3.true
 
 pub bounds-report-0 : goal.bounds-report-0
 bounds-report-0 c = omega (arith, c.if-report-lt3.false)

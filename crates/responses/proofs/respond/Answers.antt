@@ -12,47 +12,41 @@ use Rattle.responses.proofs.respond.Goals as goal
 pub returns-in-Open : goal.returns-in-Open
 unfolding responded
 returns-in-Open c = rw c.in-Open.is
-    (replied of_opened _ _ _ _ c.before.before.before.«open».ensures c.of_opened.ensures)
+    (replied of_opened _ _ _ _ c.«open».ensures c.of_opened.ensures)
 
 pub returns-in-Insert : goal.returns-in-Insert
 unfolding responded
 returns-in-Insert c =
-    let given = c.before.before.before.before.before.before.c2.given in
-    let kept = to_z-of_z (record { sfits = c.before.before.before.before.before.known-told2.given.1.1.0.1 }) in
+    let given = c.c2.given in
+    let kept = to_z-of_z (record { sfits = c.known-told2.given.1.1.0.1 }) in
     rw given.1 (replied of_called _ _ _ _ (c.call.ensures ∙ ap (call_words _ _ kind_insert _) kept)
     c.of_called.ensures)
 
 pub returns-in-Delete : goal.returns-in-Delete
 unfolding responded
 returns-in-Delete c =
-    let call2 = c.before.before.before in
-    let c3 = call2.before.before.before in
-    rw c3.in-Delete.is
-    (replied of_called _ _ _ _ call2.call-in-Delete.ensures c.of_called-in-Delete.ensures)
+    rw c.in-Delete.is
+    (replied of_called _ _ _ _ c.call-in-Delete.ensures c.of_called-in-Delete.ensures)
 
 pub returns-in-Lookup : goal.returns-in-Lookup
 unfolding responded
 returns-in-Lookup c =
-    let call3 = c.before.before.before in
-    let c4 = call3.before.before.before in
-    rw c4.in-Lookup.is
-    (replied of_called _ _ _ _ call3.call-in-Lookup.ensures c.of_called-in-Lookup.ensures)
+    rw c.in-Lookup.is
+    (replied of_called _ _ _ _ c.call-in-Lookup.ensures c.of_called-in-Lookup.ensures)
 
 pub returns-in-Post : goal.returns-in-Post
 unfolding responded
 returns-in-Post c =
-    let given = c.before.before.before.before.before.before.c5.given in
-    let kept = to_z-of_z (record { sfits = c.before.before.before.before.before.known-told5.given.1.1.0.1 }) in
+    let given = c.c5.given in
+    let kept = to_z-of_z (record { sfits = c.known-told5.given.1.1.0.1 }) in
     rw given.1 (replied of_called _ _ _ _ (c.call-in-Post.ensures ∙ ap (call_words _ _ kind_post _) kept)
     c.of_called-in-Post.ensures)
 
 pub returns-in-Steps : goal.returns-in-Steps
 unfolding responded
 returns-in-Steps c =
-    let run = c.before.before.before in
-    let c6 = run.before.before.before in
-    rw c6.in-Steps.is
-    (replied of_ran _ _ _ _ run.run.ensures c.of_ran.ensures)
+    rw c.in-Steps.is
+    (replied of_ran _ _ _ _ c.run.ensures c.of_ran.ensures)
 
 pub returns-in-List : goal.returns-in-List
 unfolding responded

@@ -7,14 +7,10 @@ use Rattle.rounds.proofs.carry.Goals as goal
 
 pub returns-then-crowded : goal.returns-then-crowded
 returns-then-crowded c =
-    let crowded = c.before.before in
-    let search = crowded.before in
     c.settle.ensures
-    ∙ carry_crowded _ _ _ search.args.u _ search.search-p.ensures (sym crowded.crowded.ensures ∙ c.if-crowded.true)
+    ∙ carry_crowded _ _ _ c.args.u _ c.search-p.ensures (sym c.crowded.ensures ∙ c.if-crowded.true)
 
 pub returns : goal.returns
 returns c =
-    let crowded = c.before.before in
-    let search = crowded.before in
     c.change.ensures
-    ∙ carry_changed _ _ _ search.args.u _ search.search-p.ensures (sym crowded.crowded.ensures ∙ c.if-crowded.false)
+    ∙ carry_changed _ _ _ c.args.u _ c.search-p.ensures (sym c.crowded.ensures ∙ c.if-crowded.false)

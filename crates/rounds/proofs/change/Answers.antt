@@ -9,21 +9,17 @@ use Rattle.rounds.proofs.change.Goals as goal
 pub returns-then-u-eq-KIND_INSERT : goal.returns-then-u-eq-KIND_INSERT
 unfolding insert_answer
 returns-then-u-eq-KIND_INSERT c =
-    let put = c.before.before in
-    let s = put.args in
+    let s = c.args in
     c.settle.ensures
-    ∙ change_insert _ _ _ s.u _ _ put.if-u-eq-KIND_INSERT.true put.put.ensures c.answer_number.ensures
+    ∙ change_insert _ _ _ s.u _ _ c.if-u-eq-KIND_INSERT.true c.put.ensures c.answer_number.ensures
 
 pub returns-then-u-eq-KIND_POST : goal.returns-then-u-eq-KIND_POST
 returns-then-u-eq-KIND_POST c =
-    let kinds = c.before in
-    c.post.ensures ∙ change_post _ _ _ kinds.args.u kinds.if-u-eq-KIND_POST.true
+    c.post.ensures ∙ change_post _ _ _ c.args.u c.if-u-eq-KIND_POST.true
 
 pub returns-else-u-eq-KIND_POST : goal.returns-else-u-eq-KIND_POST
 unfolding delete_answer
 returns-else-u-eq-KIND_POST c =
-    let remove = c.before.before in
-    let kinds = remove.before in
     c.settle-else-u-eq-KIND_POST.ensures
-    ∙ change_delete _ _ _ kinds.args.u _ _ (kinds.if-u-eq-KIND_INSERT.false, kinds.if-u-eq-KIND_POST.false)
-    remove.remove.ensures c.answer_number-else-u-eq-KIND_POST.ensures
+    ∙ change_delete _ _ _ c.args.u _ _ (c.if-u-eq-KIND_INSERT.false, c.if-u-eq-KIND_POST.false)
+    c.remove.ensures c.answer_number-else-u-eq-KIND_POST.ensures

@@ -9,19 +9,15 @@ use Rattle.rounds.proofs.post.Goals as goal
 
 pub returns-in-Within : goal.returns-in-Within
 returns-in-Within c =
-    let known = c.before.before.before in
-    let sum = known.before.before in
-    let s = sum.args in
+    let s = c.args in
     c.settle.ensures
     ∙ post_within s.state s.j s.p s.u _ _
-    (sym (sum.sum_of.ensures ∙ ap (λ (k : ℕ). sum_of k s.u.total) sum.total.ensures) ∙ known.in-Within.is)
+    (sym (c.sum_of.ensures ∙ ap (λ (k : ℕ). sum_of k s.u.total) c.total.ensures) ∙ c.in-Within.is)
     c.put.ensures
 
 pub returns-in-Outside : goal.returns-in-Outside
 returns-in-Outside c =
-    let known = c.before in
-    let sum = known.before.before in
-    let s = sum.args in
+    let s = c.args in
     c.settle-in-Outside.ensures
     ∙ post_outside s.state s.j s.p s.u
-    (sym (sum.sum_of.ensures ∙ ap (λ (k : ℕ). sum_of k s.u.total) sum.total.ensures) ∙ known.in-Outside.is)
+    (sym (c.sum_of.ensures ∙ ap (λ (k : ℕ). sum_of k s.u.total) c.total.ensures) ∙ c.in-Outside.is)

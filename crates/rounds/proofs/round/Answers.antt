@@ -32,9 +32,8 @@ loop-j-init c =
 pub loop-j-preserved : goal.loop-j-preserved
 unfolding descriptor_in
 loop-j-preserved c =
-    let at_loop = c.before.before.before.before.before.before in
-    let s = at_loop.args in
-    let l = at_loop.loop-j in
+    let s = c.args in
+    let l = c.loop-j in
     let u : Descriptor = descriptor_in s.slots.now (slot_size * l.j) in
     let last =
     c.at-last.ensures
@@ -60,9 +59,8 @@ loop-j-preserved c =
 pub returns : goal.returns
 unfolding with_applied
 returns c =
-    let at_loop = c.before in
-    let s = at_loop.args in
-    let e = le_antisymm at_loop.loop-j.invariant.0 c.loop-j-test.false in
-    round_end s.state s.slots.now s.s s.depth s.toggle at_loop.if-n-m.m at_loop.loop-j.x
-    (at_loop.loop-j.invariant.3 ∙ ap (helped_of s.state s.slots.now s.s s.depth s.toggle) e)
-    at_loop.loop-j.invariant.2
+    let s = c.args in
+    let e = le_antisymm c.loop-j.invariant.0 c.loop-j-test.false in
+    round_end s.state s.slots.now s.s s.depth s.toggle c.if-n-m.m c.loop-j.x
+    (c.loop-j.invariant.3 ∙ ap (helped_of s.state s.slots.now s.s s.depth s.toggle) e)
+    c.loop-j.invariant.2

@@ -22,17 +22,15 @@ count_in-k-requires c = (c.requires, omega arith)
 
 pub overflow_add-k : goal.overflow_add-k
 overflow_add-k c =
-    let start = c.before.before.before.before in
-    let s = start.args in
-    let n = entry_limit s.words.now s.g c.loop-e.e start.requires in
-    omega (arith, span_limit s.g.depth start.requires.depth, c.count_in-k.ensures)
+    let s = c.args in
+    let n = entry_limit s.words.now s.g c.loop-e.e c.requires in
+    omega (arith, span_limit s.g.depth c.requires.depth, c.count_in-k.ensures)
 
 pub loop-e-preserved : goal.loop-e-preserved
 loop-e-preserved c =
-    let start = c.before.before.before.before in
-    let s = start.args in
+    let s = c.args in
     let l = c.loop-e in
-    let n = entry_limit s.words.now s.g l.e start.requires in
+    let n = entry_limit s.words.now s.g l.e c.requires in
     let m = counted_entry s.words.now s.g l.e in
     let h = c.count_in-k.ensures in
     (l.invariant.0, (omega arith, (omega arith, omega arith)))

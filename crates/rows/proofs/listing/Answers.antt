@@ -26,41 +26,21 @@ returns-then-accounts-k c =
 
 pub returns-then-totals-k : goal.returns-then-totals-k
 returns-then-totals-k c =
-    let count = c.before.before in
-    let settings-of = count.before in
-    let test = settings-of.before.before in
-    let strange-words = test.before in
-    listing_narrow _ _ _ _ strange-words.strange_words.ensures _ _ test.if-strange_words.false settings-of.settings_of-g.ensures
-    count.count-k.ensures (inr c.if-totals-k.true)
+    listing_narrow _ _ _ _ c.strange_words.ensures _ _ c.if-strange_words.false c.settings_of-g.ensures
+    c.count-k.ensures (inr c.if-totals-k.true)
 
 pub write-requires : goal.write-requires
 write-requires c =
-    let count = c.before.before.before.before in
-    let settings-of = count.before in
-    let test = settings-of.before.before in
-    let strange-words = test.before in
-    let f = fits_read _ _ _ strange-words.strange_words.ensures test.if-strange_words.false settings-of.settings_of-g.ensures in
-    (f, (omega (arith, count.count-k.ensures), omega (arith, count.count-k.ensures)))
+    let f = fits_read _ _ _ c.strange_words.ensures c.if-strange_words.false c.settings_of-g.ensures in
+    (f, (omega (arith, c.count-k.ensures), omega (arith, c.count-k.ensures)))
 
 pub sort-requires : goal.sort-requires
 sort-requires c =
-    let write = c.before.before.before.before.before in
-    let test3 = write.before.before.before in
-    let test2 = test3.before in
-    let count = test2.before in
-    let room = sort_room _ _ _ count.count-k.ensures _ _ _ _ write.write.ensures test2.if-accounts-k.false test3.if-totals-k.false in
+    let room = sort_room _ _ _ c.count-k.ensures _ _ _ _ c.write.ensures c.if-accounts-k.false c.if-totals-k.false in
     (omega (arith, room.0), omega (arith, room.1))
 
 pub returns : goal.returns
 returns c =
-    let sort = c.before.before.before in
-    let write = sort.before.before.before.before.before.before in
-    let test3 = write.before.before.before in
-    let test2 = test3.before in
-    let count = test2.before in
-    let settings-of = count.before in
-    let test = settings-of.before.before in
-    let strange-words = test.before in
-    listing_all _ _ _ _ strange-words.strange_words.ensures _ _ test.if-strange_words.false settings-of.settings_of-g.ensures
-    count.count-k.ensures _ _ test2.if-accounts-k.false test3.if-totals-k.false
-    (sorted_written _ _ _ count.count-k.ensures _ _ _ _ write.write.ensures _ _ sort.sort.ensures)
+    listing_all _ _ _ _ c.strange_words.ensures _ _ c.if-strange_words.false c.settings_of-g.ensures
+    c.count-k.ensures _ _ c.if-accounts-k.false c.if-totals-k.false
+    (sorted_written _ _ _ c.count-k.ensures _ _ _ _ c.write.ensures _ _ c.sort.ensures)

@@ -24,24 +24,20 @@ loop-e-init c =
 
 pub write_in-k-requires : goal.write_in-k-requires
 write_in-k-requires c =
-    let at_loop = c.before.before.before in
-    let start = at_loop.before.before.before in
-    let s = start.args in
-    let l = at_loop.loop-e in
+    let s = c.args in
+    let l = c.loop-e in
     let h : l.e < 2 ^ s.g.depth = omega arith in
-    let a = entry_room s.words.now s.g l.e _ h start.requires.1.0 in
-    let t = entry_room s.words.now s.g l.e _ h start.requires.1.1 in
-    (start.requires.0, (h, (omega arith, omega arith)))
+    let a = entry_room s.words.now s.g l.e _ h c.requires.1.0 in
+    let t = entry_room s.words.now s.g l.e _ h c.requires.1.1 in
+    (c.requires.0, (h, (omega arith, omega arith)))
 
 pub loop-e-preserved : goal.loop-e-preserved
 loop-e-preserved c =
-    let call = c.before.before.before in
-    let at_loop = call.before.before.before.before in
-    let s = at_loop.args in
-    let l = at_loop.loop-e in
+    let s = c.args in
+    let l = c.loop-e in
     let more = entries_more s.words.now s.g l.e in
     let m = counted_entry s.words.now s.g l.e in
-    let h = call.write_in-k.ensures in
+    let h = c.write_in-k.ensures in
     let before = rows_from s.words.now s.g 0 l.e in
     let here = rows_of s.words.now s.g l.e in (
       l.invariant.0,

@@ -10,15 +10,13 @@ use Rattle.rules.proofs.flip_bit.Goals as goal
 pub overflow_add-result : goal.overflow_add-result
 unfolding bit
 overflow_add-result c =
-    let start = c.before in
-    let small : start.args.x < 2 ^ 64 = omega arith in
-    omega (arith, shift_one start.args.w start.requires, bit_room start.args.x start.args.w 64 start.requires small c.if-x-w-eq0.true)
+    let small : c.args.x < 2 ^ 64 = omega arith in
+    omega (arith, shift_one c.args.w c.requires, bit_room c.args.x c.args.w 64 c.requires small c.if-x-w-eq0.true)
 
 pub overflow_sub-result : goal.overflow_sub-result
 unfolding bit
 overflow_sub-result c =
-    let start = c.before in
-    omega (arith, shift_one start.args.w start.requires, bit_clear_fits start.args.x start.args.w c.if-x-w-eq0.false)
+    omega (arith, shift_one c.args.w c.requires, bit_clear_fits c.args.x c.args.w c.if-x-w-eq0.false)
 
 pub returns-then-x-w-eq0 : goal.returns-then-x-w-eq0
 unfolding bit

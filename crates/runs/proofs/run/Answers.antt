@@ -21,71 +21,39 @@ bounds-words-0 c = omega (arith, fits_of _ (sym c.strange_words.ensures ∙ c.if
 pub returns-then-g-worker : goal.returns-then-g-worker
 unfolding run_words
 returns-then-g-worker c =
-    let settings-of = c.before in
-    let test = settings-of.before.before in
-    let strange-words = test.before in
-    stranger_next _ _ _ strange-words.strange_words.ensures _ _ _ _ test.if-strange_words.false settings-of.settings_of-g.ensures
+    stranger_next _ _ _ c.strange_words.ensures _ _ _ _ c.if-strange_words.false c.settings_of-g.ensures
     c.if-g-worker.true
 
 pub worker_at-requires : goal.worker_at-requires
 worker_at-requires c =
-    let settings-of = c.before.before in
-    let test = settings-of.before.before in
-    let strange-words = test.before in
-    let f = fits_read _ _ _ strange-words.strange_words.ensures test.if-strange_words.false settings-of.settings_of-g.ensures in
+    let f = fits_read _ _ _ c.strange_words.ensures c.if-strange_words.false c.settings_of-g.ensures in
     (f.workers, omega arith)
 
 pub overflow_add-worker_at : goal.overflow_add-worker_at
 overflow_add-worker_at c =
-    let test2 = c.before.before in
-    let settings-of = test2.before in
-    let test = settings-of.before.before in
-    let strange-words = test.before in
-    let f = fits_read _ _ _ strange-words.strange_words.ensures test.if-strange_words.false settings-of.settings_of-g.ensures in let b =
-    placed f _ test2.if-g-worker.false in omega (arith, c.worker_at.ensures)
+    let f = fits_read _ _ _ c.strange_words.ensures c.if-strange_words.false c.settings_of-g.ensures in let b =
+    placed f _ c.if-g-worker.false in omega (arith, c.worker_at.ensures)
 
 pub get-requires : goal.get-requires
 get-requires c =
-    let test2 = c.before.before in
-    let settings-of = test2.before in
-    let test = settings-of.before.before in
-    let strange-words = test.before in
-    let f = fits_read _ _ _ strange-words.strange_words.ensures test.if-strange_words.false settings-of.settings_of-g.ensures in let b =
-    placed f _ test2.if-g-worker.false in omega (arith, c.worker_at.ensures)
+    let f = fits_read _ _ _ c.strange_words.ensures c.if-strange_words.false c.settings_of-g.ensures in let b =
+    placed f _ c.if-g-worker.false in omega (arith, c.worker_at.ensures)
 
 pub returns-then-get-eq-KIND_NONE : goal.returns-then-get-eq-KIND_NONE
 returns-then-get-eq-KIND_NONE c =
-    let get = c.before in
-    let worker-at = get.before in
-    let test2 = worker-at.before.before in
-    let settings-of = test2.before in
-    let test = settings-of.before.before in
-    let strange-words = test.before in
-    run_none _ _ _ _ strange-words.strange_words.ensures test.if-strange_words.false settings-of.settings_of-g.ensures test2.if-g-worker.false _ _
-    worker-at.worker_at.ensures get.get.ensures _ c.if-get-eq-KIND_NONE.true
+    run_none _ _ _ _ c.strange_words.ensures c.if-strange_words.false c.settings_of-g.ensures c.if-g-worker.false _ _
+    c.worker_at.ensures c.get.ensures _ c.if-get-eq-KIND_NONE.true
 
 pub run_in-requires : goal.run_in-requires
 run_in-requires c =
-    let test2 = c.before.before.before.before.before.before in
-    let settings-of = test2.before in
-    let test = settings-of.before.before in
-    let strange-words = test.before in (
-      fits_of _ (sym strange-words.strange_words.ensures ∙ test.if-strange_words.false),
-      (rw settings-of.settings_of-g.ensures at test2.if-g-worker.false, ⊎_elim (λ w. omega arith) (λ w. omega arith) c.if-most-lt-LONGEST_RUN.either),
+    (
+      fits_of _ (sym c.strange_words.ensures ∙ c.if-strange_words.false),
+      (rw c.settings_of-g.ensures at c.if-g-worker.false, ⊎_elim (λ w. omega arith) (λ w. omega arith) c.if-most-lt-LONGEST_RUN.either),
     )
 
 pub returns : goal.returns
 returns c =
-    let run-in = c.before.before in
-    let test4 = run-in.before in
-    let test3 = test4.before.before in
-    let get = test3.before in
-    let worker-at = get.before in
-    let test2 = worker-at.before.before in
-    let settings-of = test2.before in
-    let test = settings-of.before.before in
-    let strange-words = test.before in
-    run_goes _ _ _ _ strange-words.strange_words.ensures test.if-strange_words.false settings-of.settings_of-g.ensures test2.if-g-worker.false _ _
-    worker-at.worker_at.ensures get.get.ensures _ _ _ test3.if-get-eq-KIND_NONE.false
-    (⊎_elim (λ w. w.1 ∙ least_small _ _ w.0.taken) (λ w. w.1 ∙ least_large _ _ w.0.left) test4.if-most-lt-LONGEST_RUN.either)
-    run-in.run_in.ensures
+    run_goes _ _ _ _ c.strange_words.ensures c.if-strange_words.false c.settings_of-g.ensures c.if-g-worker.false _ _
+    c.worker_at.ensures c.get.ensures _ _ _ c.if-get-eq-KIND_NONE.false
+    (⊎_elim (λ w. w.1 ∙ least_small _ _ w.0.taken) (λ w. w.1 ∙ least_large _ _ w.0.left) c.if-most-lt-LONGEST_RUN.either)
+    c.run_in.ensures

@@ -31,7 +31,7 @@ fits c = fits_kept (sym c.loop-done.invariant.1.0) c.requires.0
 own :
     (c : At-loop-done) → Placed c.loop-done.words (settings_of c.args.x)
     c.worker_at-p.result
-own c = rw (at_worker c.before) (placed (fits c) _ c.requires.1.0)
+own c = rw (at_worker (goal.at.At-loop-done c).After-worker_at-p) (placed (fits c) _ c.requires.1.0)
 
 pub worker_at-p-requires : goal.worker_at-p-requires
 worker_at-p-requires c = rw c.settings_of-g.ensures (search rules)
@@ -40,185 +40,117 @@ pub loop-done-init : goal.loop-done-init
 loop-done-init c = (search rules, (refl, run_start _ _ _ _))
 
 pub overflow_add-p : goal.overflow_add-p
-overflow_add-p c = let b = own c.before.before in omega arith
+overflow_add-p c = let b = own (goal.at.overflow_add-p c).At-loop-done in omega arith
 
 pub get-kind-requires : goal.get-kind-requires
-get-kind-requires c = let b = own c.before.before in omega arith
+get-kind-requires c = let b = own (goal.at.get-kind-requires c).At-loop-done in omega arith
 
 pub returns-then-kind-eq-KIND_NONE : goal.returns-then-kind-eq-KIND_NONE
 returns-then-kind-eq-KIND_NONE c =
-    let get = c.before in
-    let more = get.before.before in
-    let turn = more.before in
-    let worker-at = turn.before in
-    let settings-of = worker-at.before in
-    run_idle _ _ _ _ _ _ _ (rw settings-of.settings_of-g.ensures at worker-at.worker_at-p.ensures) get.get-kind.ensures
-    more.loop-done-test.true c.if-kind-eq-KIND_NONE.true ∙ turn.loop-done.invariant.1.1
+    run_idle _ _ _ _ _ _ _ (rw c.settings_of-g.ensures at c.worker_at-p.ensures) c.get-kind.ensures
+    c.loop-done-test.true c.if-kind-eq-KIND_NONE.true ∙ c.loop-done.invariant.1.1
 
 pub overflow_add-p-in-loop-done : goal.overflow_add-p-in-loop-done
-overflow_add-p-in-loop-done c = let b = own c.before.before.before.before.before in omega arith
+overflow_add-p-in-loop-done c = let b = own (goal.at.overflow_add-p-in-loop-done c).At-loop-done in omega arith
 
 pub get-k-requires : goal.get-k-requires
-get-k-requires c = let b = own c.before.before.before.before.before in omega arith
+get-k-requires c = let b = own (goal.at.get-k-requires c).At-loop-done in omega arith
 
 pub overflow_add-p-in-loop-done-2 : goal.overflow_add-p-in-loop-done-2
-overflow_add-p-in-loop-done-2 c = let b = own c.before.before.before.before.before.before.before in omega arith
+overflow_add-p-in-loop-done-2 c = let b = own (goal.at.overflow_add-p-in-loop-done-2 c).At-loop-done in omega arith
 
 pub put-requires : goal.put-requires
-put-requires c = let b = own c.before.before.before.before.before.before.before in omega arith
+put-requires c = let b = own (goal.at.put-requires c).At-loop-done in omega arith
 
 pub lookup_step-requires : goal.lookup_step-requires
 lookup_step-requires c =
-    let turn = c.before.before.before.before.before.before.before.before.before.before.before.before in
-    let worker-at = turn.before in
-    let settings-of = worker-at.before in
-    let start = settings-of.before.before in
-    let b = placed start.requires.0 _ start.requires.1.0 in (
-      rw settings-of.settings_of-g.ensures (fits_kept (omega (arith, turn.loop-done.invariant.1.0)) start.requires.0),
-      (omega (arith, turn.loop-done.invariant.1.0, rw settings-of.settings_of-g.ensures at worker-at.worker_at-p.ensures), search rules),
+    let b = placed c.requires.0 _ c.requires.1.0 in (
+      rw c.settings_of-g.ensures (fits_kept (omega (arith, c.loop-done.invariant.1.0)) c.requires.0),
+      (omega (arith, c.loop-done.invariant.1.0, rw c.settings_of-g.ensures at c.worker_at-p.ensures), search rules),
     )
 
 pub returns-in-Answered : goal.returns-in-Answered
 returns-in-Answered c =
-    let c_place = c.before in
-    let lookup-step = c_place.before.before.before.before in
-    let test2 = lookup-step.before.before in
-    let put = test2.before.before.before in
-    let get2 = put.before.before in
-    let test = get2.before.before in
-    let get = test.before in
-    let more = get.before.before in
-    let turn = more.before in
-    let worker-at = turn.before in
-    let settings-of = worker-at.before in
-    let place = rw settings-of.settings_of-g.ensures at worker-at.worker_at-p.ensures in
-    let taken = operation_lookup _ _ _ _ _ _ _ _ get.get-kind.ensures (ap (λ (x : ℕ). x % steps_range) get2.get-k.ensures)
-    put.put.ensures test2.if-kind-eq-KIND_LOOKUP.true (rw settings-of.settings_of-g.ensures at lookup-step.lookup_step.ensures) in
-    run_answered _ _ _ _ _ _ _ place get.get-kind.ensures more.loop-done-test.true _ _ test.if-kind-eq-KIND_NONE.false taken _ c_place.in-Answered.is
-    ∙ turn.loop-done.invariant.1.1
+    let place = rw c.settings_of-g.ensures at c.worker_at-p.ensures in
+    let taken = operation_lookup _ _ _ _ _ _ _ _ c.get-kind.ensures (ap (λ (x : ℕ). x % steps_range) c.get-k.ensures)
+    c.put.ensures c.if-kind-eq-KIND_LOOKUP.true (rw c.settings_of-g.ensures at c.lookup_step.ensures) in
+    run_answered _ _ _ _ _ _ _ place c.get-kind.ensures c.loop-done-test.true _ _ c.if-kind-eq-KIND_NONE.false taken _ c.in-Answered.is
+    ∙ c.loop-done.invariant.1.1
 
 pub returns-in-Refused : goal.returns-in-Refused
 returns-in-Refused c =
-    let lookup-step = c.before.before.before.before in
-    let test2 = lookup-step.before.before in
-    let put = test2.before.before.before in
-    let get2 = put.before.before in
-    let test = get2.before.before in
-    let get = test.before in
-    let more = get.before.before in
-    let turn = more.before in
-    let worker-at = turn.before in
-    let settings-of = worker-at.before in
-    let place = rw settings-of.settings_of-g.ensures at worker-at.worker_at-p.ensures in
-    let taken = operation_lookup _ _ _ _ _ _ _ _ get.get-kind.ensures (ap (λ (x : ℕ). x % steps_range) get2.get-k.ensures)
-    put.put.ensures test2.if-kind-eq-KIND_LOOKUP.true (rw settings-of.settings_of-g.ensures at lookup-step.lookup_step.ensures) in
-    run_refused _ _ _ _ _ _ _ place get.get-kind.ensures more.loop-done-test.true _ _ test.if-kind-eq-KIND_NONE.false taken _ c.in-Refused.is
-    ∙ turn.loop-done.invariant.1.1
+    let place = rw c.settings_of-g.ensures at c.worker_at-p.ensures in
+    let taken = operation_lookup _ _ _ _ _ _ _ _ c.get-kind.ensures (ap (λ (x : ℕ). x % steps_range) c.get-k.ensures)
+    c.put.ensures c.if-kind-eq-KIND_LOOKUP.true (rw c.settings_of-g.ensures at c.lookup_step.ensures) in
+    run_refused _ _ _ _ _ _ _ place c.get-kind.ensures c.loop-done-test.true _ _ c.if-kind-eq-KIND_NONE.false taken _ c.in-Refused.is
+    ∙ c.loop-done.invariant.1.1
 
 pub overflow_mul-g : goal.overflow_mul-g
 overflow_mul-g c =
-    let settings-of = c.before.before.before.before.before.before.before.before.before.before.before.before.before.before in
-    let start = settings-of.before.before in
-    omega (arith, start.requires.0.workers, ap (λ (s : Settings). s.workers) settings-of.settings_of-g.ensures)
+    omega (arith, c.requires.0.workers, ap (λ (s : Settings). s.workers) c.settings_of-g.ensures)
 
 pub overflow_add-g : goal.overflow_add-g
 overflow_add-g c =
-    let settings-of = c.before.before.before.before.before.before.before.before.before.before.before.before.before.before in
-    let start = settings-of.before.before in
-    omega (arith, start.requires.0.workers, ap (λ (s : Settings). s.workers) settings-of.settings_of-g.ensures)
+    omega (arith, c.requires.0.workers, ap (λ (s : Settings). s.workers) c.settings_of-g.ensures)
 
 pub early_step-requires : goal.early_step-requires
 early_step-requires c =
-    let test3 = c.before in
-    let turn = test3.before.before.before.before.before.before.before.before.before.before.before.before.before in
-    let settings-of = turn.before.before in
-    let start = settings-of.before.before in (
-      fits_kept (omega (arith, turn.loop-done.invariant.1.0)) start.requires.0,
-      (start.requires.1.0, rw settings-of.settings_of-g.ensures at test3.if-k-g.true),
+    (
+      fits_kept (omega (arith, c.loop-done.invariant.1.0)) c.requires.0,
+      (c.requires.1.0, rw c.settings_of-g.ensures at c.if-k-g.true),
     )
 
 pub update_step-requires : goal.update_step-requires
 update_step-requires c =
-    let turn = c.before.before.before.before.before.before.before.before.before.before.before.before.before.before in
-    let start = turn.before.before.before.before in
-    (fits_kept (omega (arith, turn.loop-done.invariant.1.0)) start.requires.0, (start.requires.1.0, search rules))
+    (fits_kept (omega (arith, c.loop-done.invariant.1.0)) c.requires.0, (c.requires.1.0, search rules))
 
 pub returns-in-Answered-update_step : goal.returns-in-Answered-update_step
 returns-in-Answered-update_step c =
-    let c_place = c.before in
-    let update-step = c_place.before.before.before.before in
-    let test2 = update-step.before.before.before.before in
-    let put = test2.before.before.before in
-    let get2 = put.before.before in
-    let test = get2.before.before in
-    let get = test.before in
-    let more = get.before.before in
-    let turn = more.before in
-    let worker-at = turn.before in
-    let settings-of = worker-at.before in
-    let place = rw settings-of.settings_of-g.ensures at worker-at.worker_at-p.ensures in
-    let taken = operation_update _ _ _ _ _ _ _ _ get.get-kind.ensures (ap (λ (x : ℕ). x % steps_range) get2.get-k.ensures)
-    put.put.ensures test2.if-kind-eq-KIND_LOOKUP.false (rw (← place) at update-step.update_step.ensures) in
-    run_answered _ _ _ _ _ _ _ place get.get-kind.ensures more.loop-done-test.true _ _ test.if-kind-eq-KIND_NONE.false taken _ c_place.in-Answered-update_step.is
-    ∙ turn.loop-done.invariant.1.1
+    let place = rw c.settings_of-g.ensures at c.worker_at-p.ensures in
+    let taken = operation_update _ _ _ _ _ _ _ _ c.get-kind.ensures (ap (λ (x : ℕ). x % steps_range) c.get-k.ensures)
+    c.put.ensures c.if-kind-eq-KIND_LOOKUP.false (rw (← place) at c.update_step.ensures) in
+    run_answered _ _ _ _ _ _ _ place c.get-kind.ensures c.loop-done-test.true _ _ c.if-kind-eq-KIND_NONE.false taken _ c.in-Answered-update_step.is
+    ∙ c.loop-done.invariant.1.1
 
 pub returns-in-Refused-update_step : goal.returns-in-Refused-update_step
 returns-in-Refused-update_step c =
-    let update-step = c.before.before.before.before in
-    let test2 = update-step.before.before.before.before in
-    let put = test2.before.before.before in
-    let get2 = put.before.before in
-    let test = get2.before.before in
-    let get = test.before in
-    let more = get.before.before in
-    let turn = more.before in
-    let worker-at = turn.before in
-    let settings-of = worker-at.before in
-    let place = rw settings-of.settings_of-g.ensures at worker-at.worker_at-p.ensures in
-    let taken = operation_update _ _ _ _ _ _ _ _ get.get-kind.ensures (ap (λ (x : ℕ). x % steps_range) get2.get-k.ensures)
-    put.put.ensures test2.if-kind-eq-KIND_LOOKUP.false (rw (← place) at update-step.update_step.ensures) in
-    run_refused _ _ _ _ _ _ _ place get.get-kind.ensures more.loop-done-test.true _ _ test.if-kind-eq-KIND_NONE.false taken _ c.in-Refused-update_step.is
-    ∙ turn.loop-done.invariant.1.1
+    let place = rw c.settings_of-g.ensures at c.worker_at-p.ensures in
+    let taken = operation_update _ _ _ _ _ _ _ _ c.get-kind.ensures (ap (λ (x : ℕ). x % steps_range) c.get-k.ensures)
+    c.put.ensures c.if-kind-eq-KIND_LOOKUP.false (rw (← place) at c.update_step.ensures) in
+    run_refused _ _ _ _ _ _ _ place c.get-kind.ensures c.loop-done-test.true _ _ c.if-kind-eq-KIND_NONE.false taken _ c.in-Refused-update_step.is
+    ∙ c.loop-done.invariant.1.1
 
 pub loop-done-preserved : goal.loop-done-preserved
 loop-done-preserved c =
-    let put = c.before.before.before in
-    let get2 = put.before.before in
-    let test = get2.before.before in
-    let get = test.before in
-    let more = get.before.before in
-    let turn = more.before in
-    let worker-at = turn.before in
-    let settings-of = worker-at.before in
-    let place = rw settings-of.settings_of-g.ensures at worker-at.worker_at-p.ensures in
-    let steps = ap (λ (x : ℕ). x % steps_range) get2.get-k.ensures in
+    let place = rw c.settings_of-g.ensures at c.worker_at-p.ensures in
+    let steps = ap (λ (x : ℕ). x % steps_range) c.get-k.ensures in
     ⊎_elim
     (λ o. rw o.7 (
-      one_more more.loop-done-test.true,
+      one_more c.loop-done-test.true,
       (
         search rules,
-        run_moved _ _ _ _ _ _ _ place get.get-kind.ensures more.loop-done-test.true _ _
-            test.if-kind-eq-KIND_NONE.false (operation_lookup _ _ _ _ _ _ _ _ get.get-kind.ensures steps put.put.ensures o.0.taken
-            (rw settings-of.settings_of-g.ensures at o.2.ensures)) o.6.given.1 ∙ turn.loop-done.invariant.1.1,
+        run_moved _ _ _ _ _ _ _ place c.get-kind.ensures c.loop-done-test.true _ _
+            c.if-kind-eq-KIND_NONE.false (operation_lookup _ _ _ _ _ _ _ _ c.get-kind.ensures steps c.put.ensures o.0.taken
+            (rw c.settings_of-g.ensures at o.2.ensures)) o.6.given.1 ∙ c.loop-done.invariant.1.1,
       ),
     ))
     (λ u. ⊎_elim
     (λ o. rw o.7 (
-      one_more more.loop-done-test.true,
+      one_more c.loop-done-test.true,
       (
         search rules,
-        run_moved _ _ _ _ _ _ _ place get.get-kind.ensures more.loop-done-test.true _ _
-            test.if-kind-eq-KIND_NONE.false (operation_update _ _ _ _ _ _ _ _ get.get-kind.ensures steps put.put.ensures o.0.left
-            (rw (← place) at o.4.ensures)) refl ∙ turn.loop-done.invariant.1.1,
+        run_moved _ _ _ _ _ _ _ place c.get-kind.ensures c.loop-done-test.true _ _
+            c.if-kind-eq-KIND_NONE.false (operation_update _ _ _ _ _ _ _ _ c.get-kind.ensures steps c.put.ensures o.0.left
+            (rw (← place) at o.4.ensures)) refl ∙ c.loop-done.invariant.1.1,
       ),
     ))
     (λ o. rw o.9 (
-      one_more more.loop-done-test.true,
+      one_more c.loop-done-test.true,
       (
         search rules,
-        run_moved _ _ _ _ _ _ _ place get.get-kind.ensures more.loop-done-test.true _ _
-            test.if-kind-eq-KIND_NONE.false (operation_update _ _ _ _ _ _ _ _ get.get-kind.ensures steps put.put.ensures o.0.left
-            (rw (← place) at o.4.ensures)) o.8.given.1 ∙ turn.loop-done.invariant.1.1,
+        run_moved _ _ _ _ _ _ _ place c.get-kind.ensures c.loop-done-test.true _ _
+            c.if-kind-eq-KIND_NONE.false (operation_update _ _ _ _ _ _ _ _ c.get-kind.ensures steps c.put.ensures o.0.left
+            (rw (← place) at o.4.ensures)) o.8.given.1 ∙ c.loop-done.invariant.1.1,
       ),
     ))
     u)

@@ -13,22 +13,17 @@ loop-k-init c = (search rules, refl)
 
 pub returns-then-x-k : goal.returns-then-x-k
 returns-then-x-k c =
-    let at_loop = c.before.before in
-    let start = at_loop.before in
     sym
-    (at_loop.loop-k.invariant.1
-    ∙ same_differ start.args.t1 start.args.t2 at_loop.loop-k.k (omega arith) (omega arith) c.if-x-k.true)
+    (c.loop-k.invariant.1
+    ∙ same_differ c.args.t1 c.args.t2 c.loop-k.k (omega arith) (omega arith) c.if-x-k.true)
 
 pub loop-k-preserved : goal.loop-k-preserved
 loop-k-preserved c =
-    let at_loop = c.before.before in
-    let start = at_loop.before in (
+    (
       search rules,
-      at_loop.loop-k.invariant.1 ∙ same_next start.args.t1 start.args.t2 at_loop.loop-k.k (omega arith) (omega arith) c.if-x-k.false,
+      c.loop-k.invariant.1 ∙ same_next c.args.t1 c.args.t2 c.loop-k.k (omega arith) (omega arith) c.if-x-k.false,
     )
 
 pub returns : goal.returns
 returns c =
-    let at_loop = c.before in
-    let start = at_loop.before in
-    sym (at_loop.loop-k.invariant.1 ∙ same_end start.args.t1 start.args.t2 at_loop.loop-k.k (omega arith) (omega arith))
+    sym (c.loop-k.invariant.1 ∙ same_end c.args.t1 c.args.t2 c.loop-k.k (omega arith) (omega arith))

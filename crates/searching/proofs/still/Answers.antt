@@ -32,7 +32,4 @@ pub returns : goal.returns
 unfolding still_at is_still if◌then◌else◌
 returns c =
     let e = c.word_at-answer.ensures in
-    let third = c.before in
-    let second = third.before in
-    let first = second.before in
-    rw (← e, ne_eqb _ _ first.if-answer.false, ne_eqb _ _ second.if2.false, ne_eqb _ _ third.if3.false, ne_eqb _ _ c.if-answer-4.false)
+    rw (← e, ne_eqb _ _ c.if-answer.false, ne_eqb _ _ c.if-answer-2.false, ne_eqb _ _ c.if-answer-3.false, ne_eqb _ _ c.if-answer-4.false)

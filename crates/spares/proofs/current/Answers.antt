@@ -10,24 +10,22 @@ use Rattle.spares.proofs.current.Goals as goal
 
 pub overflow_add-e : goal.overflow_add-e
 overflow_add-e c =
-    let start = c.before.before.before.before.before in
     omega (
       arith,
       c.directory_start.ensures,
       c.first_entry.ensures,
-      start_bound start.args.g.workers start.requires.0.workers,
-      entry_below start.args.g c.get.result c.get-2.result,
-      pow_mono start.requires.0.depth,
+      start_bound c.args.g.workers c.requires.0.workers,
+      entry_below c.args.g c.get.result c.get-2.result,
+      pow_mono c.requires.0.depth,
     )
 
 pub returns : goal.returns
 unfolding current_at
 returns c =
-    let entered = c.before in
     rw (
       c.get_or.ensures,
-      entered.directory_start.ensures,
-      entered.first_entry.ensures,
-      entered.get.ensures,
-      entered.get-2.ensures,
+      c.directory_start.ensures,
+      c.first_entry.ensures,
+      c.get.ensures,
+      c.get-2.ensures,
     )

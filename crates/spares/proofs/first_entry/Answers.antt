@@ -13,8 +13,7 @@ use Rattle.spares.proofs.first_entry.Goals.{After-row_known-1}
 
 pub nonzero_rem-result : goal.nonzero_rem-result
 nonzero_rem-result c =
-    let start = c.before.before.before in
-    omega (arith, pow_mono start.requires, pow_pos start.args.g.depth)
+    omega (arith, pow_mono c.requires, pow_pos c.args.g.depth)
 
 width_is :
     (c : After-row_known-1) → let args = c.args in c.if-d-g.width ≡ 2 ^ (args.g.depth - args.d)
@@ -22,15 +21,12 @@ width_is c = ⊎_elim (λ w. w.2 ∙ shift_one _ (omega arith)) (λ w. w.1 ∙ w
 
 pub overflow_mul-result : goal.overflow_mul-result
 overflow_mul-result c =
-    let start = c.before.before.before.before in
-    omega (arith, entry_product start.args.q _ _ _ _ start.requires (omega arith) (shift_one _ (omega arith)) (width_is c))
+    omega (arith, entry_product c.args.q _ _ _ _ c.requires (omega arith) (shift_one _ (omega arith)) (width_is c))
 
 pub nonzero_rem-result-2 : goal.nonzero_rem-result-2
 nonzero_rem-result-2 c =
-    let start = c.before.before.before.before in
-    omega (arith, pow_mono start.requires, pow_pos start.args.g.depth)
+    omega (arith, pow_mono c.requires, pow_pos c.args.g.depth)
 
 pub returns : goal.returns
 returns c =
-    let start = c.before.before.before.before in
-    entry_is start.args.g start.args.d start.args.q _ _ (shift_one _ (omega arith)) (width_is c)
+    entry_is c.args.g c.args.d c.args.q _ _ (shift_one _ (omega arith)) (width_is c)

@@ -16,9 +16,8 @@ record_start-requires c =
 
 pub overflow_add-result : goal.overflow_add-result
 overflow_add-result c =
-    let start = c.before.before in
-    let all : c.pool.result ≤ pool_size start.args.g = omega (arith, c.pool.ensures) in
-    let bound = record_start_bound start.args.g _ start.requires.0 start.requires.1.0 start.requires.1.1 all in
+    let all : c.pool.result ≤ pool_size c.args.g = omega (arith, c.pool.ensures) in
+    let bound = record_start_bound c.args.g _ c.requires.0 c.requires.1.0 c.requires.1.1 all in
     omega (arith, c.record_start.ensures, bound)
 
 pub returns : goal.returns

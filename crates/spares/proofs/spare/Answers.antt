@@ -33,41 +33,35 @@ used-requires c = (c.requires, c.loop-k.invariant.0)
 
 pub returns-then-not-used : goal.returns-then-not-used
 returns-then-not-used c =
-    let turn = c.before.before in
-    sym (spare_found _ _ _ _ turn.loop-k-test.true (sym c.used.ensures ∙ not-true _ c.if-not-used.true))
-    ∙ turn.loop-k.invariant.1
+    sym (spare_found _ _ _ _ c.loop-k-test.true (sym c.used.ensures ∙ not-true _ c.if-not-used.true))
+    ∙ c.loop-k.invariant.1
 
 pub overflow_add-r : goal.overflow_add-r
 overflow_add-r c =
-    let here = c.before.before.before in
-    let fits = here.requires.fits in
-    omega (arith, here.loop-k.invariant.0, pool_bound here.args.g fits.workers fits.depth)
+    let fits = c.requires.fits in
+    omega (arith, c.loop-k.invariant.0, pool_bound c.args.g fits.workers fits.depth)
 
 pub overflow_add-r-then-r-all : goal.overflow_add-r-then-r-all
 overflow_add-r-then-r-all c =
-    let here = c.before.before.before.before in
-    let fits = here.requires.fits in
-    omega (arith, here.loop-k.invariant.0, pool_bound here.args.g fits.workers fits.depth)
+    let fits = c.requires.fits in
+    omega (arith, c.loop-k.invariant.0, pool_bound c.args.g fits.workers fits.depth)
 
 pub loop-k-preserved : goal.loop-k-preserved
 loop-k-preserved c =
-    let tested = c.before in
-    let turn = tested.before.before in
-    let here = turn.before in
-    let all = here.pool-all.ensures in
-    let full = sym tested.used.ensures ∙ not-false _ tested.if-not-used.false-raw in
-    let search_from : ℕ → ℕ = λ (r : ℕ). spare_from here.args.words.now
-    here.args.g r (here.loop-k.k - 1) in
+    let all = c.pool-all.ensures in
+    let full = sym c.used.ensures ∙ not-false _ c.if-not-used.false-raw in
+    let search_from : ℕ → ℕ = λ (r : ℕ). spare_from c.args.words.now
+    c.args.g r (c.loop-k.k - 1) in
     ⊎_elim
     (λ w. (
       omega arith,
-      ap search_from w.1 ∙ spare_up _ _ _ _ turn.loop-k-test.true full (omega (arith, w.0.taken))
-          ∙ here.loop-k.invariant.1,
+      ap search_from w.1 ∙ spare_up _ _ _ _ c.loop-k-test.true full (omega (arith, w.0.taken))
+          ∙ c.loop-k.invariant.1,
     ))
     (λ w. (
       omega arith,
-      ap search_from w.1 ∙ spare_round _ _ _ _ turn.loop-k-test.true full (omega (arith, w.0.left))
-          ∙ here.loop-k.invariant.1,
+      ap search_from w.1 ∙ spare_round _ _ _ _ c.loop-k-test.true full (omega (arith, w.0.left))
+          ∙ c.loop-k.invariant.1,
     ))
     c.if-r-all.either
 

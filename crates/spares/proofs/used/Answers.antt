@@ -27,11 +27,9 @@ current-requires c =
 
 pub returns-then-current : goal.returns-then-current
 returns-then-current c =
-    let tested = c.before in
-    used_current _ _ _ _ _ tested.record_start-q.ensures tested.current.ensures c.if-current.true
+    used_current _ _ _ _ _ c.record_start-q.ensures c.current.ensures c.if-current.true
 
 pub returns : goal.returns
 unfolding held_by_any
 returns c =
-    let tested = c.before.before in
-    used_held _ _ _ _ _ tested.record_start-q.ensures tested.current.ensures _ c.if-current.false c.any_has.ensures
+    used_held _ _ _ _ _ c.record_start-q.ensures c.current.ensures _ c.if-current.false c.any_has.ensures

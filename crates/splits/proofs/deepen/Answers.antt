@@ -6,9 +6,7 @@ use Rattle.splits.proofs.deepen.Goals as goal
 
 pub returns-then-get-d : goal.returns-then-get-d
 returns-then-get-d c =
-    let put = c.before.before in
-    let tested = put.before.before in
-    deepened_more _ _ _ tested.get.ensures _ tested.if-get-d.true put.put.ensures
+    deepened_more _ _ _ c.get.ensures _ c.if-get-d.true c.put.ensures
 
 pub returns-else-get-d : goal.returns-else-get-d
 returns-else-get-d c = deepened_same _ _ _ c.get.ensures c.if-get-d.false

@@ -6,9 +6,5 @@ use Rattle.splits.proofs.make.Goals as goal
 
 pub returns : goal.returns
 returns c =
-    let e = c.before.before in
-    let d = e.before.before.before.before in
-    let b = d.before.before.before.before in
-    let a = b.before.before.before.before in
-    made_is _ _ _ _ _ _ _ _ _ _ _ a.put.ensures a.put2.ensures b.put3.ensures d.put4.ensures
-    e.store_state.ensures
+    made_is _ _ _ _ _ _ _ _ _ _ _ c.put.ensures c.put-2.ensures c.put-3.ensures c.put-4.ensures
+    c.store_state.ensures

@@ -11,42 +11,37 @@ use Rattle.splits.proofs.split.Goals.{After-get}
 
 -- the halves' depth, and the span of their prefixes
 deep : (c : After-get) → Depths c.args.g c.get.result
-deep c = let start = c.before.before.before in depths start.args.g c.get.result start.requires.1.0 start.requires.0.fits.depth
+deep c = depths c.args.g c.get.result c.requires.1.0 c.requires.0.fits.depth
 
 span : (c : After-get) → let d = c.get.result % c.args.g.depth + 1 - 1 in 1 * 2 ^ d % 2 ^ 64 ≡ 2 ^ d
-span c = let start = c.before.before.before in shift_one _ (omega (arith, deep c, start.requires.0.fits.depth))
+span c = shift_one _ (omega (arith, deep c, c.requires.0.fits.depth))
 
 pub overflow_add-d : goal.overflow_add-d
-overflow_add-d c = omega (arith, deep c.before, c.requires.0.fits.depth)
+overflow_add-d c = omega (arith, deep (goal.at.overflow_add-d c).After-get, c.requires.0.fits.depth)
 
 pub overflow_shl-prefix : goal.overflow_shl-prefix
-overflow_shl-prefix c = omega (arith, deep c.before.before.before, c.requires.0.fits.depth)
+overflow_shl-prefix c = omega (arith, deep (goal.at.overflow_shl-prefix c).After-get, c.requires.0.fits.depth)
 
 pub nonzero_rem-prefix : goal.nonzero_rem-prefix
-nonzero_rem-prefix c = omega (arith, deep c.before.before.before)
+nonzero_rem-prefix c = omega (arith, deep (goal.at.nonzero_rem-prefix c).After-get)
 
 pub overflow_mul-prefix : goal.overflow_mul-prefix
 overflow_mul-prefix c =
-    let read = c.before.before.before in
-    let start = read.before.before.before in
     omega (
       arith,
-      prefix_small start.args.g read.get.result c.get-2.result _ start.requires.1.0 start.requires.0.fits.depth
-          (span read),
+      prefix_small c.args.g c.get.result c.get-2.result _ c.requires.1.0 c.requires.0.fits.depth
+          (span (goal.at.overflow_mul-prefix c).After-get),
     )
 
 pub half-requires : goal.half-requires
-half-requires c = (search rules, omega (arith, deep c.before.before.before.before.before.before.before.before.before.before))
+half-requires c = (search rules, omega (arith, deep (goal.at.half-requires c).After-get))
 
 pub overflow_add-prefix : goal.overflow_add-prefix
 overflow_add-prefix c =
-    let second = c.before.before.before.before.before.before.before.before.before.before.before in
-    let read = second.before.before.before in
-    let start = read.before.before.before in
     omega (
       arith,
-      prefix_small start.args.g read.get.result second.get2.result _ start.requires.1.0
-          start.requires.0.fits.depth (span read),
+      prefix_small c.args.g c.get.result c.get-2.result _ c.requires.1.0
+          c.requires.0.fits.depth (span (goal.at.overflow_add-prefix c).After-get),
     )
 
 pub half-requires-2 : goal.half-requires-2
@@ -61,12 +56,6 @@ half-requires-2 c = (
 
 pub returns : goal.returns
 returns c =
-    let last = c.before.before in
-    let first = last.before.before.before.before in
-    let deeper = first.before.before.before.before in
-    let loaded = deeper.before.before in
-    let second = loaded.before.before in
-    let read = second.before.before.before in
-    split_is _ _ _ _ _ _ _ _ _ _ read.get.ensures second.get2.ensures (span read) loaded.load_state-s.ensures
-    deeper.deepen.ensures
-    first.half.ensures last.half2.ensures
+    split_is _ _ _ _ _ _ _ _ _ _ c.get.ensures c.get-2.ensures (span (goal.at.returns c).After-get) c.load_state-s.ensures
+    c.deepen.ensures
+    c.half.ensures c.half-2.ensures

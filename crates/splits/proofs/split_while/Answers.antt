@@ -22,63 +22,53 @@ whole : (c : At-loop-f) → Whole c.loop-f.words c.args.g
 whole c = whole_kept (sym c.loop-f.invariant.1.0) c.requires
 
 inside : (c : After-record_of-q) → c.record_of-q.result + widest_record ≤ length c.loop-f.words
-inside c = rw c.record_of-q.ensures (record_inside (whole c.before.before.before).fits _)
+inside c = rw c.record_of-q.ensures (record_inside (whole (goal.at.After-record_of-q c).At-loop-f).fits _)
 
 -- whether it is to be split
 tested :
     (c : After-splittable)
-    → let found = c.before.before.before.before.before in
-    c.splittable.result
-    ≡ splittable_at found.loop-f.words found.args.g
-    found.record_of-q.result
+    → c.splittable.result
+    ≡ splittable_at c.loop-f.words c.args.g
+    c.record_of-q.result
 tested c = both_read (splittable_by _) c.splittable.ensures c.get-depth.ensures c.get.ensures
 
 pub loop-f-init : goal.loop-f-init
 loop-f-init c = (search rules, (refl, refl))
 
 pub record_of-q-requires : goal.record_of-q-requires
-record_of-q-requires c = (whole c.before.before).fits
+record_of-q-requires c = (whole (goal.at.record_of-q-requires c).At-loop-f).fits
 
 pub overflow_add-q : goal.overflow_add-q
-overflow_add-q c = omega (arith, inside c.before)
+overflow_add-q c = omega (arith, inside c)
 
 pub get-depth-requires : goal.get-depth-requires
-get-depth-requires c = omega (arith, inside c.before)
+get-depth-requires c = omega (arith, inside c)
 
 pub overflow_add-q-in-loop-f : goal.overflow_add-q-in-loop-f
-overflow_add-q-in-loop-f c = omega (arith, inside c.before.before.before)
+overflow_add-q-in-loop-f c = omega (arith, inside (goal.at.overflow_add-q-in-loop-f c).After-record_of-q)
 
 pub get-requires : goal.get-requires
-get-requires c = omega (arith, inside c.before.before.before)
+get-requires c = omega (arith, inside (goal.at.get-requires c).After-record_of-q)
 
 pub returns-then-not-splittable : goal.returns-then-not-splittable
 returns-then-not-splittable c =
-    let test = c.before in
-    let found = test.before.before.before.before.before in
-    while_done _ _ _ _ _ found.record_of-q.ensures (tested test) _ (not-true _ c.if-not-splittable.true)
-    ∙ found.loop-f.invariant.1.1
+    while_done _ _ _ _ _ c.record_of-q.ensures (tested (goal.at.returns-then-not-splittable c).After-splittable) _ (not-true _ c.if-not-splittable.true)
+    ∙ c.loop-f.invariant.1.1
 
 pub split-requires : goal.split-requires
 split-requires c =
-    let test = c.before.before in
-    let found = test.before.before.before.before.before in
-    let turn = found.before.before.before in
-    let yes = sym (tested test) ∙ not-false _ c.if-not-splittable.false-raw in
-    (whole turn, (splittable_depth turn.loop-f.words turn.args.g found.record_of-q.result yes, inside found))
+    let yes = sym (tested (goal.at.split-requires c).After-splittable) ∙ not-false _ c.if-not-splittable.false-raw in
+    (whole (goal.at.split-requires c).At-loop-f, (splittable_depth c.loop-f.words c.args.g c.record_of-q.result yes, inside (goal.at.split-requires c).After-record_of-q))
 
 pub loop-f-preserved : goal.loop-f-preserved
 loop-f-preserved c =
-    let done = c.before.before in
-    let full = done.before.before in
-    let test = full.before in
-    let found = test.before.before.before.before.before in
-    let turn = found.before.before in (
+    (
       search rules,
       (
         search rules,
-        while_turn _ _ _ _ _ found.record_of-q.ensures (tested test) _ _ turn.loop-f-test.true (not-false _ full.if-not-splittable.false-raw)
-            done.split.ensures
-            ∙ turn.loop-f.invariant.1.1,
+        while_turn _ _ _ _ _ c.record_of-q.ensures (tested (goal.at.loop-f-preserved c).After-splittable) _ _ c.loop-f-test.true (not-false _ c.if-not-splittable.false-raw)
+            c.split.ensures
+            ∙ c.loop-f.invariant.1.1,
       ),
     )
 

@@ -39,24 +39,24 @@ room c = record { inside = c.requires.0; low = c.well-formed.0.1; capacity = c.r
 counted :
     (c : After-least-c2 goal.the-decreases-loop-j) → let s = c.args in
     Addressed (length s.words.now) (s.q + record_count)
-counted c = addressed (room c.before.before) record_count (omega arith)
+counted c = addressed (room (goal.at.After-least-c c).Start) record_count (omega arith)
 
 -- the addresses of an account and its total, of a worker's ticket and answer, and of the answer's total
 account :
     (c : In-loop-i2 goal.the-decreases-loop-j) → let s = c.args in
     Pair s.q (accounts_from s.q) (totals_from s.q s.b) c.loop-i.i
 account c =
-    accounts_pair _ _ _ _ _ _ (room c.before.before.before.before) c.loop-i-test.true c.loop-i.invariant.1.0
+    accounts_pair _ _ _ _ _ _ (room (goal.at.In-loop-i c).Start) c.loop-i-test.true c.loop-i.invariant.1.0
 
 worker :
     (c : In-loop-j2 goal.the-decreases-loop-j) → let s = c.args in
     Pair s.q (settled_from s.q s.b) (answers_from s.q s.b s.n) c.loop-j.j
-worker c = workers_pair _ _ _ _ _ (room c.before.before.before.before.before.before) c.loop-j-test.true
+worker c = workers_pair _ _ _ _ _ (room (goal.at.In-loop-j c).Start) c.loop-j-test.true
 
 total :
     (c : In-loop-j2 goal.the-decreases-loop-j) → let s = c.args in
     Pair s.q (answers_from s.q s.b s.n) (posted_from s.q s.b s.n) c.loop-j.j
-total c = posted_pair _ _ _ _ _ (room c.before.before.before.before.before.before) c.loop-j-test.true
+total c = posted_pair _ _ _ _ _ (room (goal.at.In-loop-j c).Start) c.loop-j-test.true
 
 pub bounds-words-q-2 : goal.bounds-words-q-2
 bounds-words-q-2 c = simp length-set (omega arith)
@@ -67,22 +67,19 @@ loop-i-init c =
 
 pub bounds-words-totals : goal.bounds-words-totals
 bounds-words-totals c =
-    let here = c.before.before in
-    simp length-set (le_trans (account here).second_inside here.loop-i.invariant.1.1.0)
+    simp length-set (le_trans (account (goal.at.bounds-words-totals c).In-loop-i).second_inside c.loop-i.invariant.1.1.0)
 
 pub loop-i-preserved : goal.loop-i-preserved
 loop-i-preserved c =
-    let here = c.before.before in
-    let known = here.loop-i.invariant in
-    let start = here.before.before.before.before in
-    let long = sized start in
-    let items = account here in (
-      rw add-one here.loop-i-test.true,
+    let known = c.loop-i.invariant in
+    let long = sized (goal.at.loop-i-preserved c).Start in
+    let items = account (goal.at.loop-i-preserved c).In-loop-i in (
+      rw add-one c.loop-i-test.true,
       (
         known.1.0,
         (
           simp length-set known.1.1.0,
-          pair_stored _ _ _ _ _ _ _ known.1.1.1 items.apart (simp length-set (le_trans items.second_inside start.requires.0))
+          pair_stored _ _ _ _ _ _ _ known.1.1.1 items.apart (simp length-set (le_trans items.second_inside c.requires.0))
               (rw long.accounts items.small) (rw long.totals items.small),
         ),
       ),
@@ -93,26 +90,22 @@ loop-j-init c = (search rules, (search rules, sym (stored_none _ _ _ ∙ stored_
 
 pub bounds-words-answers : goal.bounds-words-answers
 bounds-words-answers c =
-    let here = c.before.before in
-    simp length-set (le_trans (worker here).second_inside here.loop-j.invariant.1.0)
+    simp length-set (le_trans (worker (goal.at.bounds-words-answers c).In-loop-j).second_inside c.loop-j.invariant.1.0)
 
 pub bounds-words-posted : goal.bounds-words-posted
 bounds-words-posted c =
-    let here = c.before.before.before in
-    simp length-set (le_trans (total here).second_inside here.loop-j.invariant.1.0)
+    simp length-set (le_trans (total (goal.at.bounds-words-posted c).In-loop-j).second_inside c.loop-j.invariant.1.0)
 
 pub loop-j-preserved : goal.loop-j-preserved
 loop-j-preserved c =
-    let here = c.before.before.before in
-    let known = here.loop-j.invariant in
-    let first = here.before.before.before in
-    let long = sized first.before.before.before in
-    let items = total here in (
-      rw add-one here.loop-j-test.true,
+    let known = c.loop-j.invariant in
+    let long = sized (goal.at.loop-j-preserved c).Start in
+    let items = total (goal.at.loop-j-preserved c).In-loop-j in (
+      rw add-one c.loop-j-test.true,
       (
         simp length-set known.1.0,
-        triple_stored _ _ _ _ _ _ _ _ _ known.1.1 (worker here).apart items.apart
-            (le_trans items.second_inside first.loop-i.invariant.1.1.0) (rw long.settled items.small)
+        triple_stored _ _ _ _ _ _ _ _ _ known.1.1 (worker (goal.at.loop-j-preserved c).In-loop-j).apart items.apart
+            (le_trans items.second_inside c.loop-i.invariant.1.1.0) (rw long.settled items.small)
             (rw long.answers items.small) (rw long.posted items.small),
       ),
     )
@@ -121,15 +114,13 @@ whole :
     (c : After-loop-j2 goal.the-decreases-loop-j) → let s = c.args in
     c.loop-j.words ≡ stored_state s.words.now s.q s.b s.n s.t5
 whole c =
-    let here = c.before.before.before in
-    let first = rw (le_antisymm here.loop-i.invariant.0 c.loop-i-test.false) at here.loop-i.invariant.1.1.1 in
+    let first = rw (le_antisymm c.loop-i.invariant.0 c.loop-i-test.false) at c.loop-i.invariant.1.1.1 in
     let second = rw (le_antisymm c.loop-j.invariant.0 c.loop-j-test.false) at c.loop-j.invariant.1.1 in
-    state_stored _ _ _ _ _ _ _ _ here.least-c.ensures first second
+    state_stored _ _ _ _ _ _ _ _ c.least-c.ensures first second
 
 pub shape_of-words : goal.shape_of-words
 shape_of-words c =
-    let start = c.before.before.before.before.before.before in
-    ap length (whole c) ∙ length_state _ _ _ _ _ start.requires.0 start.requires.1.0 start.requires.1.1 (sized start)
+    ap length (whole c) ∙ length_state _ _ _ _ _ c.requires.0 c.requires.1.0 c.requires.1.1 (sized (goal.at.shape_of-words c).Start)
 
 pub returns : goal.returns
 returns c = whole c

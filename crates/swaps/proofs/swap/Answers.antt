@@ -15,53 +15,41 @@ use Rattle.swaps.proofs.swap.Goals.{After-held_by-q}
 
 -- the record that the worker holds is inside the words
 inside : (c : After-held_by-q) → c.held_by-q.result + widest_record ≤ length c.args.words.now
-inside c = let start = c.before.before.before in rw c.held_by-q.ensures (held_inside start.requires.0 _)
+inside c = rw c.held_by-q.ensures (held_inside c.requires.0 _)
 
 pub overflow_add-q : goal.overflow_add-q
-overflow_add-q c = let h = inside c.before.before.before in omega arith
+overflow_add-q c = let h = inside (goal.at.overflow_add-q c).After-held_by-q in omega arith
 
 pub get-requires : goal.get-requires
-get-requires c = let h = inside c.before.before.before in omega arith
+get-requires c = let h = inside (goal.at.get-requires c).After-held_by-q in omega arith
 
 pub returns-then-worker_word-get : goal.returns-then-worker_word-get
 returns-then-worker_word-get c =
-    let read = c.before.before.before in
-    let held = read.before.before in
-    let args = held.args in
+    let args = c.args in
     let p = worker_at args.g.workers args.w in
-    swap_none args.words.now args.g p _ _ _ read.worker_word.ensures c.get.ensures c.if-worker_word-get.true
-    ∙ ap (swapped_at args.words.now args.g p) held.held_by-q.ensures
+    swap_none args.words.now args.g p _ _ _ c.worker_word.ensures c.get.ensures c.if-worker_word-get.true
+    ∙ ap (swapped_at args.words.now args.g p) c.held_by-q.ensures
 
 pub round-requires : goal.round-requires
 round-requires c =
-    let held = c.before.before.before.before.before.before.before.before in
-    let known = held.requires in
-    let h = inside held in (known.0, (known.1, omega arith))
+    let known = c.requires in
+    let h = inside (goal.at.round-requires c).After-held_by-q in (known.0, (known.1, omega arith))
 
 pub overflow_add-q-2 : goal.overflow_add-q-2
 overflow_add-q-2 c =
-    let h = inside c.before.before.before.before.before.before.before.before.before.before.before.before in omega arith
+    let h = inside (goal.at.overflow_add-q-2 c).After-held_by-q in omega arith
 
 pub put-requires : goal.put-requires
 put-requires c =
-    let round = c.before.before.before in
-    let held = round.before.before.before.before.before.before.before.before.before in
-    let start = held.before.before.before in
-    let h = inside held in
-    let e : length round.round.new.0 ≡ length start.args.words.now = search rules in
+    let h = inside (goal.at.put-requires c).After-held_by-q in
+    let e : length c.round.new.0 ≡ length c.args.words.now = search rules in
     omega arith
 
 pub returns : goal.returns
 returns c =
-    let put = c.before.before in
-    let round = put.before.before.before.before in
-    let fresh = round.before.before in
-    let tested = fresh.before.before in
-    let read = tested.before.before.before in
-    let held = read.before.before in
-    let args = held.args in
+    let args = c.args in
     let p = worker_at args.g.workers args.w in
-    put.put.ensures
-    ∙ swap_done args.words.now args.g p _ _ _ read.worker_word.ensures tested.get.ensures tested.if-worker_word-get.false _ _
-    round.round.ensures fresh.fresh_number-x.ensures
-    ∙ ap (swapped_at args.words.now args.g p) held.held_by-q.ensures
+    c.put.ensures
+    ∙ swap_done args.words.now args.g p _ _ _ c.worker_word.ensures c.get.ensures c.if-worker_word-get.false _ _
+    c.round.ensures c.fresh_number-x.ensures
+    ∙ ap (swapped_at args.words.now args.g p) c.held_by-q.ensures

@@ -12,10 +12,6 @@ store_state-requires c =
 
 pub returns : goal.returns
 returns c =
-    let stored = c.before.before in
-    let done = stored.before in
-    let read = done.before.before in
-    let loaded = read.before.before in
-    let args = loaded.args in
-    carried_is _ _ _ (worker_at args.g.workers args.w) args.i _ _ _ _ loaded.load_state-s.ensures read.slot_read-u.ensures
-    done.carry.ensures stored.store_state.ensures
+    let args = c.args in
+    carried_is _ _ _ (worker_at args.g.workers args.w) args.i _ _ _ _ c.load_state-s.ensures c.slot_read-u.ensures
+    c.carry.ensures c.store_state.ensures

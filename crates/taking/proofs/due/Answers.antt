@@ -12,24 +12,15 @@ returns-then-slot_word-eq-KIND_NONE c =
 
 pub returns-then-first_bits-get : goal.returns-then-first_bits-get
 returns-then-first_bits-get c =
-    let last = c.before in
-    let slot = last.before.before in
-    let depth = slot.before in
-    let tested = depth.before in
-    let args = tested.args in
-    due_apart _ args.g (worker_at args.g.workers args.w) args.q args.i _ tested.slot_word.ensures
-    tested.if-slot_word-eq-KIND_NONE.false _ _ _ _
-    slot.slot-word2.ensures depth.get-depth.ensures last.first_bits.ensures last.get.ensures c.if-first_bits-get.true
+    let args = c.args in
+    due_apart _ args.g (worker_at args.g.workers args.w) args.q args.i _ c.slot_word.ensures
+    c.if-slot_word-eq-KIND_NONE.false _ _ _ _
+    c.slot_word-2.ensures c.get-depth.ensures c.first_bits.ensures c.get.ensures c.if-first_bits-get.true
 
 pub returns : goal.returns
 returns c =
-    let same = c.before.before in
-    let last = same.before in
-    let slot = last.before.before in
-    let depth = slot.before in
-    let tested = depth.before in
-    let args = tested.args in
-    due_here _ args.g (worker_at args.g.workers args.w) args.q args.i _ tested.slot_word.ensures
-    tested.if-slot_word-eq-KIND_NONE.false _ _ _ _
-    slot.slot-word2.ensures depth.get-depth.ensures last.first_bits.ensures last.get.ensures _ _ same.if-first_bits-get.false
+    let args = c.args in
+    due_here _ args.g (worker_at args.g.workers args.w) args.q args.i _ c.slot_word.ensures
+    c.if-slot_word-eq-KIND_NONE.false _ _ _ _
+    c.slot_word-2.ensures c.get-depth.ensures c.first_bits.ensures c.get.ensures _ _ c.if-first_bits-get.false
     c.settled_ticket.ensures c.slot_word-3.ensures

@@ -16,27 +16,24 @@ loop-i-init c = (search rules, dues_start _ _ _ _)
 
 pub due-requires : goal.due-requires
 due-requires c =
-    let start = c.before.before.before in
-    (start.requires.0, (start.requires.1.0, (c.loop-i-test.true, start.requires.1.1)))
+    (c.requires.0, (c.requires.1.0, (c.loop-i-test.true, c.requires.1.1)))
 
 pub overflow_shl-bits : goal.overflow_shl-bits
 overflow_shl-bits c = omega (arith, c.requires.0.workers)
 
 pub overflow_add-bits : goal.overflow_add-bits
 overflow_add-bits c =
-    let here = c.before.before.before in
-    let few = here.requires.0.workers in
-    omega (arith, here.loop-i.invariant.1.small, pow_mono {i = here.loop-i.i} {j = 15} (omega arith))
+    let few = c.requires.0.workers in
+    omega (arith, c.loop-i.invariant.1.small, pow_mono {i = c.loop-i.i} {j = 15} (omega arith))
 
 pub loop-i-preserved : goal.loop-i-preserved
 loop-i-preserved c =
-    let here = c.before.before.before in
-    let few = here.requires.0.workers in
+    let few = c.requires.0.workers in
     let more = c.due.ensures in (
       search rules,
       ⊎_elim
-          (λ w. dues_more _ _ _ _ _ _ _ here.loop-i.invariant.1 more _ _ w.0.taken (shift_one here.loop-i.i (omega arith)) w.1)
-          (λ w. dues_same _ _ _ _ _ _ _ here.loop-i.invariant.1 more _ w.0.left w.1)
+          (λ w. dues_more _ _ _ _ _ _ _ c.loop-i.invariant.1 more _ _ w.0.taken (shift_one c.loop-i.i (omega arith)) w.1)
+          (λ w. dues_same _ _ _ _ _ _ _ c.loop-i.invariant.1 more _ w.0.left w.1)
           c.if-due.either,
     )
 

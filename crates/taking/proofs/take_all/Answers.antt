@@ -20,23 +20,20 @@ overflow_shr-bits c = omega (arith, c.requires.0.fits.workers)
 
 pub take-requires : goal.take-requires
 take-requires c =
-    let turn = c.before.before in
-    let start = turn.before.before.before in
-    (whole_kept (sym turn.loop-i.invariant.1.0) start.requires.0, (start.requires.1, turn.loop-i-test.true))
+    (whole_kept (sym c.loop-i.invariant.1.0) c.requires.0, (c.requires.1, c.loop-i-test.true))
 
 pub loop-i-preserved : goal.loop-i-preserved
 loop-i-preserved c =
-    let here = c.before.before in
     ⊎_elim
     (λ w. (
       search rules,
       (
         ap length w.5 ∙ search rules,
         w.5
-            ∙ all_more _ _ _ _ _ _ here.loop-i.invariant.1.1 _ w.0.taken w.2.ensures,
+            ∙ all_more _ _ _ _ _ _ c.loop-i.invariant.1.1 _ w.0.taken w.2.ensures,
       ),
     ))
-    (λ w. (search rules, (ap length w.1 ∙ here.loop-i.invariant.1.0, w.1 ∙ all_same _ _ _ _ _ _ here.loop-i.invariant.1.1 w.0.left)))
+    (λ w. (search rules, (ap length w.1 ∙ c.loop-i.invariant.1.0, w.1 ∙ all_same _ _ _ _ _ _ c.loop-i.invariant.1.1 w.0.left)))
     c.if-bits-i-eq1.either
 
 pub returns : goal.returns

@@ -12,14 +12,11 @@ loop-i-init c = passed_none _ _
 
 pub returns-then-not-pairs : goal.returns-then-not-pairs
 returns-then-not-pairs c =
-    let tested = c.before in
-    sym (passed_not _ _ _ tested.loop-i-test.true tested.pairs.ensures c.if-not-pairs.true)
+    sym (passed_not _ _ _ c.loop-i-test.true c.pairs.ensures c.if-not-pairs.true)
 
 pub loop-i-preserved : goal.loop-i-preserved
 loop-i-preserved c =
-    let tested = c.before in
-    let turn = tested.before in
-    passed_more _ _ _ turn.loop-i-test.true turn.loop-i.invariant tested.pairs.ensures c.if-not-pairs.false-raw
+    passed_more _ _ _ c.loop-i-test.true c.loop-i.invariant c.pairs.ensures c.if-not-pairs.false-raw
 
 pub returns : goal.returns
 returns c = sym (passed_all _ _ _ c.loop-i-test.false c.loop-i.invariant)

@@ -17,6 +17,5 @@ returns-then-not-operations c = sym (no_operation _ c.operations.ensures c.if-no
 
 pub returns : goal.returns
 returns c =
-    let tested = c.before.before in
     c.all_pairs.ensures
-    ∙ sym (by_pairs _ tested.operations.ensures tested.if-len-ne0.false (omega arith) c.if-not-operations.false-raw)
+    ∙ sym (by_pairs _ c.operations.ensures c.if-len-ne0.false (omega arith) c.if-not-operations.false-raw)

@@ -11,14 +11,11 @@ loop-i-init c = passed_none _ _
 
 pub returns-then-not-operation : goal.returns-then-not-operation
 returns-then-not-operation c =
-    let tested = c.before in
-    sym (passed_not _ _ _ tested.loop-i-test.true tested.operation.ensures c.if-not-operation.true)
+    sym (passed_not _ _ _ c.loop-i-test.true c.operation.ensures c.if-not-operation.true)
 
 pub loop-i-preserved : goal.loop-i-preserved
 loop-i-preserved c =
-    let tested = c.before in
-    let turn = tested.before in
-    passed_more _ _ _ turn.loop-i-test.true turn.loop-i.invariant tested.operation.ensures c.if-not-operation.false-raw
+    passed_more _ _ _ c.loop-i-test.true c.loop-i.invariant c.operation.ensures c.if-not-operation.false-raw
 
 pub returns : goal.returns
 returns c = sym (passed_all _ _ _ c.loop-i-test.false c.loop-i.invariant)

@@ -12,14 +12,11 @@ loop-j-init c = passed_none _ _
 
 pub returns-then-not-pair : goal.returns-then-not-pair
 returns-then-not-pair c =
-    let tested = c.before in
-    sym (passed_not _ _ _ tested.loop-j-test.true tested.pair.ensures c.if-not-pair.true)
+    sym (passed_not _ _ _ c.loop-j-test.true c.pair.ensures c.if-not-pair.true)
 
 pub loop-j-preserved : goal.loop-j-preserved
 loop-j-preserved c =
-    let tested = c.before in
-    let turn = tested.before in
-    passed_more _ _ _ turn.loop-j-test.true turn.loop-j.invariant tested.pair.ensures c.if-not-pair.false-raw
+    passed_more _ _ _ c.loop-j-test.true c.loop-j.invariant c.pair.ensures c.if-not-pair.false-raw
 
 pub returns : goal.returns
 returns c = sym (passed_all _ _ _ c.loop-j-test.false c.loop-j.invariant)

@@ -10,7 +10,6 @@ use Rattle.writes.proofs.lower_in.Goals as goal
 pub returns : goal.returns
 unfolding part
 returns c =
-    let called = c.before.before in
-    let s = called.args in
+    let s = c.args in
     slice_lowered s.words.now _ s.at (s.at + s.c - s.at) s.c (omega arith) s.i (omega arith) (omega arith)
-    called.lower.ensures
+    c.lower.ensures

@@ -10,7 +10,5 @@ use Rattle.writes.proofs.put_first.Goals as goal
 
 pub returns : goal.returns
 returns c =
-    let second = c.before.before in
-    let first = second.before.before.before.before in
-    let s = first.args in
-    second.put2.ensures ∙ ap (λ (u : List ℕ). set u (s.q + record_applied) s.applied) first.put.ensures
+    let s = c.args in
+    c.put-2.ensures ∙ ap (λ (u : List ℕ). set u (s.q + record_applied) s.applied) c.put.ensures

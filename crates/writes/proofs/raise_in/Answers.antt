@@ -10,7 +10,6 @@ use Rattle.writes.proofs.raise_in.Goals as goal
 pub returns : goal.returns
 unfolding part
 returns c =
-    let called = c.before.before in
-    let s = called.args in
+    let s = c.args in
     slice_raised s.words.now _ s.at (s.at + s.c + 1 - s.at) s.c (omega arith) s.i s.v (omega arith)
-    (omega arith) called.raise.ensures
+    (omega arith) c.raise.ensures

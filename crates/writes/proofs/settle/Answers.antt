@@ -10,10 +10,7 @@ use Rattle.writes.proofs.settle.Goals as goal
 
 pub returns : goal.returns
 returns c =
-    let third = c.before.before in
-    let second = third.before.before.before.before in
-    let first = second.before.before.before.before in
-    let s = first.args in
-    third.put3.ensures ∙ ap (λ (u : List ℕ). set u (posted_from s.q s.g.capacity s.g.workers + s.j) s.total)
-    (second.put2.ensures
-    ∙ ap (λ (u : List ℕ). set u (answers_from s.q s.g.capacity s.g.workers + s.j) s.answer) first.put.ensures)
+    let s = c.args in
+    c.put-3.ensures ∙ ap (λ (u : List ℕ). set u (posted_from s.q s.g.capacity s.g.workers + s.j) s.total)
+    (c.put-2.ensures
+    ∙ ap (λ (u : List ℕ). set u (answers_from s.q s.g.capacity s.g.workers + s.j) s.answer) c.put.ensures)

@@ -12,33 +12,25 @@ use Rattle.bucket.proofs.BucketState.put.Goals as goal
 pub returns-then-here-lt-ARRAY_SIZE : goal.returns-then-here-lt-ARRAY_SIZE
 unfolding put_of
 returns-then-here-lt-ARRAY_SIZE c =
-    let known = c.before.before in
-    let s = known.args in
-    ap (λ (p : Position). put_of s.self p s.account s.total) (sym known.in-At.is)
+    let s = c.args in
+    ap (λ (p : Position). put_of s.self p s.account s.total) (sym c.in-At.is)
 
 pub returns-else-here-lt-ARRAY_SIZE : goal.returns-else-here-lt-ARRAY_SIZE
 returns-else-here-lt-ARRAY_SIZE c =
-    let known = c.before.before in
-    let s = known.args in
+    let s = c.args in
     let long : length s.self.totals ≡ array_size = search rules in
-    put_past s.self s.account s.total known.in-At.here (omega arith)
-    ∙ ap (λ (p : Position). put_of s.self p s.account s.total) (sym known.in-At.is)
+    put_past s.self s.account s.total c.in-At.here (omega arith)
+    ∙ ap (λ (p : Position). put_of s.self p s.account s.total) (sym c.in-At.is)
 
 pub returns-then-n-lt-ARRAY_SIZE : goal.returns-then-n-lt-ARRAY_SIZE
 returns-then-n-lt-ARRAY_SIZE c =
-    let second = c.before in
-    let first = second.before.before.before in
-    let tested = first.before.before in
-    let size = tested.before in
-    let known = size.before.before in
-    let s = known.args in
-    put_new s.self _ known.in-Before.next size.size-n.ensures s.account s.total _ _ tested.if-n-lt-ARRAY_SIZE.true
-    first.raise.ensures second.raise-then-n-lt-ARRAY_SIZE.ensures
-    ∙ ap (λ (p : Position). put_of s.self p s.account s.total) (sym known.in-Before.is)
+    let s = c.args in
+    put_new s.self _ c.in-Before.next c.size-n.ensures s.account s.total _ _ c.if-n-lt-ARRAY_SIZE.true
+    c.raise.ensures c.raise-then-n-lt-ARRAY_SIZE.ensures
+    ∙ ap (λ (p : Position). put_of s.self p s.account s.total) (sym c.in-Before.is)
 
 pub returns-else-n-lt-ARRAY_SIZE : goal.returns-else-n-lt-ARRAY_SIZE
 returns-else-n-lt-ARRAY_SIZE c =
-    let known = c.before.before.before in
-    let s = known.args in
-    put_none s.self _ known.in-Before.next c.size-n.ensures s.account s.total c.if-n-lt-ARRAY_SIZE.false
-    ∙ ap (λ (p : Position). put_of s.self p s.account s.total) (sym known.in-Before.is)
+    let s = c.args in
+    put_none s.self _ c.in-Before.next c.size-n.ensures s.account s.total c.if-n-lt-ARRAY_SIZE.false
+    ∙ ap (λ (p : Position). put_of s.self p s.account s.total) (sym c.in-Before.is)

@@ -9,25 +9,17 @@ use Rattle.bucket.proofs.BucketState.remove.Goals as goal
 
 pub returns-then-n-gt0 : goal.returns-then-n-gt0
 returns-then-n-gt0 c =
-    let second = c.before.before in
-    let first = second.before.before.before in
-    let size = first.before.before in
-    let known = size.before.before.before.before.before.before.before in
-    let s = known.args in
-    removed_at s.self _ known.in-At.i size.size-n.ensures _ _ _
-    first.lower.ensures second.lower-in-At.ensures (omega arith)
-    ∙ ap (remove_of s.self) (sym known.in-At.is)
+    let s = c.args in
+    removed_at s.self _ c.in-At.i c.size-n.ensures _ _ _
+    c.lower.ensures c.lower-in-At.ensures (omega arith)
+    ∙ ap (remove_of s.self) (sym c.in-At.is)
 
 pub returns-else-n-gt0 : goal.returns-else-n-gt0
 returns-else-n-gt0 c =
-    let second = c.before.before in
-    let first = second.before.before.before in
-    let size = first.before.before in
-    let known = size.before.before.before.before.before.before.before in
-    let s = known.args in
-    removed_at s.self _ known.in-At.i size.size-n.ensures _ _ _
-    first.lower.ensures second.lower-in-At.ensures (omega arith)
-    ∙ ap (remove_of s.self) (sym known.in-At.is)
+    let s = c.args in
+    removed_at s.self _ c.in-At.i c.size-n.ensures _ _ _
+    c.lower.ensures c.lower-in-At.ensures (omega arith)
+    ∙ ap (remove_of s.self) (sym c.in-At.is)
 
 pub returns-in-Before : goal.returns-in-Before
 unfolding remove_of

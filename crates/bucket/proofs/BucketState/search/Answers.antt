@@ -22,12 +22,11 @@ few c = rw c.size-n.ensures (size_limit _)
 -- DROPPED     omega arith
 
 pub scan-requires : goal.scan-requires
-scan-requires c = let h = few c.before.before in rw length-take (omega arith)
+scan-requires c = let h = few (goal.at.scan-requires c).After-size-n in rw length-take (omega arith)
 
 pub returns : goal.returns
 unfolding search_of
 returns c =
-    let size = c.before.before.before in
-    let s = size.args in
-    let all : size.size-n.result - 0 ≡ size_of s.self = omega (arith, size.size-n.ensures) in
+    let s = c.args in
+    let all : c.size-n.result - 0 ≡ size_of s.self = omega (arith, c.size-n.ensures) in
     c.scan.ensures ∙ ap (λ (n : ℕ). scan (take n s.self.accounts) s.account 0) all

@@ -10,17 +10,15 @@ use Rattle.bucket.proofs.BucketState.total.Goals as goal
 pub returns-then-i-lt-ARRAY_SIZE : goal.returns-then-i-lt-ARRAY_SIZE
 unfolding total_in
 returns-then-i-lt-ARRAY_SIZE c =
-    let known = c.before.before in
-    ap (total_in known.args.self) (sym known.in-At.is)
+    ap (total_in c.args.self) (sym c.in-At.is)
 
 pub returns-else-i-lt-ARRAY_SIZE : goal.returns-else-i-lt-ARRAY_SIZE
 unfolding total_in
 returns-else-i-lt-ARRAY_SIZE c =
-    let known = c.before.before in
-    let s = known.args in
+    let s = c.args in
     let long : length s.self.totals ≡ array_size = search rules in
     sym (get_or-eq_default s.self.totals 0 (omega arith))
-    ∙ ap (total_in s.self) (sym known.in-At.is)
+    ∙ ap (total_in s.self) (sym c.in-At.is)
 
 pub returns-in-Before : goal.returns-in-Before
 unfolding total_in

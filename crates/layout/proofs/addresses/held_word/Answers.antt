@@ -8,8 +8,7 @@ use Rattle.layout.proofs.addresses.held_word.Goals as goal
 
 pub get_from-requires : goal.get_from-requires
 get_from-requires c =
-    let start = c.before.before in
-    let h = held_inside start.requires.0 (worker_at start.args.g.workers start.args.w) in
+    let h = held_inside c.requires.0 (worker_at c.args.g.workers c.args.w) in
     omega arith
 
 pub returns : goal.returns

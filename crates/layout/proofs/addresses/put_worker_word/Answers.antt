@@ -16,6 +16,5 @@ put-requires c = let b = placed c.requires.0 _ c.requires.1.0 in omega arith
 
 pub returns : goal.returns
 returns c =
-    let put = c.before.before in
-    let args = put.args in
-    put.put.ensures ∙ ap (λ (p : ℕ). set args.words.now (p + args.k) args.v) put.worker_at.ensures
+    let args = c.args in
+    c.put.ensures ∙ ap (λ (p : ℕ). set args.words.now (p + args.k) args.v) c.worker_at.ensures

@@ -12,8 +12,7 @@ use Rattle.layout.proofs.addresses.record_of.Goals as goal
 
 pub overflow_add-e : goal.overflow_add-e
 overflow_add-e c =
-    let s = c.before.before.before in
-    omega (arith, start_bound s.args.g.workers s.requires.workers, bits_small s.args.account s.args.g.depth s.requires.depth)
+    omega (arith, start_bound c.args.g.workers c.requires.workers, bits_small c.args.account c.args.g.depth c.requires.depth)
 
 pub returns : goal.returns
 unfolding record_of

@@ -14,10 +14,9 @@ use Rattle.lines.proofs.command.after_field.Goals as goal
 pub returns-then-rest-end : goal.returns-then-rest-end
 unfolding of_fields letter_of
 returns-then-rest-end c =
-    let s = c.before.before.before.before.before in
-    let l = s.args.rest.now in
+    let l = c.args.rest.now in
     c.three_fields.ensures
-    ∙ sym (ap (λ (fs : List (List ℕ)). of_fields ((s.args.letter ∷ []) ∷ s.args.x.now ∷ fs))
+    ∙ sym (ap (λ (fs : List (List ℕ)). of_fields ((c.args.letter ∷ []) ∷ c.args.x.now ∷ fs))
     (one-field l (rw (sym c.first_field-end.ensures) c.if-rest-end.true)))
 
 pub slice_bounds-after_fields-end : goal.slice_bounds-after_fields-end
@@ -25,11 +24,8 @@ slice_bounds-after_fields-end c = sym (length-take-le _ _ (omega arith))
 
 pub returns : goal.returns
 returns c =
-    let g = c.before.before.before in
-    let p = g.before in
-    let s = p.before.before.before in
-    let l = s.args.rest.now in
-    let n = p.first_field-end.result in
+    let l = c.args.rest.now in
+    let n = c.first_field-end.result in
     c.after_fields.ensures
-    ∙ rw (part_from l (n + 1)) (sym (ap (λ (fs : List (List ℕ)). of_fields ((s.args.letter ∷ []) ∷ s.args.x.now ∷ fs))
-    (more_fields l n p.first_field-end.ensures g.if-rest-end.false)))
+    ∙ rw (part_from l (n + 1)) (sym (ap (λ (fs : List (List ℕ)). of_fields ((c.args.letter ∷ []) ∷ c.args.x.now ∷ fs))
+    (more_fields l n c.first_field-end.ensures c.if-rest-end.false)))

@@ -11,18 +11,16 @@ use Rattle.lines.proofs.command.after_fields.Goals as goal
 
 pub returns-then-first_field-rest : goal.returns-then-first_field-rest
 returns-then-first_field-rest c =
-    let s = c.before.before.before.before.before in
-    let l = s.args.rest.now in
+    let l = c.args.rest.now in
     let n = c.first_field.result in
-    too_many (s.args.letter ∷ []) s.args.x.now s.args.y.now (take n l) (drop (n + 1) l)
-    ∙ sym (ap (λ (fs : List (List ℕ)). of_fields ((s.args.letter ∷ []) ∷ s.args.x.now ∷ s.args.y.now ∷ fs))
+    too_many (c.args.letter ∷ []) c.args.x.now c.args.y.now (take n l) (drop (n + 1) l)
+    ∙ sym (ap (λ (fs : List (List ℕ)). of_fields ((c.args.letter ∷ []) ∷ c.args.x.now ∷ c.args.y.now ∷ fs))
     (more_fields l n c.first_field.ensures c.if-first_field-rest.true))
 
 pub returns : goal.returns
 unfolding of_fields letter_of
 returns c =
-    let s = c.before.before.before.before.before.before in
-    let l = s.args.rest.now in
+    let l = c.args.rest.now in
     c.four_fields.ensures
-    ∙ sym (ap (λ (fs : List (List ℕ)). of_fields ((s.args.letter ∷ []) ∷ s.args.x.now ∷ s.args.y.now ∷ fs))
+    ∙ sym (ap (λ (fs : List (List ℕ)). of_fields ((c.args.letter ∷ []) ∷ c.args.x.now ∷ c.args.y.now ∷ fs))
     (one-field l (rw (sym c.first_field.ensures) c.if-first_field-rest.false)))

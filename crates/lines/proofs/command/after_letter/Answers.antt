@@ -23,11 +23,8 @@ slice_bounds-after_field-end c = sym (length-take-le _ _ (omega arith))
 
 pub returns : goal.returns
 returns c =
-    let g = c.before.before.before in
-    let p = g.before in
-    let s = p.before.before in
-    let l = s.args.rest.now in
-    let n = p.first_field-end.result in
+    let l = c.args.rest.now in
+    let n = c.first_field-end.result in
     c.after_field.ensures
-    ∙ rw (part_from l (n + 1)) (sym (ap (λ (fs : List (List ℕ)). of_fields ((s.args.letter ∷ []) ∷ fs))
-    (more_fields l n p.first_field-end.ensures g.if-rest-end.false)))
+    ∙ rw (part_from l (n + 1)) (sym (ap (λ (fs : List (List ℕ)). of_fields ((c.args.letter ∷ []) ∷ fs))
+    (more_fields l n c.first_field-end.ensures c.if-rest-end.false)))

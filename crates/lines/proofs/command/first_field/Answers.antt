@@ -14,18 +14,12 @@ loop-i-init c = (search rules, zero-add _)
 
 pub returns-then-bytes-i-eq32 : goal.returns-then-bytes-i-eq32
 returns-then-bytes-i-eq32 c =
-    let l = c.before.before.before in
-    let s = l.before in
-    omega (arith, l.loop-i.invariant.1, field_ends s.args.bytes.now l.loop-i.i (omega arith) c.if-bytes-i-eq32.true)
+    omega (arith, c.loop-i.invariant.1, field_ends c.args.bytes.now c.loop-i.i (omega arith) c.if-bytes-i-eq32.true)
 
 pub loop-i-preserved : goal.loop-i-preserved
 loop-i-preserved c =
-    let l = c.before.before.before in
-    let s = l.before in
-    (search rules, omega (arith, l.loop-i.invariant.1, field_goes_on s.args.bytes.now l.loop-i.i (omega arith) c.if-bytes-i-eq32.false))
+    (search rules, omega (arith, c.loop-i.invariant.1, field_goes_on c.args.bytes.now c.loop-i.i (omega arith) c.if-bytes-i-eq32.false))
 
 pub returns : goal.returns
 returns c =
-    let l = c.before in
-    let s = l.before in
-    omega (arith, l.loop-i.invariant.1, field_at_end s.args.bytes.now l.loop-i.i c.loop-i-test.false)
+    omega (arith, c.loop-i.invariant.1, field_at_end c.args.bytes.now c.loop-i.i c.loop-i-test.false)

@@ -15,17 +15,15 @@ use Rattle.lines.proofs.command.parse.Goals as goal
 pub returns-then-letter-eq84 : goal.returns-then-letter-eq84
 unfolding one_field if◌then◌else◌
 returns-then-letter-eq84 c =
-    let p = c.before.before.before in
-    let l = p.args.line.now in
-    sym (alone l (rw (sym p.first_field-end.ensures) c.if-line-end.true) ∙ rw
+    let l = c.args.line.now in
+    sym (alone l (rw (sym c.first_field-end.ensures) c.if-line-end.true) ∙ rw
     (sym c.letter.ensures, eq-eqb _ list_letter c.if-letter-eq84.true))
 
 pub returns-then-line-end : goal.returns-then-line-end
 unfolding one_field if◌then◌else◌
 returns-then-line-end c =
-    let p = c.before.before.before in
-    let l = p.args.line.now in
-    sym (alone l (rw (sym p.first_field-end.ensures) c.if-line-end.true) ∙ rw
+    let l = c.args.line.now in
+    sym (alone l (rw (sym c.first_field-end.ensures) c.if-line-end.true) ∙ rw
     (sym c.letter.ensures, ne_eqb _ list_letter c.if-letter-eq84.false))
 
 pub slice_bounds-letter-end : goal.slice_bounds-letter-end
@@ -33,9 +31,7 @@ slice_bounds-letter-end c = sym (length-take-le _ _ (omega arith))
 
 pub returns : goal.returns
 returns c =
-    let g = c.before.before.before.before in
-    let p = g.before in
-    let l = p.args.line.now in
-    let n = p.first_field-end.result in
+    let l = c.args.line.now in
+    let n = c.first_field-end.result in
     c.after_letter.ensures
-    ∙ rw (c.letter-2.ensures, part_from l (n + 1)) (sym (followed l n p.first_field-end.ensures g.if-line-end.false))
+    ∙ rw (c.letter-2.ensures, part_from l (n + 1)) (sym (followed l n c.first_field-end.ensures c.if-line-end.false))

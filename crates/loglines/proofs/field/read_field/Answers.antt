@@ -15,40 +15,36 @@ returns-then-k-eq-LOGGED_ACCOUNT c = rw (eq-eqb _ logged_account c.if-k-eq-LOGGE
 pub returns-then-k-eq-LOGGED_TOTAL : goal.returns-then-k-eq-LOGGED_TOTAL
 unfolding field_word if◌then◌else◌
 returns-then-k-eq-LOGGED_TOTAL c =
-    let t = c.before in
-    rw (ne_eqb _ logged_account t.if-k-eq-LOGGED_ACCOUNT.false, eq-eqb _ logged_total t.if-k-eq-LOGGED_TOTAL.true) c.read_total.ensures
+    rw (ne_eqb _ logged_account c.if-k-eq-LOGGED_ACCOUNT.false, eq-eqb _ logged_total c.if-k-eq-LOGGED_TOTAL.true) c.read_total.ensures
 
 pub returns-then-k-eq-LOGGED_ANSWER : goal.returns-then-k-eq-LOGGED_ANSWER
 unfolding field_word if◌then◌else◌
 returns-then-k-eq-LOGGED_ANSWER c =
-    let t = c.before in
     rw (
-      ne_eqb _ logged_account t.if-k-eq-LOGGED_ACCOUNT.false,
-      ne_eqb _ logged_total t.if-k-eq-LOGGED_TOTAL.false,
-      eq-eqb _ logged_answer t.if-k-eq-LOGGED_ANSWER.true,
+      ne_eqb _ logged_account c.if-k-eq-LOGGED_ACCOUNT.false,
+      ne_eqb _ logged_total c.if-k-eq-LOGGED_TOTAL.false,
+      eq-eqb _ logged_answer c.if-k-eq-LOGGED_ANSWER.true,
     )
     c.read_answer.ensures
 
 pub returns-then-k-eq-LOGGED_ANSWER_TOTAL : goal.returns-then-k-eq-LOGGED_ANSWER_TOTAL
 unfolding field_word if◌then◌else◌
 returns-then-k-eq-LOGGED_ANSWER_TOTAL c =
-    let t = c.before in
     rw (
-      ne_eqb _ logged_account t.if-k-eq-LOGGED_ACCOUNT.false,
-      ne_eqb _ logged_total t.if-k-eq-LOGGED_TOTAL.false,
-      ne_eqb _ logged_answer t.if-k-eq-LOGGED_ANSWER.false,
-      eq-eqb _ logged_answer_total t.if-k-eq-LOGGED_ANSWER_TOTAL.true,
+      ne_eqb _ logged_account c.if-k-eq-LOGGED_ACCOUNT.false,
+      ne_eqb _ logged_total c.if-k-eq-LOGGED_TOTAL.false,
+      ne_eqb _ logged_answer c.if-k-eq-LOGGED_ANSWER.false,
+      eq-eqb _ logged_answer_total c.if-k-eq-LOGGED_ANSWER_TOTAL.true,
     )
     c.read_total-then-k-eq-LOGGED_ANSWER_TOTAL.ensures
 
 pub returns : goal.returns
 unfolding field_word number64 if◌then◌else◌
 returns c =
-    let t = c.before in
     rw (
-      ne_eqb _ logged_account t.if-k-eq-LOGGED_ACCOUNT.false,
-      ne_eqb _ logged_total t.if-k-eq-LOGGED_TOTAL.false,
-      ne_eqb _ logged_answer t.if-k-eq-LOGGED_ANSWER.false,
-      ne_eqb _ logged_answer_total t.if-k-eq-LOGGED_ANSWER_TOTAL.false,
+      ne_eqb _ logged_account c.if-k-eq-LOGGED_ACCOUNT.false,
+      ne_eqb _ logged_total c.if-k-eq-LOGGED_TOTAL.false,
+      ne_eqb _ logged_answer c.if-k-eq-LOGGED_ANSWER.false,
+      ne_eqb _ logged_answer_total c.if-k-eq-LOGGED_ANSWER_TOTAL.false,
     )
     c.read_number-2.ensures

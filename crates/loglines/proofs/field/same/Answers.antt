@@ -16,13 +16,11 @@ loop-i-init c = (search rules, refl)
 
 pub returns-then-field-i : goal.returns-then-field-i
 returns-then-field-i c =
-    let l = c.before.before.before.before in
-    sym (l.loop-i.invariant.1 ∙ same_differ _ _ l.loop-i.i (omega arith) (omega arith) c.if-field-i.true)
+    sym (c.loop-i.invariant.1 ∙ same_differ _ _ c.loop-i.i (omega arith) (omega arith) c.if-field-i.true)
 
 pub loop-i-preserved : goal.loop-i-preserved
 loop-i-preserved c =
-    let l = c.before.before.before.before in
-    (search rules, l.loop-i.invariant.1 ∙ same_next _ _ l.loop-i.i (omega arith) (omega arith) c.if-field-i.false)
+    (search rules, c.loop-i.invariant.1 ∙ same_next _ _ c.loop-i.i (omega arith) (omega arith) c.if-field-i.false)
 
 pub returns : goal.returns
-returns c = let l = c.before in sym (l.loop-i.invariant.1 ∙ same_end _ _ l.loop-i.i (omega arith) (omega arith))
+returns c = sym (c.loop-i.invariant.1 ∙ same_end _ _ c.loop-i.i (omega arith) (omega arith))

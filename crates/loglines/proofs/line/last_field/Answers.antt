@@ -19,20 +19,16 @@ returns-then-first_field-rest c = too_many _ _ (rw c.first_field.ensures at c.if
 pub returns-in_default : goal.returns-in_default
 unfolding row_of if◌then◌else◌
 returns-in_default c =
-    let f = c.before.before in
-    last_unread _ _ (rw f.first_field.ensures at f.if-first_field-rest.false)
-    (number_none _ (sym c.in_default.is ∙ f.read_field.ensures))
+    last_unread _ _ (rw c.first_field.ensures at c.if-first_field-rest.false)
+    (number_none _ (sym c.in_default.is ∙ c.read_field.ensures))
 
 pub returns : goal.returns
 unfolding row_of if◌then◌else◌
 returns c =
-    let w = c.before in
-    let f = w.before.before in
-    let s = f.before.before.before.before in
-    let ws = s.args.words in
-    let v = w.in-Value.word in
+    let ws = c.args.words in
+    let v = c.in-Value.word in
     let n : length ws ≡ 8 = omega arith in
     let e = length-set ws 7 v in
     ap some (sym (take_all 8 (set ws 7 v) (omega arith)) ∙ take-suc-set ws 7 v (omega arith))
-    ∙ last_read _ _ v (rw f.first_field.ensures at f.if-first_field-rest.false)
-    (number_some _ _ (sym w.in-Value.is ∙ f.read_field.ensures))
+    ∙ last_read _ _ v (rw c.first_field.ensures at c.if-first_field-rest.false)
+    (number_some _ _ (sym c.in-Value.is ∙ c.read_field.ensures))

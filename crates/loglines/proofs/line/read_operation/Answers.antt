@@ -20,11 +20,10 @@ loop-k-init c = (search rules, (search rules, (refl, no_word_yet _)))
 pub returns-then-rest-end : goal.returns-then-rest-end
 unfolding row_of if◌then◌else◌
 returns-then-rest-end c =
-    let a = c.before.before.before.before in
-    let l = a.args.line.now in
+    let l = c.args.line.now in
     too_few _ _ _ c.loop-k-test.true
-    (rw (part_from l a.loop-k.from) at (rw c.first_field-end.ensures at c.if-rest-end.true))
-    ∙ a.loop-k.invariant.1.1.1
+    (rw (part_from l c.loop-k.from) at (rw c.first_field-end.ensures at c.if-rest-end.true))
+    ∙ c.loop-k.invariant.1.1.1
 
 pub slice_bounds-read_field-end : goal.slice_bounds-read_field-end
 slice_bounds-read_field-end c = sym (length-take-le _ _ (omega arith))
@@ -32,46 +31,39 @@ slice_bounds-read_field-end c = sym (length-take-le _ _ (omega arith))
 pub returns-in_default : goal.returns-in_default
 unfolding row_of if◌then◌else◌
 returns-in_default c =
-    let r = c.before.before in
-    let g = r.before.before in
-    let a = g.before.before.before.before in
-    let l = a.args.line.now in
-    let from = a.loop-k.from in
+    let l = c.args.line.now in
+    let from = c.loop-k.from in
     let p = part_from l from in
-    next_unread _ l from a.loop-k.k g.first_field-end.result (rw p at g.first_field-end.ensures)
-    (rw p at g.if-rest-end.false)
-    (number_none _ (sym c.in_default.is ∙ rw p at r.read_field.ensures))
-    ∙ a.loop-k.invariant.1.1.1
+    next_unread _ l from c.loop-k.k c.first_field-end.result (rw p at c.first_field-end.ensures)
+    (rw p at c.if-rest-end.false)
+    (number_none _ (sym c.in_default.is ∙ rw p at c.read_field.ensures))
+    ∙ c.loop-k.invariant.1.1.1
 
 pub loop-k-preserved : goal.loop-k-preserved
 loop-k-preserved c =
-    let r = c.before.before.before in
-    let g = r.before.before in
-    let a = g.before.before.before.before in
-    let l = a.args.line.now in
-    let from = a.loop-k.from in
-    let k = a.loop-k.k in
-    let n = g.first_field-end.result in
+    let l = c.args.line.now in
+    let from = c.loop-k.from in
+    let k = c.loop-k.k in
+    let n = c.first_field-end.result in
     let w = c.in-Value.word in
     let p = part_from l from in
-    let h : n < length (drop from l) = rw p at g.if-rest-end.false in
+    let h : n < length (drop from l) = rw p at c.if-rest-end.false in
     let d = length-drop from l in (
       omega arith,
       (
         omega arith,
         (
-          length-set a.loop-k.words k w ∙ a.loop-k.invariant.1.1.0,
-          rw (add-one k, take-suc-set a.loop-k.words k w (omega arith), ← add-one k)
-              (next_read (take k a.loop-k.words) l from k n (rw p at g.first_field-end.ensures) h w
-              (number_some _ _ (sym c.in-Value.is ∙ rw p at r.read_field.ensures))
-              ∙ a.loop-k.invariant.1.1.1),
+          length-set c.loop-k.words k w ∙ c.loop-k.invariant.1.1.0,
+          rw (add-one k, take-suc-set c.loop-k.words k w (omega arith), ← add-one k)
+              (next_read (take k c.loop-k.words) l from k n (rw p at c.first_field-end.ensures) h w
+              (number_some _ _ (sym c.in-Value.is ∙ rw p at c.read_field.ensures))
+              ∙ c.loop-k.invariant.1.1.1),
         ),
       ),
     )
 
 pub returns : goal.returns
 returns c =
-    let a = c.before.before.before in
-    let l = a.args.line.now in
-    let e : a.loop-k.k ≡ 7 = omega arith in
-    c.last_field.ensures ∙ rw (part_from l a.loop-k.from) (rw e at a.loop-k.invariant.1.1.1)
+    let l = c.args.line.now in
+    let e : c.loop-k.k ≡ 7 = omega arith in
+    c.last_field.ensures ∙ rw (part_from l c.loop-k.from) (rw e at c.loop-k.invariant.1.1.1)

@@ -15,12 +15,10 @@ returns-then-line-end c = one_setting _ (rw (sym c.first_field-end.ensures) c.if
 
 pub returns-then-first_field-second : goal.returns-then-first_field-second
 returns-then-first_field-second c =
-    let two = c.before in
-    let one = two.before.before.before in
-    let l = one.args.line.now in
-    let n = one.first_field-end.result in
-    more_settings l n one.first_field-end.ensures two.if-line-end.false
-    (rw (part_from l (n + 1)) at (rw two.first_field.ensures at c.if-first_field-second.true))
+    let l = c.args.line.now in
+    let n = c.first_field-end.result in
+    more_settings l n c.first_field-end.ensures c.if-line-end.false
+    (rw (part_from l (n + 1)) at (rw c.first_field.ensures at c.if-first_field-second.true))
 
 pub slice_bounds-read_pair-end : goal.slice_bounds-read_pair-end
 slice_bounds-read_pair-end c = sym (length-take-le _ _ (omega arith))
@@ -28,10 +26,8 @@ slice_bounds-read_pair-end c = sym (length-take-le _ _ (omega arith))
 pub returns : goal.returns
 unfolding small_of
 returns c =
-    let two = c.before.before.before in
-    let one = two.before.before.before in
-    let l = one.args.line.now in
-    let n = one.first_field-end.result in
+    let l = c.args.line.now in
+    let n = c.first_field-end.result in
     c.read_pair.ensures ∙ rw (part_from l (n + 1))
-    (two_settings l n one.first_field-end.ensures two.if-line-end.false
-    (rw (part_from l (n + 1)) at (rw two.first_field.ensures at c.if-first_field-second.false)))
+    (two_settings l n c.first_field-end.ensures c.if-line-end.false
+    (rw (part_from l (n + 1)) at (rw c.first_field.ensures at c.if-first_field-second.false)))

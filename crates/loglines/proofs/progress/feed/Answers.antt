@@ -12,8 +12,7 @@ loop-i-init c = (search rules, refl)
 
 pub loop-i-preserved : goal.loop-i-preserved
 loop-i-preserved c =
-    let a = c.before.before.before in
-    (search rules, fed_next _ _ _ _ c.loop-i-test.true c.take-feeding.ensures ∙ a.loop-i.invariant.1)
+    (search rules, fed_next _ _ _ _ c.loop-i-test.true c.take-feeding.ensures ∙ c.loop-i.invariant.1)
 
 pub returns : goal.returns
 returns c = fed_end _ _ _ c.loop-i-test.false ∙ c.loop-i.invariant.1

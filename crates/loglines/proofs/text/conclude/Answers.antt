@@ -16,27 +16,21 @@ returns-then-out-lt-TEXT_ROOM c = (without_room _ _ c.if-out-lt-TEXT_ROOM.true, 
 pub returns-then-line-gt0 : goal.returns-then-line-gt0
 unfolding input_text unread_text printed_line bytes
 returns-then-line-gt0 c =
-    let o = c.before.before in
-    let u = o.before.before.before.before in
-    let f = u.before in
-    let n = u.unread-line.result in
+    let n = c.unread-line.result in
     let size = counted_length (bytes "unread ") n (omega arith) in
     rw (
-      with_room _ _ f.if-out-lt-TEXT_ROOM.false,
-      ← f.end-progress.ensures,
-      some_unread f.end-progress.result n u.unread-line.ensures o.if-line-gt0.true,
-    ) (wrote_printed _ _ o.print_counted.ensures (omega arith))
+      with_room _ _ c.if-out-lt-TEXT_ROOM.false,
+      ← c.end-progress.ensures,
+      some_unread c.end-progress.result n c.unread-line.ensures c.if-line-gt0.true,
+    ) (wrote_printed _ _ c.print_counted.ensures (omega arith))
 
 pub print_judged-requires : goal.print_judged-requires
 print_judged-requires c = c.if-out-lt-TEXT_ROOM.false
 
 pub returns : goal.returns
 returns c =
-    let o = c.before.before in
-    let u = o.before.before.before in
-    let f = u.before in
     rw (
-      with_room _ _ f.if-out-lt-TEXT_ROOM.false,
-      ← f.end-progress.ensures,
-      none_unread f.end-progress.result u.unread-line.result u.unread-line.ensures o.if-line-gt0.false,
-    ) o.print_judged.ensures
+      with_room _ _ c.if-out-lt-TEXT_ROOM.false,
+      ← c.end-progress.ensures,
+      none_unread c.end-progress.result c.unread-line.result c.unread-line.ensures c.if-line-gt0.false,
+    ) c.print_judged.ensures

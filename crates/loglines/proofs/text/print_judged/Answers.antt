@@ -39,16 +39,14 @@ judged-text : (k : After-check_log-verdict)
     (take (k.within-filled.result / operation_words) k.check_log-verdict.new.1.1.1.0)
 unfolding kept_log input_text judged_text
 judged-text k =
-    let w = k.before.before.before in
-    rw (← same_words w, count_taken _ _ (filled_in w), ← k.check_log-verdict.ensures)
+    rw (← same_words (goal.at.After-check_log-verdict k).After-within-filled, count_taken _ _ (filled_in (goal.at.After-check_log-verdict k).After-within-filled), ← k.check_log-verdict.ensures)
 
 -- an order has at most 12 places
 places_in : (c : In-Accepted)
     → c.within-filled.result / operation_words ≤ greatest_operations
 places_in c =
-    let k = c.before.before.before in
-    rw (count_taken _ _ (filled_in k.before.before.before))
-    at (accepted_few _ _ _ _ _ (rw c.in-Accepted.is at k.check_log-verdict.ensures))
+    rw (count_taken _ _ (filled_in (goal.at.In-Accepted c).After-within-filled))
+    at (accepted_few _ _ _ _ _ (rw c.in-Accepted.is at c.check_log-verdict.ensures))
 
 -- ---- needs
 
@@ -56,11 +54,11 @@ pub slice_bounds-words-end : goal.slice_bounds-words-end
 slice_bounds-words-end c = filled_in c
 
 pub slice_bounds-check_log-end : goal.slice_bounds-check_log-end
-slice_bounds-check_log-end c = sym (length-take-le _ _ (filled_in c.before))
+slice_bounds-check_log-end c = sym (length-take-le _ _ (filled_in (goal.at.slice_bounds-check_log-end c).After-within-filled))
 
 pub slice_bounds-order-end : goal.slice_bounds-order-end
 slice_bounds-order-end c =
-    omega (arith, places_in c.before, c.check_log-verdict.auto.1.1.1.0)
+    omega (arith, places_in (goal.at.slice_bounds-order-end c).In-Accepted, c.check_log-verdict.auto.1.1.1.0)
 
 pub slice_bounds-print_order-end : goal.slice_bounds-print_order-end
 slice_bounds-print_order-end c = sym (length-take-le _ _ (slice_bounds-order-end c.before))
@@ -68,36 +66,25 @@ slice_bounds-print_order-end c = sym (length-take-le _ _ (slice_bounds-order-end
 pub print_order-requires : goal.print_order-requires
 print_order-requires c =
     let h = slice_bounds-print_order-end c in
-    let n = places_in c.before.before in
-    let s = c.before.before.before.before.before.before.before.before.before.before.before.before in
-    let room = s.requires in
+    let n = places_in (goal.at.print_order-requires c).In-Accepted in
+    let room = c.requires in
     omega arith
 
 pub returns-in-Accepted : goal.returns-in-Accepted
 unfolding verdict_text
 returns-in-Accepted c =
-    let o = c.before.before in
-    let e = o.before.before.before in
-    let p = o.print_order.ensures in
-    rw (judged-text e.before.before.before, e.in-Accepted.is) (overlay_printed _ _ p.0 p.1.0, p.1.1)
+    let p = c.print_order.ensures in
+    rw (judged-text (goal.at.returns-in-Accepted c).After-check_log-verdict, c.in-Accepted.is) (overlay_printed _ _ p.0 p.1.0, p.1.1)
 
 pub returns-in-No : goal.returns-in-No
 unfolding verdict_text printed_line bytes
 returns-in-No c =
-    let o = c.before.before in
-    let e = o.before.before.before in
-    let k = e.before.before.before in
-    let s = k.before.before.before.before.before.before.before in
-    rw (judged-text k, e.in-No.is) (wrote_printed _ _ o.print_word.ensures (omega (arith, s.requires)))
+    rw (judged-text (goal.at.returns-in-No c).After-check_log-verdict, c.in-No.is) (wrote_printed _ _ c.print_word.ensures (omega (arith, c.requires)))
 
 pub returns-in-Refused : goal.returns-in-Refused
 unfolding verdict_text printed_line bytes
 returns-in-Refused c =
-    let o = c.before.before in
-    let v = o.before.before.before.before.before in
-    let k = v.before.before.before in
-    let s = k.before.before.before.before.before.before.before in
-    let r = v.in-Refused.refusal in
+    let r = c.in-Refused.refusal in
     let size = counted_length (bytes "refused ") (number_of r) (number_fits r) in
-    rw (judged-text k, v.in-Refused.is)
-    (wrote_printed _ _ (rw o.number.ensures at o.print_counted.ensures) (omega (arith, s.requires)))
+    rw (judged-text (goal.at.returns-in-Refused c).After-check_log-verdict, c.in-Refused.is)
+    (wrote_printed _ _ (rw c.number.ensures at c.print_counted.ensures) (omega (arith, c.requires)))

@@ -18,21 +18,17 @@ spell-requires c = simp length-set (omega (arith, c.digit_count-k.ensures.1))
 
 pub shape_of-out : goal.shape_of-out
 shape_of-out c =
-    let p = c.before.before in
-    p.spell.auto.0 ∙ simp length-set
+    c.spell.auto.0 ∙ simp length-set
 
 pub returns : goal.returns
 unfolding place_text decimal
 returns c =
-    let p = c.before.before in
-    let d = p.before.before in
-    let s = d.before.before in
-    let l = s.args.out.now in
-    let at = s.args.at in
-    let n = s.args.place in
-    let k = d.digit_count-k.ensures in
+    let l = c.args.out.now in
+    let at = c.args.at in
+    let n = c.args.place in
+    let k = c.digit_count-k.ensures in
     let size = length_decimal n in (
-      p.spell.ensures
+      c.spell.ensures
           ∙ ap (λ (j : ℕ). overlay (set l at space) (at + 1) (digits j n)) k.0
           ∙ byte_then l at space (decimal n) (omega arith),
       (omega arith, omega arith),

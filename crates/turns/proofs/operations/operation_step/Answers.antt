@@ -19,66 +19,40 @@ get-k-requires c =
 
 pub overflow_add-p-2 : goal.overflow_add-p-2
 overflow_add-p-2 c =
-    let start = c.before.before.before.before in
-    let b = placed start.requires.0 _ start.requires.1.0 in omega (arith, start.requires.1.1.0)
+    let b = placed c.requires.0 _ c.requires.1.0 in omega (arith, c.requires.1.1.0)
 
 pub put-requires : goal.put-requires
 put-requires c =
-    let start = c.before.before.before.before in
-    let b = placed start.requires.0 _ start.requires.1.0 in omega (arith, start.requires.1.1.0)
+    let b = placed c.requires.0 _ c.requires.1.0 in omega (arith, c.requires.1.1.0)
 
 pub lookup_step-requires : goal.lookup_step-requires
 lookup_step-requires c =
-    let start = c.before.before.before.before.before.before.before.before.before.before in
-    let b = placed start.requires.0 _ start.requires.1.0 in
-    (rw c.settings_of.ensures (search rules), (omega (arith, start.requires.1.1.0), search rules))
+    let b = placed c.requires.0 _ c.requires.1.0 in
+    (rw c.settings_of.ensures (search rules), (omega (arith, c.requires.1.1.0), search rules))
 
 pub returns-then-kind-eq-KIND_LOOKUP : goal.returns-then-kind-eq-KIND_LOOKUP
 returns-then-kind-eq-KIND_LOOKUP c =
-    let lookup-step = c.before.before in
-    let settings-of = lookup-step.before in
-    let test = settings-of.before.before in
-    let put = test.before.before.before in
-    let get = put.before.before in
-    let start = get.before.before.before in
-    operation_lookup _ _ _ _ _ _ _ _ start.requires.1.1.1 (ap (λ (x : ℕ). x % steps_range) get.get-k.ensures) put.put.ensures
-    test.if-kind-eq-KIND_LOOKUP.true (rw settings-of.settings_of.ensures at lookup-step.lookup_step.ensures)
+    operation_lookup _ _ _ _ _ _ _ _ c.requires.1.1.1 (ap (λ (x : ℕ). x % steps_range) c.get-k.ensures) c.put.ensures
+    c.if-kind-eq-KIND_LOOKUP.true (rw c.settings_of.ensures at c.lookup_step.ensures)
 
 pub overflow_mul-settings_of : goal.overflow_mul-settings_of
 overflow_mul-settings_of c =
-    let settings_of2 = c.before in
-    let start = settings_of2.before.before.before.before.before.before.before.before.before in
-    omega (arith, start.requires.0.workers, ap (λ (s : Settings). s.workers) settings_of2.settings_of2.ensures)
+    omega (arith, c.requires.0.workers, ap (λ (s : Settings). s.workers) c.settings_of-2.ensures)
 
 pub overflow_add-settings_of : goal.overflow_add-settings_of
 overflow_add-settings_of c =
-    let settings_of2 = c.before in
-    let start = settings_of2.before.before.before.before.before.before.before.before.before in
-    omega (arith, start.requires.0.workers, ap (λ (s : Settings). s.workers) settings_of2.settings_of2.ensures)
+    omega (arith, c.requires.0.workers, ap (λ (s : Settings). s.workers) c.settings_of-2.ensures)
 
 pub early_step-requires : goal.early_step-requires
 early_step-requires c =
-    let test2 = c.before in
-    let settings_of2 = test2.before.before in
-    let start = settings_of2.before.before.before.before.before.before.before.before.before in
-    (search rules, (start.requires.1.0, rw settings_of2.settings_of2.ensures at test2.if-k-settings_of.true))
+    (search rules, (c.requires.1.0, rw c.settings_of-2.ensures at c.if-k-settings_of.true))
 
 pub returns-then-k-settings_of : goal.returns-then-k-settings_of
 returns-then-k-settings_of c =
-    let early-step = c.before.before in
-    let test = early-step.before.before.before.before.before in
-    let put = test.before.before.before in
-    let get = put.before.before in
-    let start = get.before.before.before in
-    operation_update _ _ _ _ _ _ _ _ start.requires.1.1.1 (ap (λ (x : ℕ). x % steps_range) get.get-k.ensures) put.put.ensures
-    test.if-kind-eq-KIND_LOOKUP.false (rw (← start.requires.1.1.0) at early-step.early_step.ensures)
+    operation_update _ _ _ _ _ _ _ _ c.requires.1.1.1 (ap (λ (x : ℕ). x % steps_range) c.get-k.ensures) c.put.ensures
+    c.if-kind-eq-KIND_LOOKUP.false (rw (← c.requires.1.1.0) at c.early_step.ensures)
 
 pub returns : goal.returns
 returns c =
-    let update-step = c.before.before in
-    let test = update-step.before.before.before.before.before in
-    let put = test.before.before.before in
-    let get = put.before.before in
-    let start = get.before.before.before in
-    operation_update _ _ _ _ _ _ _ _ start.requires.1.1.1 (ap (λ (x : ℕ). x % steps_range) get.get-k.ensures) put.put.ensures
-    test.if-kind-eq-KIND_LOOKUP.false (rw (← start.requires.1.1.0) at update-step.update_step.ensures)
+    operation_update _ _ _ _ _ _ _ _ c.requires.1.1.1 (ap (λ (x : ℕ). x % steps_range) c.get-k.ensures) c.put.ensures
+    c.if-kind-eq-KIND_LOOKUP.false (rw (← c.requires.1.1.0) at c.update_step.ensures)

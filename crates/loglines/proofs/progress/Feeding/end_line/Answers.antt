@@ -10,9 +10,8 @@ use Rattle.loglines.proofs.progress.Feeding.end_line.Goals as goal
 pub returns-then-all-len : goal.returns-then-all-len
 unfolding line_in
 returns-then-all-len c =
-    let s = c.before.before.before.before.before.before in
-    let l = s.args.self.line in
-    c.read.ensures ∙ ap (with_line s.args.self.progress) (sym (take_all l.len l.bytes (omega arith)))
+    let l = c.args.self.line in
+    c.read.ensures ∙ ap (with_line c.args.self.progress) (sym (take_all l.len l.bytes (omega arith)))
 
 pub slice_bounds-read-end : goal.slice_bounds-read-end
 slice_bounds-read-end c = sym (length-take-le _ _ (omega arith))

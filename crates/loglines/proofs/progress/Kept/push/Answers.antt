@@ -18,12 +18,10 @@ returns-then-filled c = rw (lt-leb (c.args.self.filled + 8) kept_words (omega ar
 pub returns : goal.returns
 unfolding kept_with if◌then◌else◌
 returns c =
-    let g = c.before.before.before.before.before in
-    rw (le-leb (g.args.self.filled + 8) kept_words (omega arith), c.store.ensures)
+    rw (le-leb (c.args.self.filled + 8) kept_words (omega arith), c.store.ensures)
 
 pub store-requires : goal.store-requires
 store-requires c =
-    let s = c.before.before.before.before in
-    let all : length s.args.self.words ≡ kept_words = search rules in
-    let row : length s.args.t2 ≡ operation_words = search rules in
+    let all : length c.args.self.words ≡ kept_words = search rules in
+    let row : length c.args.t2 ≡ operation_words = search rules in
     omega arith

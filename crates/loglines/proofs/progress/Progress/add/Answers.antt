@@ -14,5 +14,4 @@ returns-then-not-row c = rw (not-true c.args.row.read c.if-not-row.true, c.next_
 pub returns : goal.returns
 unfolding with_operation row_of if◌then◌else◌
 returns c =
-    let g = c.before.before.before in
-    rw (not-false g.args.row.read g.if-not-row.false, g.next_line.ensures, c.push.ensures)
+    rw (not-false c.args.row.read c.if-not-row.false, c.next_line.ensures, c.push.ensures)

@@ -13,14 +13,12 @@ returns-then-self c = rw c.if-self.true
 
 pub returns-then-self-eq0 : goal.returns-then-self-eq0
 returns-then-self-eq0 c =
-    let t = c.before.before in
     c.settle.ensures
     ∙ ap (with_settings _) c.read_settings.ensures
-    ∙ first_line _ _ t.if-self.false t.if-self-eq0.true
+    ∙ first_line _ _ c.if-self.false c.if-self-eq0.true
 
 pub returns : goal.returns
 returns c =
-    let t = c.before.before in
     c.add.ensures
     ∙ ap (with_operation _) c.read_operation.ensures
-    ∙ later_line _ _ t.if-self.false t.if-self-eq0.false
+    ∙ later_line _ _ c.if-self.false c.if-self-eq0.false
