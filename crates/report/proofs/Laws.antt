@@ -19,10 +19,12 @@ told_none l xs h = sym (if_false _ _ (lt-leb (length xs) (length l) h))
 
 pub told_one : (l : List ℕ) (x : ℕ) → 1 ≤ length l → set l 0 x ≡ told l (x ∷ [])
 unfolding told overlay
+told_one [] x h = elim h [ ]
 told_one (y ∷ l) x h = sym (if_true _ _ (le-leb 1 (length (y ∷ l)) h))
 
 pub told_two : (l : List ℕ) (x y : ℕ) → 2 ≤ length l → set (set l 0 x) 1 y ≡ told l (x ∷ y ∷ [])
 unfolding told overlay
+told_two [] x y h = elim h [ ]
 told_two (a ∷ []) x y h = absurd (omega arith)
 told_two (a ∷ b ∷ l) x y h = sym (if_true _ _ (le-leb 2 (length (a ∷ b ∷ l)) h))
 
@@ -34,6 +36,7 @@ three_short l x y z h = sym (if_false _ _ (lt-leb 3 (length l) h))
 
 pub three_told : (l : List ℕ) (x y z : ℕ) → 3 ≤ length l → set (set (set l 0 x) 1 y) 2 z ≡ told_three l x y z
 unfolding told told_three overlay
+three_told [] x y z h = elim h [ ]
 three_told (a ∷ []) x y z h = absurd (omega arith)
 three_told (a ∷ b ∷ []) x y z h = absurd (omega arith)
 three_told (a ∷ b ∷ d ∷ l) x y z h =

@@ -43,7 +43,7 @@ pub spell-requires-else-d : goal.spell-requires-else-d
 spell-requires-else-d c = let e = above_size (goal.at.spell-requires-else-d c).Else-d in omega (arith, c.requires)
 
 pub shape_of-out-then-d : goal.shape_of-out-then-d
-shape_of-out-then-d c = c.spell.auto.0 ∙ simp length-set
+shape_of-out-then-d c = c.spell.auto.out ∙ simp length-set
 
 pub returns-then-d : goal.returns-then-d
 returns-then-d c =

@@ -15,8 +15,8 @@ begun c = let s = c.args in start s.words.now s.g s.q s.c c.requires
 pub overflow_add-end : goal.overflow_add-end
 overflow_add-end c = let h = (begun c).behind in omega arith
 
--- DROPPED part-scan-end : tie.Need-slice-bounds-scan-end
--- DROPPED part-scan-end c = let h = (begun c).behind in omega arith
+pub slice_bounds-scan-end : goal.slice_bounds-scan-end
+slice_bounds-scan-end c = let h = (begun c).behind in omega arith
 
 pub scan-requires : goal.scan-requires
 scan-requires c = let h = (begun (goal.at.scan-requires c).After-shared_slice_known-1).few in rw length-take (omega arith)

@@ -42,8 +42,8 @@ overflow_add-end c = let h = few c in omega arith
 pub offset_bounds-words-accounts : goal.offset_bounds-words-accounts
 offset_bounds-words-accounts c = let h = few c in omega arith
 
--- DROPPED part-scan-end : tie.Need-slice-bounds-scan-end
--- DROPPED part-scan-end c = let h = few c in omega arith
+pub slice_bounds-scan-end : goal.slice_bounds-scan-end
+slice_bounds-scan-end c = let h = few c in omega arith
 
 pub scan-requires : goal.scan-requires
 scan-requires c = let h = few (goal.at.scan-requires c).After-size-c in rw length-take (omega arith)

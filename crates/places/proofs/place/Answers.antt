@@ -6,4 +6,4 @@ use Rattle.machine.proofs.laws.Places.{place_below}
 use Rattle.places.proofs.place.Goals as goal
 
 pub overflow_cast-result : goal.overflow_cast-result
-overflow_cast-result c = omega (arith, c.IsPlace-in.ensures, place_below c.args.account)
+overflow_cast-result c = omega (arith, c.place_in.ensures, place_below c.args.account)

@@ -34,7 +34,7 @@ returns-in-Absent c = search rules
 pub returns-in-Found : goal.returns-in-Found
 unfolding total_word word_or0 answer_total
 returns-in-Found c =
-    let at_answer = c.answer.given in
+    let z = c.in-Found.field-0 in ?
     rw at_answer.1 (kept at_answer.0.0 (record { sfits = c.known-told.given.0.1 }) c.word_of.ensures)
 
 pub returns-in-None : goal.returns-in-None

@@ -16,4 +16,4 @@ unfolding first_bits
 returns c =
     let rest : c.if-d-lt32.rest ≡ 32 - c.args.d =
     ⊎_elim (λ w. omega arith) (λ w. omega arith) c.if-d-lt32.either in
-    rw (rest, c.IsPlace-in.ensures)
+    rw (rest, c.place_in.ensures)

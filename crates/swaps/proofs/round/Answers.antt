@@ -42,8 +42,8 @@ overflow_add-to c = let b = own c in omega arith
 pub offset_bounds-words-from : goal.offset_bounds-words-from
 offset_bounds-words-from c = let b = own c in omega arith
 
--- DROPPED part-round-end : tie.Need-slice-bounds-round-end
--- DROPPED part-round-end c = let b = own c.before in omega arith
+pub slice_bounds-round-end : goal.slice_bounds-round-end
+slice_bounds-round-end c = let b = own (goal.at.slice_bounds-round-end c).After-worker_at-from in omega arith
 
 pub store_state-requires : goal.store_state-requires
 store_state-requires c =

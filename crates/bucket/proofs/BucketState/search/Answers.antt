@@ -15,11 +15,11 @@ use Rattle.bucket.proofs.BucketState.search.Goals.{After-size-n}
 few : (c : After-size-n) → c.size-n.result ≤ array_size
 few c = rw c.size-n.ensures (size_limit _)
 
--- DROPPED part-scan-end : tie.Need-slice-bounds-scan-end
--- DROPPED part-scan-end c =
--- DROPPED     let h = few c.before in
--- DROPPED     let long : length c.before.before.before.args.self.accounts ≡ array_size = search rules in
--- DROPPED     omega arith
+pub slice_bounds-scan-end : goal.slice_bounds-scan-end
+slice_bounds-scan-end c =
+    let h = few (goal.at.slice_bounds-scan-end c).After-size-n in
+    let long : length c.args.self.accounts ≡ array_size = search rules in
+    omega arith
 
 pub scan-requires : goal.scan-requires
 scan-requires c = let h = few (goal.at.scan-requires c).After-size-n in rw length-take (omega arith)
