@@ -34,8 +34,8 @@ returns-in-Absent c = search rules
 pub returns-in-Found : goal.returns-in-Found
 unfolding total_word word_or0 answer_total
 returns-in-Found c =
-    let z = c.in-Found.field-0 in ?
-    rw at_answer.1 (kept at_answer.0.0 (record { sfits = c.known-told.given.0.1 }) c.word_of.ensures)
+    let fits : SFits w64 c.in-Found.total = search rules in
+    rw c.in-Found.is (kept c.in-Found.total fits c.word_of.ensures)
 
 pub returns-in-None : goal.returns-in-None
 unfolding total_word word_or0 answer_total
@@ -44,8 +44,8 @@ returns-in-None c = search rules
 pub returns-in-Posted : goal.returns-in-Posted
 unfolding total_word word_or0 answer_total
 returns-in-Posted c =
-    let at_answer = c.answer2.given in
-    rw at_answer.1 (kept at_answer.0.0 (record { sfits = c.known-told2.given.0.1 }) c.word_of-in-Posted.ensures)
+    let fits : SFits w64 c.in-Posted.total = search rules in
+    rw c.in-Posted.is (kept c.in-Posted.total fits c.word_of-in-Posted.ensures)
 
 pub returns-in-Crowded : goal.returns-in-Crowded
 unfolding total_word word_or0 answer_total
