@@ -11,6 +11,7 @@ use Rattle.layout.proofs.Positions.{Placed, placed}
 use Rattle.calls.proofs.CallLaws.{call_busy, call_kind, call_lookup, call_spent, call_update}
 use borrow.Author.Rules.{rules}
 use Rattle.calls.proofs.call_in.Goals as goal
+use Rattle.calls.proofs.call_in.Goals.{else-kind-eq-KIND_DELETE, then-kind-eq-KIND_DELETE}
 use Rattle.calls.proofs.call_in.Goals.{After-worker_at-p}
 
 -- the worker's record lies inside the words
@@ -57,11 +58,9 @@ returns-then-last-ge-GREATEST_TICKET c =
 
 pub returns : goal.returns
 returns c =
-    let word =
-    ⊎_elim (λ w. w.1 ∙ sym (if_eq _ _ _ _ w.0.taken))
-    (λ w. w.2 ∙ w.1.ensures ∙ ap (of_z w64) (to_z-of_z c.ranges.total) ∙ sym (if_ne _ _ _ _ w.0.left))
-    c.if-kind-eq-KIND_DELETE.either in
     rw (← c.worker_at-p.ensures)
     (call_update _ _ _ _ _ _ c.get.ensures c.if-get-ne-KIND_NONE.false c.if-kind-lt-KIND_INSERT.false c.if-kind-gt-GREATEST_KIND.false _ c.get-last.ensures
     c.if-kind-eq-KIND_LOOKUP.false
-    _ _ c.if-last-ge-GREATEST_TICKET.false word (rw c.worker_at-p.ensures c.begin-2.ensures))
+    _ _ c.if-last-ge-GREATEST_TICKET.false
+    (elim c.if-kind-eq-KIND_DELETE.branch [ then-kind-eq-KIND_DELETE w ↦ w.total-is ∙ sym (if_eq _ _ _ _ w.if-kind-eq-KIND_DELETE.true) | else-kind-eq-KIND_DELETE w ↦ w.total-is ∙ w.word_of-total.ensures ∙ ap (of_z w64) (to_z-of_z c.ranges.total) ∙ sym (if_ne _ _ _ _ w.if-kind-eq-KIND_DELETE.false) ])
+    (rw c.worker_at-p.ensures c.begin-2.ensures))

@@ -49,19 +49,19 @@ bounds-accounts-at c = let h = room c in omega arith
 pub offset_bounds-totals-at : goal.offset_bounds-totals-at
 offset_bounds-totals-at c =
     let h = room (goal.at.offset_bounds-totals-at c).Then-first_bits-e in
-    let long = c.well-formed.1.1.1.1.1.0 in
+    let long = c.well_formed.1.1.1.1.1.0 in
     omega arith
 
 pub bounds-totals-at : goal.bounds-totals-at
 bounds-totals-at c =
     let h = room (goal.at.bounds-totals-at c).Then-first_bits-e in
-    let long = c.well-formed.1.1.1.1.1.0 in
+    let long = c.well_formed.1.1.1.1.1.0 in
     omega arith
 
 pub overflow_add-at : goal.overflow_add-at
 overflow_add-at c =
     let h = room (goal.at.overflow_add-at c).Then-first_bits-e in
-    let long = c.well-formed.1.1.1.1.1.0 in
+    let long = c.well_formed.1.1.1.1.1.0 in
     omega arith
 
 pub loop-i-preserved : goal.loop-i-preserved

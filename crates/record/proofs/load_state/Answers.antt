@@ -16,43 +16,43 @@ use Rattle.record.proofs.load_state.Goals.{In-loop-i, In-loop-j, Start}
 
 -- the record inside the words
 room :
-    (c : Start2 goal.the-decreases-loop-j) → let s = c.args in Room s.q s.b s.n (length s.words.now)
-room c = record { inside = c.requires.0; low = c.well-formed.0.1; capacity = c.requires.1.0; workers = c.requires.1.1 }
+    (c : Start) → let s = c.args in Room s.q s.b s.n (length s.words.now)
+room c = record { inside = c.requires.0; low = c.well_formed.0.1; capacity = c.requires.1.0; workers = c.requires.1.1 }
 
 -- the addresses of a word before the arrays, of an account and its total, of a worker's ticket and answer, and of the answer's total
 counted :
-    (c : Start2 goal.the-decreases-loop-j) → let s = c.args in Addressed (length s.words.now) (s.q + record_count)
+    (c : Start) → let s = c.args in Addressed (length s.words.now) (s.q + record_count)
 counted c = addressed (room c) record_count (omega arith)
 
 marked :
-    (c : Start2 goal.the-decreases-loop-j) → let s = c.args in Addressed (length s.words.now) (s.q + record_applied)
+    (c : Start) → let s = c.args in Addressed (length s.words.now) (s.q + record_applied)
 marked c = addressed (room c) record_applied (omega arith)
 
 account :
-    (c : In-loop-i2 goal.the-decreases-loop-j) → let s = c.args in
+    (c : In-loop-i) → let s = c.args in
     Pair s.q (accounts_from s.q) (totals_from s.q s.b) c.loop-i.i
 account c =
     accounts_pair _ _ _ _ _ _ (room (goal.at.In-loop-i c).Start) c.loop-i-test.true c.loop-i.invariant.1.0
 
 worker :
-    (c : In-loop-j2 goal.the-decreases-loop-j)
+    (c : In-loop-j)
     → let s = c.args in
     Pair s.q (settled_from s.q s.b) (answers_from s.q s.b s.n) c.loop-j.j
 worker c = workers_pair _ _ _ _ _ (room (goal.at.In-loop-j c).Start) c.loop-j-test.true
 
 total :
-    (c : In-loop-j2 goal.the-decreases-loop-j)
+    (c : In-loop-j)
     → let s = c.args in
     Pair s.q (answers_from s.q s.b s.n) (posted_from s.q s.b s.n) c.loop-j.j
 total c = posted_pair _ _ _ _ _ (room (goal.at.In-loop-j c).Start) c.loop-j-test.true
 
 -- an address in the record is inside the words
 account_inside :
-    (c : In-loop-i2 goal.the-decreases-loop-j) → (k : ℕ) → k < c.args.q + widest_record → k < length c.args.words.now
+    (c : In-loop-i) → (k : ℕ) → k < c.args.q + widest_record → k < length c.args.words.now
 account_inside c k h = le_trans h c.requires.0
 
 worker_inside :
-    (c : In-loop-j2 goal.the-decreases-loop-j) → (k : ℕ) → k < c.args.q + widest_record → k < length c.args.words.now
+    (c : In-loop-j) → (k : ℕ) → k < c.args.q + widest_record → k < length c.args.words.now
 worker_inside c k h = le_trans h c.requires.0
 
 pub loop-i-init : goal.loop-i-init

@@ -19,9 +19,9 @@ use Rattle.storing.proofs.store_state.Goals as goal
 use Rattle.storing.proofs.store_state.Goals.{After-least-c, After-loop-j, In-loop-i, In-loop-j, Start}
 
 -- the arrays of the state passed have their items
-sized : (c : Start2 goal.the-decreases-loop-j) → Sized c.args.t5
+sized : (c : Start) → Sized c.args.t5
 sized c =
-    let known = c.well-formed.1.1.1.1.0.1.1 in
+    let known = c.well_formed.1.1.1.1.0.1.1 in
     record {
       accounts = sym (length-map c.args.t5.accounts (λ x. x)) ∙ known.0.1.0.1;
       totals = sym (length-map c.args.t5.totals (λ x. x)) ∙ known.1.0.1.0.1;
@@ -32,29 +32,29 @@ sized c =
 
 -- the record inside the words
 room :
-    (c : Start2 goal.the-decreases-loop-j) → let s = c.args in Room s.q s.b s.n (length s.words.now)
-room c = record { inside = c.requires.0; low = c.well-formed.0.1; capacity = c.requires.1.0; workers = c.requires.1.1 }
+    (c : Start) → let s = c.args in Room s.q s.b s.n (length s.words.now)
+room c = record { inside = c.requires.0; low = c.well_formed.0.1; capacity = c.requires.1.0; workers = c.requires.1.1 }
 
 -- the address of the count
 counted :
-    (c : After-least-c2 goal.the-decreases-loop-j) → let s = c.args in
+    (c : After-least-c) → let s = c.args in
     Addressed (length s.words.now) (s.q + record_count)
 counted c = addressed (room (goal.at.After-least-c c).Start) record_count (omega arith)
 
 -- the addresses of an account and its total, of a worker's ticket and answer, and of the answer's total
 account :
-    (c : In-loop-i2 goal.the-decreases-loop-j) → let s = c.args in
+    (c : In-loop-i) → let s = c.args in
     Pair s.q (accounts_from s.q) (totals_from s.q s.b) c.loop-i.i
 account c =
     accounts_pair _ _ _ _ _ _ (room (goal.at.In-loop-i c).Start) c.loop-i-test.true c.loop-i.invariant.1.0
 
 worker :
-    (c : In-loop-j2 goal.the-decreases-loop-j) → let s = c.args in
+    (c : In-loop-j) → let s = c.args in
     Pair s.q (settled_from s.q s.b) (answers_from s.q s.b s.n) c.loop-j.j
 worker c = workers_pair _ _ _ _ _ (room (goal.at.In-loop-j c).Start) c.loop-j-test.true
 
 total :
-    (c : In-loop-j2 goal.the-decreases-loop-j) → let s = c.args in
+    (c : In-loop-j) → let s = c.args in
     Pair s.q (answers_from s.q s.b s.n) (posted_from s.q s.b s.n) c.loop-j.j
 total c = posted_pair _ _ _ _ _ (room (goal.at.In-loop-j c).Start) c.loop-j-test.true
 
@@ -111,7 +111,7 @@ loop-j-preserved c =
     )
 
 whole :
-    (c : After-loop-j2 goal.the-decreases-loop-j) → let s = c.args in
+    (c : After-loop-j) → let s = c.args in
     c.loop-j.words ≡ stored_state s.words.now s.q s.b s.n s.t5
 whole c =
     let first = rw (le_antisymm c.loop-i.invariant.0 c.loop-i-test.false) at c.loop-i.invariant.1.1.1 in
