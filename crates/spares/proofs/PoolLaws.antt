@@ -153,7 +153,7 @@ module _ (l : List ℕ) (s : Settings) where
   from_below r zero h = h
   from_below r (suc k) h =
       if_elim (λ (x : ℕ). x < pool_size s) (used_at l s r) _ r
-      (λ e. from_below _ k (if_elim (λ (x : ℕ). x < pool_size s) (ltb (suc r) (pool_size s)) (suc r) 0 (ltb-true (suc r) (pool_size s))
+      (λ e. from_below (if ltb (suc r) (pool_size s) then suc r else 0) k (if_elim (λ (x : ℕ). x < pool_size s) (ltb (suc r) (pool_size s)) (suc r) 0 (ltb-true (suc r) (pool_size s))
       (λ b. omega arith)))
       (λ e. h)
 

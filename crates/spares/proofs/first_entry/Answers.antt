@@ -9,6 +9,7 @@ use borrow.Author.Rules.{rules}
 use Rattle.rules.proofs.Bits.{shift_one}
 use Rattle.spares.proofs.PoolLaws.{entry_is, width_one, entry_product}
 use Rattle.spares.proofs.first_entry.Goals as goal
+use Rattle.spares.proofs.first_entry.Goals.{else-d-g, then-d-g}
 use Rattle.spares.proofs.first_entry.Goals.{After-row_known-1}
 
 pub nonzero_rem-result : goal.nonzero_rem-result
@@ -17,7 +18,7 @@ nonzero_rem-result c =
 
 width_is :
     (c : After-row_known-1) → let args = c.args in c.if-d-g.width ≡ 2 ^ (args.g.depth - args.d)
-width_is c = ⊎_elim (λ w. w.2 ∙ shift_one _ (omega arith)) (λ w. w.1 ∙ width_one _ _ w.0.left) c.if-d-g.either
+width_is c = (elim c.if-d-g.branch [ then-d-g w ↦ w.width-is ∙ shift_one _ (omega arith) | else-d-g w ↦ w.width-is ∙ width_one _ _ w.if-d-g.false ])
 
 pub overflow_mul-result : goal.overflow_mul-result
 overflow_mul-result c =

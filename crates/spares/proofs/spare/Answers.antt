@@ -11,6 +11,7 @@ use Rattle.spares.specs.Records.{spare_from, spare_of}
 use Rattle.spares.proofs.PoolLaws.{pool_bound, spare_start, spare_found, spare_up, spare_round, spare_end}
 use Rattle.layout.proofs.Positions.{long}
 use Rattle.spares.proofs.spare.Goals as goal
+use Rattle.spares.proofs.spare.Goals.{else-r-all, then-r-all}
 
 pub pool-all-requires : goal.pool-all-requires
 pool-all-requires c = (c.requires.fits.workers, c.requires.fits.depth)
@@ -52,18 +53,15 @@ loop-k-preserved c =
     let full = sym c.used.ensures ∙ c.if-not-used.false in
     let search_from : ℕ → ℕ = λ (r : ℕ). spare_from c.args.words.now
     c.args.g r (c.loop-k.k - 1) in
-    ⊎_elim
-    (λ w. (
+    (elim c.if-r-all.branch [ then-r-all w ↦ (
       omega arith,
-      ap search_from w.1 ∙ spare_up _ _ _ _ c.loop-k-test.true full (omega (arith, w.0.taken))
+      ap search_from w.r-is ∙ spare_up _ _ _ _ c.loop-k-test.true full (omega (arith, w.if-r-all.true))
           ∙ c.loop-k.invariant.1,
-    ))
-    (λ w. (
+    ) | else-r-all w ↦ (
       omega arith,
-      ap search_from w.1 ∙ spare_round _ _ _ _ c.loop-k-test.true full (omega (arith, w.0.left))
+      ap search_from w.r-is ∙ spare_round _ _ _ _ c.loop-k-test.true full (omega (arith, w.if-r-all.false))
           ∙ c.loop-k.invariant.1,
-    ))
-    c.if-r-all.either
+    ) ])
 
 pub returns : goal.returns
 returns c = sym (spare_end _ _ _ _ c.loop-k-test.false) ∙ c.loop-k.invariant.1

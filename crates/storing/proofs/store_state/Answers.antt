@@ -19,15 +19,14 @@ use Rattle.storing.proofs.store_state.Goals as goal
 use Rattle.storing.proofs.store_state.Goals.{After-least-c, After-loop-j, In-loop-i, In-loop-j, Start}
 
 -- the arrays of the state passed have their items
-sized : (c : Start) → Sized c.args.t5
+sized : (c : Start) → Sized c.args.s
 sized c =
-    let known = c.well_formed.1.1.1.1.0.1.1 in
     record {
-      accounts = sym (length-map c.args.t5.accounts (λ x. x)) ∙ known.0.1.0.1;
-      totals = sym (length-map c.args.t5.totals (λ x. x)) ∙ known.1.0.1.0.1;
-      settled = sym (length-map c.args.t5.settled (λ x. x)) ∙ known.1.1.0.1.0.1;
-      answers = sym (length-map c.args.t5.answers (λ x. x)) ∙ known.1.1.1.0.1.0.1;
-      posted = sym (length-map c.args.t5.posted (λ x. x)) ∙ known.1.1.1.1.0.1.0.1;
+      accounts = search rules;
+      totals = search rules;
+      settled = search rules;
+      answers = search rules;
+      posted = search rules;
     }
 
 -- the record inside the words
@@ -112,7 +111,7 @@ loop-j-preserved c =
 
 whole :
     (c : After-loop-j) → let s = c.args in
-    c.loop-j.words ≡ stored_state s.words.now s.q s.b s.n s.t5
+    c.loop-j.words ≡ stored_state s.words.now s.q s.b s.n s.s
 whole c =
     let first = rw (le_antisymm c.loop-i.invariant.0 c.loop-i-test.false) at c.loop-i.invariant.1.1.1 in
     let second = rw (le_antisymm c.loop-j.invariant.0 c.loop-j-test.false) at c.loop-j.invariant.1.1 in
