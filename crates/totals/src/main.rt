@@ -1,11 +1,12 @@
 // The program `totals`: lines from standard input, what they are met with to standard output. What a line is met with
 // is the business of the crate driver; here are the lent words and lists, and reading and writing.
 #![tactic(auto)]
+
 ghost use Rattle.std.specs.Prelude.{◌≤◌, length};
 ghost use Rattle.outputs.specs.Room.{longest};
 
-use libc::{STDIN_FILENO, STDOUT_FILENO};
 use lines::Reader;
+use std::io::{Read, Stdin};
 
 // The reader of the line that is not ended yet, and whether to go on.
 #[derive(Clone, Copy)]
@@ -15,17 +16,20 @@ struct Progress {
 }
 
 // Writes all bytes to standard output, or says on standard error why not.
-fn write(bytes: &[u8]) -> bool {
-    if io::write_all(STDOUT_FILENO, bytes) {
-        return true;
+fn write(rt: &(impl Print + Eprint), bytes: &[u8]) -> bool {
+    match rt.write_all(bytes) {
+        Ok(()) => true,
+        Err(error) => {
+            let _ = eprintln!(rt; "write: {error}");
+            false
+        }
     }
-    os::fail(b"write");
-    false
 }
 
 // Answers a block of input, a part at a time, so that the output always has room; the output of each part is written at
 // once.
 fn take(
+    rt: &(impl Print + Eprint),
     words: &mut [u64],
     accounts: &mut [u32],
     totals: &mut [i64],
@@ -41,7 +45,7 @@ fn take(
         let fed = driver::feed(words, accounts, totals, out, reader, &block[from..]);
         reader = fed.reader;
         let used = fed.used;
-        if !write(&out[..used]) {
+        if !write(rt, &out[..used]) {
             return Progress {
                 reader,
                 more: false,
@@ -54,6 +58,8 @@ fn take(
 
 // Reads once, and answers what came. The end of the input ends a line that has no line feed.
 fn turn(
+    rt: &(impl Print + Eprint),
+    mut stdin: Stdin,
     words: &mut [u64],
     accounts: &mut [u32],
     totals: &mut [i64],
@@ -63,30 +69,31 @@ fn turn(
 ) -> Progress
     requires { longest ≤ length out.old }
 {
-    let got = libc::read(STDIN_FILENO, block);
-    if got < 0 {
-        os::fail(b"read");
-        return Progress {
-            reader,
-            more: false,
-        };
-    }
-    if got == 0 {
-        if !reader.empty() {
-            take(words, accounts, totals, out, reader, b"\n");
+    match stdin.read(block) {
+        Err(error) => {
+            let _ = eprintln!(rt; "read: {error}");
+            Progress {
+                reader,
+                more: false,
+            }
         }
-        return Progress {
-            reader,
-            more: false,
-        };
+        Ok(0) => {
+            if !reader.empty() {
+                take(rt, words, accounts, totals, out, reader, b"\n");
+            }
+            Progress {
+                reader,
+                more: false,
+            }
+        }
+        Ok(n) => take(rt, words, accounts, totals, out, reader, &block[..n]),
     }
-    let n = io::count(got, block);
-    take(words, accounts, totals, out, reader, &block[..n])
 }
 
-// A proved loop has to end, and nothing says that the input does. So the loop counts its turns down, from a number that
-// no run uses up.
+// A proved loop has to end, and nothing says that the input does. So the loop has a number of turns that no run uses up.
 fn serve(
+    rt: &(impl Print + Eprint),
+    stdin: Stdin,
     words: &mut [u64],
     accounts: &mut [u32],
     totals: &mut [i64],
@@ -96,23 +103,29 @@ fn serve(
     requires { longest ≤ length out.old }
 {
     let mut reader = Reader::new();
-    let mut turns = u64::MAX;
-    while 0 < turns {
-        let next = turn(words, accounts, totals, out, block, reader);
+    for _ in 0..u64::MAX {
+        let next = turn(rt, stdin, words, accounts, totals, out, block, reader);
         if !next.more {
             return;
         }
         reader = next.reader;
-        turns -= 1;
     }
 }
 
 // The words are all 0 at first; the output has room for the longest text twice.
-fn main() {
+fn main(rt: HostRuntime) {
     let mut words = [0u64; 8192];
     let mut accounts = [0u32; 4096];
     let mut totals = [0i64; 4096];
     let mut out = [0u8; 262144];
     let mut block = [0u8; 65536];
-    serve(&mut words, &mut accounts, &mut totals, &mut out, &mut block);
+    serve(
+        &rt,
+        rt.stdin(),
+        &mut words,
+        &mut accounts,
+        &mut totals,
+        &mut out,
+        &mut block,
+    );
 }
