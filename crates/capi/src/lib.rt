@@ -1,7 +1,8 @@
-// The calls of `table`, and the judgement of a log, as flat C functions: a slice is a pointer and a length, an answer
-// is a number, and what does not fit into the number goes into a report, both by crate numbers. Each takes any words
-// and any arguments; its contract is an equality with a definition. include/totals.h declares them.
+// The calls of `table`, and the judgement of a log, as flat functions for C: an answer is a number, and what does not fit
+// into the number goes into a report, both by crate numbers. Each takes any words and any arguments; its contract is an
+// equality with a definition. Crate capi_c exports them to C.
 #![tactic(auto)]
+
 ghost use Rattle.std.specs.Prelude.{◌≡◌};
 ghost use Rattle.interface.specs.Limits.{built};
 ghost use Rattle.machine.specs.Sequential.{place, account_at};
@@ -18,8 +19,7 @@ use numbers::{
 };
 
 // How many words a table of these settings needs, or 1 for wrong settings.
-#[unsafe(no_mangle)]
-pub extern "C" fn totals_words_needed(workers: u64, capacity: u64, depth: u64) -> u64
+pub fn totals_words_needed(workers: u64, capacity: u64, depth: u64) -> u64
     ensures { result ≡ needed_number (needed_for (built workers capacity depth)) }
 {
     let answer = table::words_needed(workers, capacity, depth);
@@ -27,8 +27,7 @@ pub extern "C" fn totals_words_needed(workers: u64, capacity: u64, depth: u64) -
 }
 
 // A fresh table: 0, or 1, 2.
-#[unsafe(no_mangle)]
-pub extern "C" fn totals_open(words: &mut [u64], workers: u64, capacity: u64, depth: u64) -> u64
+pub fn totals_open(words: &mut [u64], workers: u64, capacity: u64, depth: u64) -> u64
     ensures { (words.new, result)
         ≡ flat opened_number (open_words words.old workers capacity depth) }
 {
@@ -37,14 +36,7 @@ pub extern "C" fn totals_open(words: &mut [u64], workers: u64, capacity: u64, de
 }
 
 // An operation handed to a worker: 0, or 8, 3, 4, 6, 7.
-#[unsafe(no_mangle)]
-pub extern "C" fn totals_call(
-    words: &mut [u64],
-    worker: u64,
-    kind: u64,
-    account: u32,
-    total: i64,
-) -> u64
+pub fn totals_call(words: &mut [u64], worker: u64, kind: u64, account: u32, total: i64) -> u64
     ensures { (words.new, result)
         ≡ flat called_number (call_words words.old worker kind account total) }
 {
@@ -53,8 +45,7 @@ pub extern "C" fn totals_call(
 }
 
 // One step of a worker: 0 where its operation goes on, 16 and the answer's number where it ended, or 8, 3, 5.
-#[unsafe(no_mangle)]
-pub extern "C" fn totals_step(words: &mut [u64], worker: u64, report: &mut [u64]) -> u64
+pub fn totals_step(words: &mut [u64], worker: u64, report: &mut [u64]) -> u64
     ensures { record { lent = words.new; report = report.new; number = result }
         ≡ step_left words.old report.old worker }
 {
@@ -64,8 +55,7 @@ pub extern "C" fn totals_step(words: &mut [u64], worker: u64, report: &mut [u64]
 
 // Up to so many steps of a worker, ending early at an answer: as a step, and the steps given are reported where the
 // operation goes on.
-#[unsafe(no_mangle)]
-pub extern "C" fn totals_run(words: &mut [u64], worker: u64, most: u64, report: &mut [u64]) -> u64
+pub fn totals_run(words: &mut [u64], worker: u64, most: u64, report: &mut [u64]) -> u64
     ensures { record { lent = words.new; report = report.new; number = result }
         ≡ run_left words.old report.old worker most }
 {
@@ -74,46 +64,43 @@ pub extern "C" fn totals_run(words: &mut [u64], worker: u64, most: u64, report: 
 }
 
 // The accounts in ascending order with their totals: 0 and the count reported, or 8, 10.
-#[unsafe(no_mangle)]
-pub extern "C" fn totals_list(
+pub fn totals_list(
     words: &[u64],
     accounts: &mut [u32],
     totals: &mut [i64],
     report: &mut [u64],
 ) -> u64
     ensures { record {
-      accounts = accounts.exit.now;
+      accounts = accounts.new;
       totals = totals.new;
       report = report.new;
       number = result;
-    } ≡ list_written words.now accounts.entry.now totals.old report.old }
+    } ≡ list_written words.now accounts.old totals.old report.old }
 {
     let answer = table::listing(words, accounts, totals);
     listed_number(report, answer)
 }
 
 // The accounts in ascending order with the rebates on their totals: 0 and the count reported, or 8, 10.
-#[unsafe(no_mangle)]
-pub extern "C" fn totals_rebates(
+pub fn totals_rebates(
     words: &[u64],
     accounts: &mut [u32],
     rebates: &mut [u64],
     report: &mut [u64],
 ) -> u64
     ensures { record {
-      accounts = accounts.exit.now;
+      accounts = accounts.new;
       rebates = rebates.new;
       report = report.new;
       number = result;
-    } ≡ rebates_written words.now accounts.entry.now rebates.old report.old }
+    } ≡ rebates_written words.now accounts.old rebates.old report.old }
 {
     let answer = table::rebates(words, accounts, rebates);
     listed_number(report, answer)
 }
 
 // The listing as a file of RFC 4180 records: 0 and the bytes written reported, or 8, 10.
-#[unsafe(no_mangle)]
-pub extern "C" fn totals_export(words: &[u64], out: &mut [u8], report: &mut [u64]) -> u64
+pub fn totals_export(words: &[u64], out: &mut [u8], report: &mut [u64]) -> u64
     ensures { record { lent = out.new; report = report.new; number = result }
         ≡ export_left words.now out.old report.old }
 {
@@ -122,24 +109,21 @@ pub extern "C" fn totals_export(words: &[u64], out: &mut [u8], report: &mut [u64
 }
 
 // The rebate on a total.
-#[unsafe(no_mangle)]
-pub extern "C" fn totals_rebate(total: i64) -> u64
+pub fn totals_rebate(total: i64) -> u64
     ensures { result ≡ rebate_on total }
 {
     table::rebate(total)
 }
 
 // The place of an account: those whose places agree in the first bits share a bucket.
-#[unsafe(no_mangle)]
-pub extern "C" fn totals_place(account: u32) -> u32
+pub fn totals_place(account: u32) -> u32
     ensures { result ≡ place account }
 {
     table::place(account)
 }
 
 // The account at a place: the way back, exact in either order.
-#[unsafe(no_mangle)]
-pub extern "C" fn totals_account_at(place: u32) -> u32
+pub fn totals_account_at(place: u32) -> u32
     ensures { result ≡ account_at place }
 {
     table::account_at(place)
@@ -147,8 +131,7 @@ pub extern "C" fn totals_account_at(place: u32) -> u32
 
 // Whether some order explains a log: 0 and the first such order at the start of the list, 16 where none does, or 1, 14,
 // 10.
-#[unsafe(no_mangle)]
-pub extern "C" fn totals_check_log(log: &[u64], capacity: u64, depth: u64, order: &mut [u64]) -> u64
+pub fn totals_check_log(log: &[u64], capacity: u64, depth: u64, order: &mut [u64]) -> u64
     ensures { (order.new, result)
         ≡ flat verdict_number (check_log_words log.now capacity depth order.old) }
 {

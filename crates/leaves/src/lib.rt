@@ -1,6 +1,7 @@
-// The functions on a bucket record behind a C interface, for the comparison under bench/: a record's state is loaded,
-// changed and stored.
+// The functions on a bucket record behind one function, for the comparison under bench/: a record's state is loaded,
+// changed and stored. Crate leaves_c exports it to C.
 #![tactic(auto)]
+
 use arrays::Position;
 use bucket::BucketState;
 use fields::WIDEST_RECORD;
@@ -35,8 +36,7 @@ fn changed(state: BucketState, which: u64, account: u64, total: u64) -> BucketSt
 
 // SEARCH searches the record at q; any other number stores the changed state at `to`. Nothing is done where a record
 // does not fit.
-#[unsafe(no_mangle)]
-pub extern "C" fn leaf(
+pub fn leaf(
     words: &mut [u64],
     which: u64,
     q: usize,
