@@ -50,7 +50,8 @@ fn turn(
     }
 }
 
-// A proved loop has to end, and nothing says that the input does. So the loop has a number of turns that no run uses up.
+// A proved loop has to end, and nothing says that the input does. So the loop has a number of turns, one that no run
+// uses up.
 fn main(rt: HostRuntime) {
     let mut block = [0u8; 65536];
     let mut feeding = begin();

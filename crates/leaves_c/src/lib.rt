@@ -1,8 +1,8 @@
 // The function of `leaves` as an export to C, for the comparison under bench/.
 #![tactic(auto)]
 
-// 1 searches the record at q; any other number stores the changed state at `to`. Nothing is done where a record does not
-// fit.
+// 1 searches the record at q; any other number stores the changed state at `to`. Nothing is done where a record does
+// not fit.
 #[unsafe(no_mangle)]
 pub extern "C" fn leaf(
     words: &mut [u64],

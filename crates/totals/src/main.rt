@@ -90,7 +90,8 @@ fn turn(
     }
 }
 
-// A proved loop has to end, and nothing says that the input does. So the loop has a number of turns that no run uses up.
+// A proved loop has to end, and nothing says that the input does. So the loop has a number of turns, one that no run
+// uses up.
 fn serve(
     rt: &(impl Print + Eprint),
     stdin: Stdin,
