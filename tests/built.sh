@@ -1,28 +1,38 @@
 #!/usr/bin/env bash
-# built.sh NAME...: builds what is missing or older than a Rattle file: the program for `totals` and `judge`, and for
-# any other crate its static library, target/staticlib/libNAME.a. It says something only where that fails. Whoever else
-# asks waits: two runs of rt would write to the same files of target/.
+# built.sh NAME...: builds what is missing or older than a Rattle file: of `totals` and `judge` the program,
+# target/bin/NAME, and of any other name the static library target/staticlib/libNAME.a, which is that of the crate
+# NAME_c. What `rt ci` has left of a program is taken as it is; else it is proved, built and run on its stored input. It
+# says something only where that fails. Whoever else asks waits.
 set -u
 cd "$(dirname "$0")/.." || exit 2
 exec 9<crates.txt
 flock 9
+said=$(mktemp) || exit 2
+trap 'rm -f "$said"' EXIT
 
-# newer FILE: a Rattle file that is newer, if there is one
-newer() { find crates crates.txt -newer "$1" \( -name '*.rt' -o -name '*.antt' -o -name crates.txt \) -print -quit; }
+# fresh FILE: it is there, and no Rattle file is newer
+fresh() {
+  [ -e "$1" ] && [ -z "$(find crates crates.txt -path 'crates/*/out' -prune -o -newer "$1" \
+    \( -name '*.rt' -o -name '*.antt' -o -name crates.txt \) -print -quit)" ]
+}
 
-# build FILE COMMAND...
-build() {
-  local file=$1 said
-  shift
-  [ -e "$file" ] && [ -z "$(newer "$file")" ] && return
-  said=$("$@" 2>&1 9<&-) || { echo "$said" && return 1; }
-  # rt leaves a program as it is where nothing that it was proved from has changed
-  touch "$file"
+# run_stored: of the program of this folder, what it writes on its stored input has to be what is stored
+run_stored() { rt run <stdin 2>"$said" 9<&- | cmp - stdout && [ "${PIPESTATUS[0]}" -eq 0 ]; }
+
+program() {
+  local made=crates/$1/out/$1
+  fresh "$made" || (cd "crates/$1" && run_stored) || { cat "$said" && return 1; }
+  mkdir -p target/bin && cp "$made" "target/bin/$1"
+}
+
+library() {
+  (cd "crates/$1_c" && rt lib) >"$said" 2>&1 9<&- || { cat "$said" && return 1; }
+  mkdir -p target/staticlib && cp "crates/$1_c/out/lib$1_c.a" "target/staticlib/lib$1.a"
 }
 
 for name; do
   case $name in
-  totals | judge) build "target/bin/$name" rt check "$name" || exit 1 ;;
-  *) build "target/staticlib/lib$name.a" rt staticlib "$name" || exit 1 ;;
+  totals | judge) fresh "target/bin/$name" || program "$name" || exit 1 ;;
+  *) fresh "target/staticlib/lib$name.a" || library "$name" || exit 1 ;;
   esac
 done

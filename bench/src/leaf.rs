@@ -51,5 +51,5 @@ pub fn proved(words: &mut [u64], w: Work) -> u64 {
 }
 
 pub fn rust(words: &mut [u64], w: Work) -> u64 {
-    same::leaves::leaves::same_leaf(words, w.which, w.q, w.to, w.b, w.n, w.account, w.total)
+    same::leaves::leaves_c::same_leaf(words, w.which, w.q, w.to, w.b, w.n, w.account, w.total)
 }

@@ -1,6 +1,6 @@
 // The compared tables behind one trait, and a locked map.
 use crate::fields::*;
-use crate::same::capi::capi;
+use crate::same::capi::capi_c as capi;
 use crate::text::write_rows;
 use crate::twin::{Answer, Kind, Stepped, Twin};
 use crate::work::Operation;

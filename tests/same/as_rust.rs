@@ -1,5 +1,6 @@
 //! Makes Rust of the Rattle crates that a static library rests on, for build scripts: a module for each crate inside
-//! one for the library, the contracts left out. Which crates these are stands in crates.txt.
+//! one for the library, the contracts left out. The library NAME is the crate NAME_c, which exports to C; which crates it
+//! rests on stands in crates.txt.
 
 use std::path::{Path, PathBuf};
 use std::{env, fs};
@@ -8,15 +9,16 @@ use std::{env, fs};
 pub struct Crates(Vec<(String, Vec<String>)>);
 
 impl Crates {
-    /// From lines `NAME: NAME ...`; what follows a # is left out.
+    /// From lines `NAME: NAME ...` and `NAME staticlib: NAME ...`; what follows a # is left out.
     pub fn listed(text: &str) -> Crates {
         let lines = text
             .lines()
             .filter_map(|line| line.split('#').next()?.split_once(':'));
-        let words = |text: &str| text.split_whitespace().map(str::to_string).collect();
+        let words =
+            |text: &str| -> Vec<String> { text.split_whitespace().map(str::to_string).collect() };
         Crates(
             lines
-                .map(|(name, named)| (name.trim().to_string(), words(named)))
+                .filter_map(|(name, named)| Some((words(name).into_iter().next()?, words(named))))
                 .collect(),
         )
     }
@@ -67,7 +69,7 @@ pub fn plain_lines(source: &str) -> Vec<&str> {
         contract
     };
     let unsaid = |line: &&str| {
-        ["ghost use ", "#[no_mangle]"]
+        ["ghost use ", "#[unsafe(no_mangle)]", "#![tactic("]
             .iter()
             .any(|word| line.starts_with(word))
     };
@@ -106,26 +108,16 @@ impl Place {
         {
             return format!("pub mod {name} {{\n{}}}\n", self.rust_of(name));
         }
-        let copied = ["struct ", "enum "]
-            .iter()
-            .any(|word| item.starts_with(word));
-        let derive = if copied {
-            "#[derive(Clone, Copy)]\n"
-        } else {
-            ""
-        };
         let line = line.replace("crate::", &format!("{}::", self.own));
-        format!(
-            "{derive}{}\n",
-            line.replace("pub extern \"C\" fn ", "#[inline(never)]\npub fn same_")
-        )
+        let line = line.replace("pub extern \"C\" fn ", "#[inline(never)]\npub fn same_");
+        line + "\n"
     }
 }
 
 /// The module of a library. `top` is the path of the module that it stands in.
 fn library(crates: &Crates, root: &Path, top: &str, library: &str) -> String {
     let mut text = String::new();
-    for name in crates.beneath(library) {
+    for name in crates.beneath(&format!("{library}_c")) {
         let named = crates.named_by(name).join(", ");
         let place = Place {
             source: root.join("crates").join(name).join("src"),

@@ -1,4 +1,4 @@
-//! Writes the Rust of `capi` and of all it rests on.
+//! Writes the Rust of the library `capi` and of all it rests on.
 mod as_rust;
 
 fn main() {

@@ -4,15 +4,16 @@
 mod as_rust;
 
 use as_rust::{plain_lines, Crates};
-use same::capi::capi as source;
+use same::capi::capi_c as source;
 
-const LIST: &str = "# NAME: the crates that it names\n\n# first\na:\nb: a # again\nc: b\nd: a io\n";
+const LIST: &str = "# NAME: the crates that it names\n\n# first\na:\nb: a # again\nc: b\nd: a io\ne staticlib: c\n";
 
 #[test]
 fn a_crate_rests_on_what_it_names_and_on_what_that_rests_on() {
     let crates = Crates::listed(LIST);
     assert_eq!(crates.beneath("c"), ["c", "b", "a"]);
     assert_eq!(crates.beneath("a"), ["a"]);
+    assert_eq!(crates.beneath("e"), ["e", "c", "b", "a"]);
 }
 
 #[test]
@@ -22,13 +23,15 @@ fn libraries_of_the_toolchain_are_left_out() {
     assert_eq!(crates.beneath("d"), ["d", "a"]);
 }
 
-const SOURCE: &str = "ghost use x.{y};
-#[no_mangle]
+const SOURCE: &str = "#![tactic(auto)]
+ghost use x.{y};
+#[unsafe(no_mangle)]
 pub fn f(a: u64) -> u64
-    requires { ⌜ p a ⌝ }
-    ensures { λ r. ⌜ record {
-      left = r;
-    } ≡ g a ⌝ }
+    requires { p a }
+    ensures left { record {
+      left = result;
+    } ≡ g a }
+    ensures right { result ≡ h a }
 {
     if a < 1 { a } else { 0 }
 }

@@ -10,7 +10,7 @@ use model::export::{export as exported, file};
 use model::prng::Prng;
 use model::rebate::BANDS;
 use model::rows::{class, CLASSES};
-use same::capi::capi as source;
+use same::capi::capi_c as source;
 use same::capi::fields::*;
 use same::capi::interface::{Settings, ANSWER_CROWDED, GREATEST_KIND, KIND_INSERT, KIND_LOOKUP};
 use same::capi::layout::addresses::{held_by, worker_at};
