@@ -5,23 +5,25 @@
 # Then each tests/definitions/NAME.edit is applied to it, and the check has to be refused, first at the lemma that the
 # edit names. The format is that of must-fail edits (CONTRIBUTING.md), but `file:` is a path in the repository, of a
 # definition, and a line `refused: FILE LEMMA` says which lemma that is.
-# definitions.sh [--gate | NAME...]: without arguments all edits; with --gate the three of the gate.
+# definitions.sh [--gate | NAME...]: without arguments all edits; with --gate the three of the gate. JOBS says how many
+# checks run side by side: else one for each processor.
 # The last line is 'N passed, M failed'; the exit status is 0 only if M is 0.
 set -u
 cd "$(dirname "$0")/.." || exit 2
 edits=tests/definitions
 gate=(directory_read_keeps_the_depth number_that_alternates taken_into_a_full_bucket)
 . tests/scratch.sh
-export RT_JOBS=${RT_JOBS:-$(($(nproc) * 2))}
+jobs=${JOBS:-$(nproc)}
 . tests/counts.sh
 copy=$run/copy
 
 # ---- the copy
 
-# cited FILE...: the files of the modules that these name. One of a declared type is in no file: src/ declares it.
+# cited FILE...: the files of the modules that these name, and those one name shorter, as the last may be a lemma's. One
+# of a declared type is in no file: src/ declares it. Nor is one of the library.
 cited() {
-  grep -ohE 'Rattle·[a-z0-9_]+(·(specs|proofs))?\.(specs|proofs)(\.[A-Za-z0-9_]+)+' "$@" |
-    sed -E 's#^Rattle·([a-z0-9_]+)[^.]*#crates/\1#; s#\.#/#g; s#$#.antt#' | sort -u
+  grep -ohE 'Rattle\.[a-z0-9_]+\.(specs|proofs)(\.[A-Za-z0-9_]+)+' "$@" |
+    sed -E '/^Rattle\.std\./d; s#^Rattle\.#crates/#; s#\.#/#g; p; s#/[^/]*$##' | sed 's#$#.antt#' | sort -u
 }
 
 # the files of `simulation`, and all that they rest on
@@ -58,7 +60,7 @@ index() {
 make_copy() {
   local file crate crates folder
   rested_on >"$run/files"
-  crates=$(cut -d/ -f2 "$run/files" | sort -u)
+  crates=$(cut -d/ -f2 "$run/files" | grep -v '\.antt$' | sort -u)
   while read -r file; do
     [ ! -e "$file" ] || { mkdir -p "$copy/${file%/*}" && cp "$file" "$copy/$file"; }
   done <"$run/files"
@@ -77,15 +79,13 @@ make_copy() {
 }
 
 # errors LOG: the first lines of it that say what is wrong
-errors() { grep -E ': error|NOT PROVED|FAILED' "$1" | cut -c 1-300 | head -n 5 | sed 's/^/        /'; }
+errors() { grep -E ': error|did not build|no proof' "$1" | cut -c 1-300 | head -n 5 | sed 's/^/        /'; }
 
-# the copy as it is: `simulation` over what it rests on, from nothing. What is proved of it is kept, so that with an
-# edit only what rests on the changed definition is checked again.
+# the copy as it is: `simulation` over what it rests on, from nothing. What is proved of it is kept, and a check of
+# another copy begins with it, so that with an edit only what rests on the changed definition is checked again.
 check_copy() {
-  local began=$SECONDS others
-  others=$(cut -d: -f1 "$copy/crates.txt" | grep -vx simulation)
-  # shellcheck disable=SC2086
-  (cd "$copy" && rt check $others && rt dev simulation) >"$run/copy.log" 2>&1
+  local began=$SECONDS
+  (cd "$copy" && rt all check --jobs "$jobs") >"$run/copy.log" 2>&1
   local status=$?
   check "$status" "the copy as it is: $(wc -l <"$copy/crates.txt") crates, $((SECONDS - began)) s"
   [ "$status" -eq 0 ] || errors "$run/copy.log"
@@ -114,10 +114,13 @@ apply() {
   [ "$pairs" -gt 0 ] || { echo "no pair of old and new" && return 1; }
 }
 
-# refusal LOG: the file and the lemma of the first error, a fact that does not hold and no name that is missing
+# refusal LOG: the file and the lemma of the first error, a fact that does not hold and no name that is missing. rt names
+# a file from its crate's folder, and a crate below `simulation` where it was not built.
 refusal() {
+  local crate
+  crate=$(sed -nE 's/^rt: the library ([a-z0-9_]+) did not build.*/\1/p' "$1" | head -n 1)
   grep -m 1 ': error' "$1" | grep -vE 'is not in scope|that can be named from here' |
-    sed -nE 's#^(.*/)?(crates/[a-z0-9_]+/proofs/[^:]*):[0-9]+:[0-9]+: error: `([^`]*)`: .*#\2 \3#p'
+    sed -nE "s#^(.*/)?(proofs/[^:]*):[0-9]+:[0-9]+: error: \`([^\`]*)\`: .*#crates/${crate:-simulation}/\2 \3#p"
 }
 
 # try NAME: leaves what became of the edit in NAME.said, and 0 in NAME.status if it is refused where it says
@@ -125,10 +128,10 @@ try() {
   local name=$1 began=$SECONDS said wanted first at=$run/$1
   echo 1 >"$at.status"
   wanted=$(sed -n 's/^refused: //p' "$edits/$name.edit")
-  cp -a "$copy" "$at"
+  mkdir "$at" && tar -C "$copy" --exclude=out -cf - . | tar -C "$at" -xf -
   if ! said=$(apply "$name" "$at"); then
     echo "NOT REFUSED: $name: bad edit: $said" >"$at.said"
-  elif (cd "$at" && rt dev simulation) >"$at.log" 2>&1; then
+  elif (cd "$at/crates/simulation" && rt check) >"$at.log" 2>&1; then
     echo "NOT REFUSED: $name: the copy is still proved, $((SECONDS - began)) s" >"$at.said"
   else
     first=$(refusal "$at.log")
@@ -147,7 +150,7 @@ try() {
 try_all() {
   local name started=()
   for name; do
-    [ "${#started[@]}" -lt "$RT_JOBS" ] || { shown "${started[@]::1}" && started=("${started[@]:1}"); }
+    [ "${#started[@]}" -lt "$jobs" ] || { shown "${started[@]::1}" && started=("${started[@]:1}"); }
     try "$name" &
     started+=("$name=$!")
   done
