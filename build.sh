@@ -1,7 +1,7 @@
 #!/usr/bin/env bash
 # Builds the static library, the C examples linked with it, and the Rust crate with its examples, and says what it
 # built. It needs the Rattle toolchain (rt), a C compiler and cargo, and no network. The library is proved first, which
-# takes minutes where `rt check` has not been run.
+# takes minutes where `rt check` has not been run in crates/capi_c.
 set -eu
 cd "$(dirname "$0")"
 for tool in rt cc cargo; do

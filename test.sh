@@ -1,18 +1,14 @@
 #!/usr/bin/env bash
-# All tests: the layout of the Rattle files; the proofs with their must-fail edits (rt ci), and beside them what needs
-# none of these, the second model's tests, those of the table's source made Rust, and wrong definitions on a copy
-# without code; then, two at a time, the program and the interfaces for C and Rust against the model, foreign memory,
-# and the compiled libraries against their source as Rust.
-# What runs beside something else is shown when it has ended. rt proves and tries edits in batches of RT_JOBS and waits
-# for each batch: unless it is set, two for each processor, so that few of them idle at a batch's end. A check takes up
-# to 1 GB of memory.
+# All tests: the layout of the Rattle files, the proofs with their must-fail edits, and the programs on their stored
+# input (rt ci); then what needs none of these, the second model's tests, those of the table's source made Rust, and
+# wrong definitions on a copy without code; then, two at a time, the programs and the interfaces for C and Rust against
+# the model, foreign memory, and the compiled libraries against their source as Rust.
+# What runs beside something else is shown when it has ended. A check takes up to 1 GB of memory.
 # The last line is 'N passed, M failed'; the exit status is 0 only if M is 0.
 set -u
 cd "$(dirname "$0")" || exit 2
-. tests/scratch.sh
 logs=$(mktemp -d) || exit 2
 trap 'kill $(jobs -p) 2>/dev/null; rm -rf "$logs"' EXIT
-export RT_JOBS=${RT_JOBS:-$(($(nproc) * 2))}
 passed=0
 failed=0
 
@@ -54,23 +50,29 @@ crate() { cargo test --release --offline --no-fail-fast --manifest-path "$1/Carg
 
 benchmark() { tests/built.sh capi leaves && crate bench; }
 
-# what needs no crate proved before
-beside_proofs() {
+# a must-fail edit that cannot be applied or read shows nothing: rt ci tells how many there are, and passes
+bad_edits() {
+  local bad
+  bad=$(sed -nE 's/^rt: ok.*, ([0-9]+) bad[;,].*$/\1/p' "$logs/proofs")
+  [ "${bad:-0}" -eq 0 ] || { echo "$bad must-fail edits are bad" && failed=$((failed + bad)); }
+}
+
+of_models() {
   run second-model crate model
   run source-as-rust crate tests/same
-  run definitions env RT_JOBS="$(nproc)" tests/definitions.sh --gate
 }
 
 of_program() { for script in compare edges; do run "$script" "tests/$script.sh"; done; }
 
-echo "== layout: rt fmt --check"
-if rt fmt --check; then passed=$((passed + 1)); else failed=$((failed + 1)); fi
-
-beside_proofs &
 echo "== proofs: rt ci"
 rt ci 2>&1 | tee "$logs/proofs"
 echo "${PIPESTATUS[0]}" >"$logs/proofs.status"
 count proofs
+bad_edits
+
+. tests/scratch.sh
+of_models &
+run definitions tests/definitions.sh --gate
 wait
 show second-model source-as-rust definitions
 

@@ -1,8 +1,8 @@
-// Links the static library of the Rattle crate `capi`, which `rt staticlib capi` writes.
+// Links the static library of the Rattle crate `capi_c`, which `tests/built.sh capi` builds.
 use std::{env, path::Path, process};
 
 const MISSING: &str = "target/staticlib/libcapi.a is not there: it is the proved table, which this crate links.
-Run ./build.sh at the top of the repository; or, for the library alone, rt staticlib capi.
+Run ./build.sh at the top of the repository; or, for the library alone, tests/built.sh capi.
 Both need the Rattle toolchain (rt) and prove what they build: minutes the first time.";
 
 fn main() {
