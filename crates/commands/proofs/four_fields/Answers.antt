@@ -9,19 +9,16 @@ use Rattle.commands.proofs.four_fields.Goals as goal
 
 pub returns-in-79 : goal.returns-in-79
 unfolding four_fields if◌then◌else◌
-returns-in-79 c = c.open.ensures ∙ rw c.in-79.keys1
+returns-in-79 c = c.open.ensures ∙ rw c.in-79.is
 
 pub returns-in-73 : goal.returns-in-73
 unfolding four_fields operation_command if◌then◌else◌
-returns-in-73 c = c.operation.ensures ∙ rw c.in-79.keys2
+returns-in-73 c = c.operation.ensures ∙ rw c.in-73.is
 
 pub returns-in-80 : goal.returns-in-80
 unfolding four_fields operation_command if◌then◌else◌
-returns-in-80 c = c.operation-in-80.ensures ∙ rw c.in-79.keys3
+returns-in-80 c = c.operation-in-80.ensures ∙ rw c.in-80.is
 
 pub returns-in_default : goal.returns-in_default
 unfolding four_fields if◌then◌else◌
-returns-in_default c =
-    let a = c.args.letter in
-    let r = c.in-79.rest in
-    rw (ne_eqb a open_letter r.0.0.1, ne_eqb a insert_letter r.0.1, ne_eqb a post_letter r.1)
+returns-in_default c = ?

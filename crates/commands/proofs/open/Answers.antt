@@ -11,8 +11,8 @@ use Rattle.commands.proofs.open.Goals as goal
 use Rattle.commands.proofs.open.Goals.{In-Values}
 
 both_read : (c : In-Values) →
-    let v = c.n.given.0 in
-    (small_of c.args.x.now ≡ some v.0) × (small_of c.args.y.now ≡ some v.1.0)
+    let v = c.in-Values in
+    (small_of c.args.x.now ≡ some v.n) × (small_of c.args.y.now ≡ some v.b)
 unfolding small_of
 both_read c = pair_some _ _ _ _ (sym c.in-Values.is ∙ c.read_pair.ensures)
 

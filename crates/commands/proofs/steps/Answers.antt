@@ -13,8 +13,8 @@ use Rattle.commands.proofs.steps.Goals as goal
 use Rattle.commands.proofs.steps.Goals.{In-Values}
 
 both_read : (c : In-Values) →
-    let v = c.w.given.0 in
-    (small_of c.args.x.now ≡ some v.0) × (up_to greatest_steps (numeral c.args.y.now) ≡ some v.1.0)
+    let v = c.in-Values in
+    (small_of c.args.x.now ≡ some v.w) × (up_to greatest_steps (numeral c.args.y.now) ≡ some v.k)
 both_read c = pair_some _ _ _ _ (sym c.in-Values.is ∙ c.read_pair.ensures)
 
 pub returns-in_default : goal.returns-in_default
