@@ -1,8 +1,8 @@
 -- `three_fields`: by the letter.
 -- Rests on the laws that it cites and on the contracts of what is called.
 use mathlib.Core.Path.{◌∙◌}
+use native.Mathlib.Omega.{arith}
 use borrow.Author.Tests.{ne_eqb}
-use borrow.Author.Rules.{rules}
 use Rattle.machine.specs.Choice.{if◌then◌else◌}
 use Rattle.commands.specs.Commands.{delete_letter, lookup_letter, steps_letter, operation_command, three_fields}
 use Rattle.commands.proofs.three_fields.Goals as goal
@@ -21,4 +21,6 @@ returns-in-83 c = c.steps.ensures ∙ rw c.in-83.is
 
 pub returns-in_default : goal.returns-in_default
 unfolding three_fields if◌then◌else◌
-returns-in_default c = ?
+returns-in_default c =
+    let a = c.args.letter in
+    rw (ne_eqb a delete_letter (λ e. omega arith), ne_eqb a lookup_letter (λ e. omega arith), ne_eqb a steps_letter (λ e. omega arith))
