@@ -2,6 +2,7 @@
 // Rests on the commands of a letter and fields, crate commands; on the machine's script, and on what is printed, for
 // its specs alone.
 #![tactic(auto)]
+
 mod command;
 mod reader;
 

@@ -5,7 +5,6 @@ use mathlib.Core.Path.{sym, ◌∙◌, ap}
 use mathlib.Core.List.{List, [], ◌∷◌}
 use native.Mathlib.Omega.{arith}
 use lib.Seq.{length-take-le}
-use borrow.Author.Rules.{rules}
 use Rattle.lines.specs.Grammar.{of_fields, letter_of}
 use Rattle.lines.proofs.Splitting.{one-field, more_fields}
 use Rattle.numerals.proofs.Parts.{part_from}

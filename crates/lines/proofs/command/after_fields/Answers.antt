@@ -4,7 +4,6 @@ use Prim.Native.Nat.{ℕ, ◌+◌}
 use mathlib.Core.Path.{sym, ◌∙◌, ap}
 use mathlib.Core.List.{List, [], ◌∷◌}
 use lib.ListN.{take, drop}
-use borrow.Author.Rules.{rules}
 use Rattle.lines.specs.Grammar.{of_fields, letter_of}
 use Rattle.lines.proofs.Splitting.{one-field, more_fields, too_many}
 use Rattle.lines.proofs.command.after_fields.Goals as goal

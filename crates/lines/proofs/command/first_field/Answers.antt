@@ -1,11 +1,7 @@
 -- `first_field`: the bytes passed are no spaces.
-use Prim.Native.Nat.{◌+◌, ◌-◌, ◌≤◌}
-use mathlib.Core.Path.{◌≡◌}
 use native.Mathlib.Omega.{arith}
 use native.Mathlib.Nat.{zero-add}
-use lib.ListN.{length, drop}
 use borrow.Author.Rules.{rules}
-use Rattle.lines.specs.Grammar.{first_field}
 use Rattle.lines.proofs.Splitting.{field_ends, field_goes_on, field_at_end}
 use Rattle.lines.proofs.command.first_field.Goals as goal
 

@@ -2,12 +2,8 @@
 -- Rests on the laws that it cites and on the contracts of what is called.
 use Prim.Native.Nat.{◌+◌, ◌-◌, ◌≤◌}
 use mathlib.Core.Path.{◌≡◌}
-use native.Mathlib.Omega.{arith}
-use native.Mathlib.Nat.{zero-add}
 use lib.ListN.{length, drop}
-use borrow.Author.Rules.{rules}
 use Rattle.lines.specs.Grammar.{first_field}
-use Rattle.lines.proofs.Splitting.{field_ends, field_goes_on, field_at_end}
 use Rattle.lines.proofs.command.first_field.Given as goal
 
 abbrev pub invariant-loop-i : goal.invariant-loop-i

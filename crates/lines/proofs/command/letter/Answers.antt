@@ -1,6 +1,5 @@
 -- `letter`: a field of one byte.
 -- Rests on the laws that it cites and on the contracts of what is called.
-use borrow.Author.Rules.{rules}
 use Rattle.lines.proofs.Splitting.{letter_one, letter_none}
 use Rattle.lines.proofs.command.letter.Goals as goal
 

@@ -4,7 +4,6 @@ use mathlib.Core.Path.{sym, ◌∙◌}
 use native.Mathlib.Omega.{arith}
 use lib.Seq.{length-take-le}
 use borrow.Author.Tests.{lt-leb, le-leb}
-use borrow.Author.Rules.{rules}
 use Rattle.machine.specs.Choice.{if◌then◌else◌}
 use Rattle.lines.specs.Reading.{command_in}
 use Rattle.lines.proofs.reader.Reader.command.Goals as goal
