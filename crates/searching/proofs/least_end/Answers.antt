@@ -16,11 +16,11 @@ pub loop-j-preserved : goal.loop-j-preserved
 loop-j-preserved c =
     let known = c.loop-j.invariant.1 in (
       search rules,
-      ⊎_elim (λ g. g.3 ∙ g.2.ensures ∙ ends_left c.args.log.now c.args.t2 _ _ known _ g.1.ensures g.0.taken)
-          (λ g. g.1 ∙ ends_gone c.args.log.now c.args.t2 _ _ known g.0.left) c.if-left-j-eq1.either,
+      ⊎_elim (λ g. g.3 ∙ g.2.ensures ∙ ends_left c.args.log.now c.args.left _ _ known _ g.1.ensures g.0.taken)
+          (λ g. g.1 ∙ ends_gone c.args.log.now c.args.left _ _ known g.0.left) c.if-left-j-eq1.either,
     )
 
 pub returns : goal.returns
 returns c =
     c.loop-j.invariant.1
-    ∙ ap (least_end c.args.log.now c.args.t2) (le_antisymm c.loop-j.invariant.0 c.loop-j-test.false)
+    ∙ ap (least_end c.args.log.now c.args.left) (le_antisymm c.loop-j.invariant.0 c.loop-j-test.false)
