@@ -1,6 +1,7 @@
 // A command of its letter and fields: what each field has to be is a definition of specs/, and the functions here equal
 // it. Rests on the numbers of crate numerals.
 #![tactic(auto)]
+
 ghost use Rattle.std.specs.Prelude.{◌≡◌};
 ghost use Rattle.numerals.specs.Numerals.{numeral, up_to, as_pair};
 ghost use Rattle.commands.specs.Commands.{three_fields, four_fields, open_command, operation_command, steps_command, small_of};

@@ -1,5 +1,6 @@
 // The exported file's header and rows: how many bytes a row takes, and both written into a caller's buffer.
 #![tactic(auto)]
+
 ghost use Rattle.std.specs.Prelude.{◌+◌, ◌≤◌, ◌≡◌, length};
 ghost use Rattle.lists.specs.Parts.{overlay};
 ghost use Rattle.csv_file.specs.Csv.{header, header_size, csv_row, longest_row};

@@ -1,13 +1,13 @@
 -- Texts of a word and numbers written over a buffer, and what a printer leaves. Rests on the definitions of specs/Written.
 use Prim.Native.Nat.{ℕ, ◌+◌, ◌-◌, ◌≤◌, ◌<◌}
 use mathlib.Core.Path.{◌≡◌, refl, sym, ◌∙◌}
-use mathlib.Core.Bool.{Bool, true, false, not}
+use mathlib.Core.Bool.{Bool, true, false}
 use mathlib.Core.List.{List, [], ◌∷◌, ◌++◌}
 use native.Mathlib.Omega.{arith}
 use lib.Dec.{leb}
 use lib.ListN.{length, set, length-append}
 use lib.Seq.{take-length, paste}
-use borrow.Author.Tests.{le-leb, lt-leb, leb-true, leb-false, not-true, not-false}
+use borrow.Author.Tests.{le-leb, lt-leb, leb-true, leb-false}
 use Rattle.machine.specs.Choice.{if◌then◌else◌}
 use Rattle.lists.specs.Parts.{overlay}
 use Rattle.decimals.specs.declared.Decimal.{Decimal}
@@ -65,11 +65,11 @@ retold e w = rw (sym e) w
 
 -- ---- the test for room
 
-pub has_room : (r : Bool) (n m : ℕ) → r ≡ leb n m → not r ≡ false → n ≤ m
-has_room r n m e f = leb-true n m (sym e ∙ not-false r f)
+pub has_room : (r : Bool) (n m : ℕ) → r ≡ leb n m → r ≡ true → n ≤ m
+has_room r n m e f = leb-true n m (sym e ∙ f)
 
-pub no-room : (r : Bool) (n m : ℕ) → r ≡ leb n m → not r ≡ true → m < n
-no-room r n m e f = leb-false n m (sym e ∙ not-true r f)
+pub no-room : (r : Bool) (n m : ℕ) → r ≡ leb n m → r ≡ false → m < n
+no-room r n m e f = leb-false n m (sym e ∙ f)
 
 -- the same without a sum that could be too large
 pub room_in_rest : (at size len : ℕ) → at ≤ len → leb size (len - at) ≡ leb (at + size) len

@@ -1,27 +1,26 @@
 -- `four_fields`: by the letter.
 -- Rests on the laws that it cites and on the contracts of what is called.
 use mathlib.Core.Path.{◌∙◌}
+use native.Mathlib.Omega.{arith}
 use borrow.Author.Tests.{ne_eqb}
-use borrow.Author.Rules.{rules}
 use Rattle.machine.specs.Choice.{if◌then◌else◌}
 use Rattle.commands.specs.Commands.{open_letter, insert_letter, post_letter, operation_command, four_fields}
 use Rattle.commands.proofs.four_fields.Goals as goal
 
 pub returns-in-79 : goal.returns-in-79
 unfolding four_fields if◌then◌else◌
-returns-in-79 c = c.open.ensures ∙ rw c.in-79.keys1
+returns-in-79 c = c.open.ensures ∙ rw c.in-79.is
 
 pub returns-in-73 : goal.returns-in-73
 unfolding four_fields operation_command if◌then◌else◌
-returns-in-73 c = c.operation.ensures ∙ rw c.in-79.keys2
+returns-in-73 c = c.operation.ensures ∙ rw c.in-73.is
 
 pub returns-in-80 : goal.returns-in-80
 unfolding four_fields operation_command if◌then◌else◌
-returns-in-80 c = c.operation-in-80.ensures ∙ rw c.in-79.keys3
+returns-in-80 c = c.operation-in-80.ensures ∙ rw c.in-80.is
 
 pub returns-in_default : goal.returns-in_default
 unfolding four_fields if◌then◌else◌
 returns-in_default c =
     let a = c.args.letter in
-    let r = c.in-79.rest in
-    rw (ne_eqb a open_letter r.0.0.1, ne_eqb a insert_letter r.0.1, ne_eqb a post_letter r.1)
+    rw (ne_eqb a open_letter (λ e. omega arith), ne_eqb a insert_letter (λ e. omega arith), ne_eqb a post_letter (λ e. omega arith))

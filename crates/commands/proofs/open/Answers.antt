@@ -2,7 +2,6 @@
 -- Rests on the laws that it cites and on the contracts of what is called.
 use mathlib.Core.Path.{◌≡◌, sym, ◌∙◌}
 use mathlib.Core.Option.{some}
-use borrow.Author.Rules.{rules}
 use Rattle.commands.specs.declared.Command.TheVariants.{Open}
 use Rattle.commands.specs.Commands.{small_of, with3}
 use Rattle.numerals.proofs.NumeralLaws.{number_none, number_some}
@@ -11,8 +10,8 @@ use Rattle.commands.proofs.open.Goals as goal
 use Rattle.commands.proofs.open.Goals.{In-Values}
 
 both_read : (c : In-Values) →
-    let v = c.n.given.0 in
-    (small_of c.args.x.now ≡ some v.0) × (small_of c.args.y.now ≡ some v.1.0)
+    let v = c.in-Values in
+    (small_of c.args.x.now ≡ some v.n) × (small_of c.args.y.now ≡ some v.b)
 unfolding small_of
 both_read c = pair_some _ _ _ _ (sym c.in-Values.is ∙ c.read_pair.ensures)
 

@@ -5,7 +5,7 @@ use mathlib.Core.Option.{some}
 use native.Mathlib.Omega.{arith}
 use lib.Dec.{eqb}
 use mir.Syntax.{w64}
-use mir.Val.{to_z, of_z}
+use mir.Val.{to_z, of_z, SFits}
 use mir.Facts.{to_z-of_z}
 use borrow.Author.Tests.{eq-eqb, ne_eqb}
 use borrow.Author.Rules.{rules}
@@ -20,8 +20,8 @@ use Rattle.commands.proofs.operation.Goals as goal
 use Rattle.commands.proofs.operation.Goals.{In-Value, In-Values}
 
 both_read : (c : In-Values) →
-    let v = c.w.given.0 in
-    (small_of c.args.x.now ≡ some v.0) × (account_of c.args.y.now ≡ some v.1.0)
+    let v = c.in-Values in
+    (small_of c.args.x.now ≡ some v.w) × (account_of c.args.y.now ≡ some v.account)
 unfolding account_of
 both_read c = pair_some _ _ _ _ (sym c.in-Values.is ∙ c.read_pair.ensures)
 
@@ -33,7 +33,7 @@ returns-in_default c =
 
 pub overflow_cast-account : goal.overflow_cast-account
 unfolding account_of
-overflow_cast-account c = record { fits = omega (arith, limited greatest_account _ _ (both_read c).1) }
+overflow_cast-account c = record { fits = omega (arith, limited greatest_account _ _ (both_read (goal.at.overflow_cast-account c).In-Values).1) }
 
 pub returns-then-kind-eq-KIND_DELETE : goal.returns-then-kind-eq-KIND_DELETE
 unfolding operation_command if◌then◌else◌ with2
@@ -54,20 +54,21 @@ returns-in_default-read_signed c =
 -- where all three fields are read, by the kind
 all_read : (c : In-Value) →
     let a = c.args in
-    let v = c.w.given.0 in
+    let v = c.in-Values in
     let t = to_z w64 (of_z w64 c.in-Value.total) in
-    (if eqb a.kind kind_post then Post v.0 v.1.0 t else Insert v.0 v.1.0 t)
+    (if eqb a.kind kind_post then Post v.w v.account t else Insert v.w v.account t)
     ≡ operation_command a.kind a.x.now a.y.now a.z.now
 unfolding operation_command if◌then◌else◌ total_of with3
 all_read c =
     let b = both_read (goal.at.In-Value c).In-Values in
+    let fits : SFits w64 c.in-Value.total = search rules in
     rw (
       ne_eqb _ kind_delete c.if-kind-eq-KIND_DELETE.false,
       ne_eqb _ kind_lookup c.if-kind-eq-KIND_LOOKUP.false,
       b.0,
       b.1,
       signed_some _ _ (sym c.in-Value.is ∙ c.read_signed.ensures),
-      to_z-of_z {w = w64} {z = c.in-Value.total} (record { sfits = c.known-told2.given.0.1 }),
+      to_z-of_z fits,
     )
 
 pub returns-then-kind-eq-KIND_POST : goal.returns-then-kind-eq-KIND_POST

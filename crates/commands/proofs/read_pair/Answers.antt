@@ -2,7 +2,6 @@
 -- Rests on the laws that it cites and on the contracts of what is called.
 use mathlib.Core.Path.{◌≡◌, sym, ◌∙◌}
 use mathlib.Core.Option.{some}
-use borrow.Author.Rules.{rules}
 use Rattle.numerals.specs.Numerals.{as_pair}
 use Rattle.commands.specs.Commands.{small_of}
 use Rattle.numerals.proofs.NumeralLaws.{number_none, number_some}

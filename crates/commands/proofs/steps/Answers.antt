@@ -3,7 +3,6 @@
 use mathlib.Core.Path.{◌≡◌, sym, ◌∙◌, ap}
 use mathlib.Core.Option.{some}
 use borrow.Author.Tests.{le-leb, lt-leb}
-use borrow.Author.Rules.{rules}
 use Rattle.machine.specs.Choice.{if◌then◌else◌}
 use Rattle.commands.specs.declared.Command.TheVariants.{Steps}
 use Rattle.numerals.specs.Numerals.{numeral, up_to, from}
@@ -13,8 +12,8 @@ use Rattle.commands.proofs.steps.Goals as goal
 use Rattle.commands.proofs.steps.Goals.{In-Values}
 
 both_read : (c : In-Values) →
-    let v = c.w.given.0 in
-    (small_of c.args.x.now ≡ some v.0) × (up_to greatest_steps (numeral c.args.y.now) ≡ some v.1.0)
+    let v = c.in-Values in
+    (small_of c.args.x.now ≡ some v.w) × (up_to greatest_steps (numeral c.args.y.now) ≡ some v.k)
 both_read c = pair_some _ _ _ _ (sym c.in-Values.is ∙ c.read_pair.ensures)
 
 pub returns-in_default : goal.returns-in_default

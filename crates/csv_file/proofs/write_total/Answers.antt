@@ -4,7 +4,6 @@ use Prim.Native.Nat.{◌+◌, ◌≤◌}
 use mathlib.Core.Path.{◌∙◌, ap}
 use native.Mathlib.Omega.{arith}
 use lib.ListN.{length, length-set}
-use borrow.Author.Rules.{rules}
 use Rattle.decimals.specs.declared.Decimal.{Decimal}
 use Rattle.decimals.specs.Signs.{decimal_text}
 use Rattle.csv_file.proofs.UnitLaws.{text_length, units_written}
@@ -23,16 +22,16 @@ spell_decimal-requires c = let h = room_for (goal.at.spell_decimal-requires c).A
 pub bounds-out-point : goal.bounds-out-point
 bounds-out-point c =
     let h = room_for (goal.at.bounds-out-point c).After-width in
-    omega (arith, c.spell_decimal.auto.0)
+    omega (arith, c.spell_decimal.auto.out)
 
 pub spell-requires : goal.spell-requires
 spell-requires c =
     let h = room_for (goal.at.spell-requires c).After-width in
-    simp length-set (omega (arith, c.spell_decimal.auto.0))
+    simp length-set (omega (arith, c.spell_decimal.auto.out))
 
 pub shape_of-out : goal.shape_of-out
 shape_of-out c =
-    c.spell.auto.0 ∙ simp length-set c.spell_decimal.auto.0
+    c.spell.auto.out ∙ simp length-set c.spell_decimal.auto.out
 
 pub returns : goal.returns
 returns c =

@@ -1,10 +1,6 @@
 -- `digit_count`: the digits counted, and those of the rest.
-use Prim.Native.Nat.{◌+◌}
-use mathlib.Core.Path.{◌≡◌}
 use native.Mathlib.Omega.{arith}
 use native.Mathlib.Nat.{add_comm}
-use borrow.Author.Rules.{rules}
-use Rattle.decimals.specs.Decimals.{digit_count}
 use Rattle.decimals.proofs.DecimalLaws.{digit_count_within, digit_count_large, digit_count_small}
 use Rattle.decimals.proofs.digit_count.Goals as goal
 

@@ -2,11 +2,7 @@
 -- Rests on the laws that it cites and on the contracts of what is called.
 use Prim.Native.Nat.{◌+◌}
 use mathlib.Core.Path.{◌≡◌}
-use native.Mathlib.Omega.{arith}
-use native.Mathlib.Nat.{add_comm}
-use borrow.Author.Rules.{rules}
 use Rattle.decimals.specs.Decimals.{digit_count}
-use Rattle.decimals.proofs.DecimalLaws.{digit_count_within, digit_count_large, digit_count_small}
 use Rattle.decimals.proofs.digit_count.Given as goal
 
 abbrev pub invariant-loop-rest : goal.invariant-loop-rest

@@ -1,8 +1,8 @@
 -- `spell`: the digits still to be written over the buffer give all of them over the first one.
-use Prim.Native.Nat.{ℕ, ◌+◌, ◌-◌, ◌%◌, ◌≤◌}
+use Prim.Native.Nat.{ℕ, ◌+◌, ◌-◌, ◌%◌}
 use mathlib.Core.Path.{◌≡◌, refl, sym, ◌∙◌, ap}
 use native.Mathlib.Omega.{arith}
-use lib.ListN.{length, length-set}
+use lib.ListN.{length-set}
 use borrow.Author.Rules.{rules}
 use Rattle.decimals.specs.Ascii.{zero_digit}
 use Rattle.decimals.specs.Decimals.{digits}

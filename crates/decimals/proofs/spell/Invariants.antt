@@ -1,15 +1,10 @@
 -- `spell`: the digits still to be written over the buffer give all of them over the first one.
 -- Rests on the laws that it cites and on the contracts of what is called.
-use Prim.Native.Nat.{ℕ, ◌+◌, ◌-◌, ◌%◌, ◌≤◌}
-use mathlib.Core.Path.{◌≡◌, refl, sym, ◌∙◌, ap}
-use native.Mathlib.Omega.{arith}
-use lib.ListN.{length, length-set}
-use borrow.Author.Rules.{rules}
-use Rattle.decimals.specs.Ascii.{zero_digit}
+use Prim.Native.Nat.{◌≤◌}
+use mathlib.Core.Path.{◌≡◌}
+use lib.ListN.{length}
 use Rattle.decimals.specs.Decimals.{digits}
 use Rattle.lists.specs.Parts.{overlay}
-use Rattle.lists.proofs.PartLaws.{overlay_nil}
-use Rattle.decimals.proofs.Overlays.{spelled}
 use Rattle.decimals.proofs.spell.Given as goal
 
 abbrev pub invariant-loop-i : goal.invariant-loop-i

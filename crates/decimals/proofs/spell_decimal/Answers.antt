@@ -5,7 +5,6 @@ use mathlib.Core.Path.{◌≡◌, sym, ◌∙◌, ap}
 use mathlib.Core.List.{List, ◌∷◌}
 use native.Mathlib.Omega.{arith}
 use lib.ListN.{length, length-set}
-use borrow.Author.Rules.{rules}
 use Rattle.decimals.specs.Ascii.{minus_sign}
 use Rattle.decimals.specs.Decimals.{digits, decimal}
 use Rattle.lists.specs.Parts.{overlay}

@@ -4,7 +4,6 @@ use Prim.Native.Nat.{suc}
 use mathlib.Core.Path.{sym, ◌∙◌, ap}
 use native.Mathlib.Omega.{arith}
 use lib.ListN.{length}
-use borrow.Author.Rules.{rules}
 use Rattle.decimals.proofs.DecimalLaws.{length_decimal}
 use Rattle.decimals.proofs.Signs.{text_minus, text_plain}
 use Rattle.decimals.proofs.width.Goals as goal

@@ -24,7 +24,7 @@ returns-then-worker_word-get c = redirected_not _ _ _ _ _ c.worker_word.ensures 
 
 pub resolve-requires : goal.resolve-requires
 resolve-requires c =
-    (whole_else _ _ _ c.requires.0 (sym c.nothing.ensures ∙ not-true _ c.if-not-nothing.true), c.requires.1)
+    (whole_else _ _ _ c.requires.0 (sym c.nothing.ensures ∙ c.if-not-nothing.true), c.requires.1)
 
 pub put-requires : goal.put-requires
 put-requires c =

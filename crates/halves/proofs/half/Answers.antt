@@ -9,6 +9,7 @@ use Rattle.bucket.specs.State.{array_size}
 use Rattle.halves.proofs.Laws.{Halved, halved_start, halved_more, halved_same, halved_end}
 use Rattle.bucket.proofs.Laws.{size_limit}
 use Rattle.halves.proofs.half.Goals as goal
+use Rattle.halves.proofs.half.Goals.{else-first_bits-q, then-first_bits-q}
 
 pub loop-i-init : goal.loop-i-init
 loop-i-init c = (rw c.size-n.ensures (size_limit _), search rules, search rules, halved_start _ _ _ _)
@@ -18,12 +19,9 @@ loop-i-preserved c =
     let l = c.loop-i in (
       search rules,
       search rules,
-      ⊎_elim (λ w. omega arith) (λ w. omega arith) c.if-first_bits-q.either,
-      ⊎_elim
-          (λ w. rw (w.1, w.2, w.3) (halved_more _ _ _ _ _ _ _ _ l.invariant.3 (omega arith)
-          (sym c.first_bits.ensures ∙ w.0.taken)))
-          (λ w. rw (w.1, w.2, w.3) (halved_same _ _ _ _ _ _ _ _ l.invariant.3 (λ e. w.0.left (c.first_bits.ensures ∙ e))))
-          c.if-first_bits-q.either,
+      (elim c.if-first_bits-q.branch [ then-first_bits-q w ↦ omega arith | else-first_bits-q w ↦ omega arith ]),
+      (elim c.if-first_bits-q.branch [ then-first_bits-q w ↦ rw (w.accounts-is, w.totals-is, w.kept-is) (halved_more _ _ _ _ _ _ _ _ l.invariant.3 (omega arith)
+          (sym c.first_bits.ensures ∙ w.if-first_bits-q.true)) | else-first_bits-q w ↦ rw (w.accounts-is, w.totals-is, w.kept-is) (halved_same _ _ _ _ _ _ _ _ l.invariant.3 (λ e. w.if-first_bits-q.false (c.first_bits.ensures ∙ e))) ]),
     )
 
 pub returns : goal.returns

@@ -13,7 +13,7 @@ use Rattle.halves.proofs.half.Given as goal
 
 abbrev pub invariant-loop-i : goal.invariant-loop-i
 invariant-loop-i l =
-    (l.n ≤ array_size) × (l.i ≤ l.n) × (l.kept ≤ l.i) × Halved old-accounts old-totals l.d l.q l.i l.accounts l.totals l.kept
+    (l.n ≤ array_size) × (l.i ≤ l.n) × (l.kept ≤ l.i) × Halved l.old_accounts l.old_totals l.d l.q l.i l.accounts l.totals l.kept
 
 abbrev pub decreases-loop-i : goal.decreases-loop-i
 decreases-loop-i l = l.n - l.i

@@ -49,7 +49,7 @@ pub returns-then-not-splittable : goal.returns-then-not-splittable
 returns-then-not-splittable c =
     let args = c.args in
     marks_not _ args.g (worker_at args.g.workers args.w) args.j _ c.slot_word.ensures c.if-slot_word-eq-KIND_NONE.false _ _
-    c.slot_word-2.ensures c.record_of-q.ensures _ (tested (goal.at.returns-then-not-splittable c).After-splittable) (not-true _ c.if-not-splittable.true)
+    c.slot_word-2.ensures c.record_of-q.ensures _ (tested (goal.at.returns-then-not-splittable c).After-splittable) c.if-not-splittable.true
 
 pub settled_ticket-requires : goal.settled_ticket-requires
 settled_ticket-requires c =
@@ -60,12 +60,12 @@ pub returns-then-slot_word-settled_ticket : goal.returns-then-slot_word-settled_
 returns-then-slot_word-settled_ticket c =
     let args = c.args in
     marks_settled _ args.g (worker_at args.g.workers args.w) args.j _ c.slot_word.ensures c.if-slot_word-eq-KIND_NONE.false _ _
-    c.slot_word-2.ensures c.record_of-q.ensures _ (tested (goal.at.returns-then-slot_word-settled_ticket c).After-splittable) (not-false _ c.if-not-splittable.false-raw) _
+    c.slot_word-2.ensures c.record_of-q.ensures _ (tested (goal.at.returns-then-slot_word-settled_ticket c).After-splittable) c.if-not-splittable.false _
     c.slot_word-3.ensures _ c.settled_ticket.ensures c.if-slot_word-settled_ticket.true
 
 pub returns : goal.returns
 returns c =
     let args = c.args in
     marks_found _ args.g (worker_at args.g.workers args.w) args.j _ c.slot_word.ensures c.if-slot_word-eq-KIND_NONE.false _ _
-    c.slot_word-2.ensures c.record_of-q.ensures _ (tested (goal.at.returns c).After-splittable) (not-false _ c.if-not-splittable.false-raw) _
+    c.slot_word-2.ensures c.record_of-q.ensures _ (tested (goal.at.returns c).After-splittable) c.if-not-splittable.false _
     c.slot_word-3.ensures _ c.settled_ticket.ensures c.if-slot_word-settled_ticket.false _ c.found_before.ensures

@@ -1,10 +1,7 @@
 -- `read_digits`: what the bytes passed say is within the limit, and the rest is still to be read after it.
-use Prim.Native.Nat.{◌-◌, ◌≤◌}
-use mathlib.Core.Path.{◌≡◌, refl, sym, ◌∙◌}
+use mathlib.Core.Path.{refl, sym, ◌∙◌}
 use native.Mathlib.Omega.{arith}
-use lib.ListN.{length, drop}
 use borrow.Author.Rules.{rules}
-use Rattle.numerals.specs.Numerals.{digits_after, up_to}
 use Rattle.numerals.proofs.NumeralLaws.{nothing, value, stop_low, stop_high, stop_large, go_on, digits_end}
 use Rattle.numerals.proofs.read_digits.Goals as goal
 

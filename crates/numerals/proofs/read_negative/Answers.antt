@@ -9,7 +9,6 @@ use lib.IntN.{negsuc}
 use mir.Syntax.{w64}
 use mir.Val.{to_z}
 use mir.Facts.{to_z-neg}
-use borrow.Author.Rules.{rules}
 use Rattle.numerals.specs.declared.Signed.TheVariants as Signed
 use Rattle.numerals.specs.Numerals.{numeral, minus, up_to, least_total_size}
 use Rattle.numerals.proofs.NumeralLaws.{number_none, number_some, no_signed, signed_value, limited, minus_limit, minus_some}

@@ -4,7 +4,6 @@ use Prim.Native.Nat.{ℕ, zero-le}
 use mathlib.Core.Path.{sym, ◌∙◌, ap}
 use mathlib.Core.Option.{Option}
 use native.Mathlib.Omega.{arith}
-use borrow.Author.Rules.{rules}
 use Rattle.numerals.specs.Numerals.{up_to, as_number}
 use Rattle.numerals.proofs.NumeralLaws.{nothing, value, up-to, no_bytes, only_zero, leading_zero, no_leading_zero}
 use Rattle.numerals.proofs.read_number.Goals as goal

@@ -6,7 +6,6 @@ use native.Mathlib.Omega.{arith}
 use lib.IntN.{pos}
 use mir.Syntax.{w64}
 use mir.Facts.{to_z_pos}
-use borrow.Author.Rules.{rules}
 use Rattle.numerals.specs.declared.Signed.TheVariants as Signed
 use Rattle.numerals.specs.Numerals.{numeral, plus, up_to, greatest_total}
 use Rattle.numerals.proofs.NumeralLaws.{number_none, number_some, no_signed, signed_value, limited, plus_limit}

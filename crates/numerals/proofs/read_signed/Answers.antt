@@ -6,7 +6,6 @@ use mathlib.Core.Path.{sym, ◌∙◌, ap}
 use mathlib.Core.Option.{Option}
 use native.Mathlib.Omega.{arith}
 use lib.IntN.{ℤ}
-use borrow.Author.Rules.{rules}
 use Rattle.numerals.specs.Numerals.{numeral, minus, in64, as_signed}
 use Rattle.numerals.proofs.Parts.{part_from}
 use Rattle.numerals.proofs.NumeralLaws.{no_signed, signed_empty, signed_minus, signed_plus}

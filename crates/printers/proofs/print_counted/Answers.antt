@@ -5,7 +5,6 @@ use mathlib.Core.Path.{◌≡◌, sym, ◌∙◌, ap}
 use mathlib.Core.List.{[], ◌∷◌, ◌++◌}
 use native.Mathlib.Omega.{arith}
 use lib.ListN.{length, length-append, length-set}
-use borrow.Author.Rules.{rules}
 use Rattle.decimals.specs.Ascii.{line_feed}
 use Rattle.decimals.specs.Decimals.{digits, decimal}
 use Rattle.lists.specs.Parts.{overlay}
@@ -32,7 +31,7 @@ room_for : (c : Else-not-room)
     → c.args.at +
     (length c.args.word.now + c.digit_count-second.result + 1)
     ≤ length c.args.out.now
-room_for c = has_room _ _ _ c.room.ensures c.if-not-room.false-raw
+room_for c = has_room _ _ _ c.room.ensures c.if-not-room.false
 
 pub returns-then-not-room : goal.returns-then-not-room
 returns-then-not-room c =
@@ -49,26 +48,26 @@ copy-requires c = let h = room_for (goal.at.copy-requires c).Else-not-room in om
 pub overflow_add-next : goal.overflow_add-next
 overflow_add-next c =
     let h = room_for (goal.at.overflow_add-next c).Else-not-room in
-    omega (arith, c.well-formed)
+    omega (arith, c.well_formed)
 
 pub spell-requires : goal.spell-requires
 spell-requires c =
     let h = room_for (goal.at.spell-requires c).Else-not-room in
-    omega (arith, c.copy.auto.0)
+    omega (arith, c.copy.auto.out)
 
 pub overflow_add-feed : goal.overflow_add-feed
 overflow_add-feed c =
     let h = room_for (goal.at.overflow_add-feed c).Else-not-room in
-    omega (arith, c.well-formed)
+    omega (arith, c.well_formed)
 
 pub bounds-out-feed : goal.bounds-out-feed
 bounds-out-feed c =
     let h = room_for (goal.at.bounds-out-feed c).Else-not-room in
-    omega (arith, c.copy.auto.0, c.spell.auto.0)
+    omega (arith, c.copy.auto.out, c.spell.auto.out)
 
 pub shape_of-out : goal.shape_of-out
 shape_of-out c =
-    simp length-set (c.spell.auto.0 ∙ c.copy.auto.0)
+    simp length-set (c.spell.auto.out ∙ c.copy.auto.out)
 
 pub returns : goal.returns
 unfolding decimal
@@ -83,4 +82,4 @@ returns c =
     (word_part_feed l at w (decimal n) c.digit_count-second.result h (c.digit_count-second.ensures.0 ∙ sym (length_decimal n))
     c.copy.ensures
     (c.spell.ensures
-    ∙ ap (λ (k : ℕ). overlay c.copy.new.0 (at + length w) (digits k n)) c.digit_count-second.ensures.0))
+    ∙ ap (λ (k : ℕ). overlay c.copy.new.out (at + length w) (digits k n)) c.digit_count-second.ensures.0))

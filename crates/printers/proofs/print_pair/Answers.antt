@@ -5,7 +5,6 @@ use mathlib.Core.Path.{◌≡◌, refl, sym}
 use mathlib.Core.List.{◌++◌}
 use native.Mathlib.Omega.{arith}
 use lib.ListN.{length, length-append}
-use borrow.Author.Rules.{rules}
 use Rattle.printers.specs.Written.{pair_text}
 use Rattle.decimals.proofs.Overlays.{next}
 use Rattle.printers.proofs.Written.{pair_length, wrote, wrote_nothing, has_room, no-room}
@@ -30,7 +29,7 @@ room_for : (c : Else-not-room)
     (length c.args.word.now +
     (c.width.result + 1 + c.width-2.result +
     1)) ≤ length c.args.out.now
-room_for c = has_room _ _ _ c.room.ensures c.if-not-room.false-raw
+room_for c = has_room _ _ _ c.room.ensures c.if-not-room.false
 
 pub returns-then-not-room : goal.returns-then-not-room
 returns-then-not-room c =
@@ -48,14 +47,14 @@ copy-requires c = let h = room_for (goal.at.copy-requires c).Else-not-room in om
 pub overflow_add-at : goal.overflow_add-at
 overflow_add-at c =
     let h = room_for (goal.at.overflow_add-at c).Else-not-room in
-    omega (arith, c.well-formed)
+    omega (arith, c.well_formed)
 
 pub spell_pair-requires : goal.spell_pair-requires
 spell_pair-requires c =
     let h = room_for (goal.at.spell_pair-requires c).Else-not-room in
     omega (
       arith,
-      c.copy.auto.0,
+      c.copy.auto.out,
       pair_length c.args.a c.args.b,
       c.width.ensures.0,
       c.width-2.ensures.0,

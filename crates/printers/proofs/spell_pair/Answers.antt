@@ -4,7 +4,6 @@ use Prim.Native.Nat.{◌+◌, ◌≤◌}
 use mathlib.Core.Path.{◌∙◌}
 use native.Mathlib.Omega.{arith}
 use lib.ListN.{length, length-set}
-use borrow.Author.Rules.{rules}
 use Rattle.decimals.specs.Signs.{decimal_text}
 use Rattle.printers.specs.Written.{pair_text}
 use Rattle.printers.proofs.Written.{part_space_part_feed, pair_length}
@@ -20,22 +19,22 @@ pub spell_decimal-requires : goal.spell_decimal-requires
 spell_decimal-requires c = let h = room_for (goal.at.spell_decimal-requires c).After-width in omega (arith, c.width.ensures.0)
 
 pub bounds-out-space : goal.bounds-out-space
-bounds-out-space c = let h = room_for (goal.at.bounds-out-space c).After-width in omega (arith, c.spell_decimal.auto.0)
+bounds-out-space c = let h = room_for (goal.at.bounds-out-space c).After-width in omega (arith, c.spell_decimal.auto.out)
 
 pub spell_decimal-requires-2 : goal.spell_decimal-requires-2
 spell_decimal-requires-2 c =
     let h = room_for (goal.at.spell_decimal-requires-2 c).After-width in
-    simp length-set (omega (arith, c.spell_decimal.auto.0))
+    simp length-set (omega (arith, c.spell_decimal.auto.out))
 
 pub bounds-out-feed : goal.bounds-out-feed
 bounds-out-feed c =
     let h = room_for (goal.at.bounds-out-feed c).After-width in
-    let k = simp length-set at c.spell_decimal-2.auto.0 in
-    omega (arith, c.width-2.ensures.0, k, c.spell_decimal.auto.0)
+    let k = simp length-set at c.spell_decimal-2.auto.out in
+    omega (arith, c.width-2.ensures.0, k, c.spell_decimal.auto.out)
 
 pub shape_of-out : goal.shape_of-out
 shape_of-out c =
-    simp length-set (c.spell_decimal-2.auto.0 ∙ simp length-set c.spell_decimal.auto.0)
+    simp length-set (c.spell_decimal-2.auto.out ∙ simp length-set c.spell_decimal.auto.out)
 
 pub returns : goal.returns
 unfolding pair_text

@@ -18,14 +18,14 @@ any_has-requires c = (c.requires, omega arith)
 pub returns-then-not-any_has : goal.returns-then-not-any_has
 unfolding directory_taken
 returns-then-not-any_has c =
-    sym (least_hit _ _ _ (sym c.any_has.ensures ∙ not-true _ c.if-not-any_has.true)) ∙ c.loop-x.invariant.1
+    sym (least_hit _ _ _ (sym c.any_has.ensures ∙ c.if-not-any_has.true)) ∙ c.loop-x.invariant.1
 
 pub loop-x-preserved : goal.loop-x-preserved
 unfolding directory_taken
 loop-x-preserved c =
     (
       search rules,
-      least_turn _ _ _ c.loop-x-test.true (sym c.any_has.ensures ∙ not-false _ c.if-not-any_has.false-raw)
+      least_turn _ _ _ c.loop-x-test.true (sym c.any_has.ensures ∙ c.if-not-any_has.false)
           ∙ c.loop-x.invariant.1,
     )
 

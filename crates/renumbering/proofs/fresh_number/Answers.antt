@@ -17,13 +17,13 @@ number_taken-requires c = c.requires
 
 pub returns-then-not-number_taken : goal.returns-then-not-number_taken
 returns-then-not-number_taken c =
-    sym (least_hit _ _ _ (sym c.number_taken.ensures ∙ not-true _ c.if-not-number_taken.true)) ∙ c.loop-x.invariant.1
+    sym (least_hit _ _ _ (sym c.number_taken.ensures ∙ c.if-not-number_taken.true)) ∙ c.loop-x.invariant.1
 
 pub loop-x-preserved : goal.loop-x-preserved
 loop-x-preserved c =
     (
       search rules,
-      least_turn _ _ _ c.loop-x-test.true (sym c.number_taken.ensures ∙ not-false _ c.if-not-number_taken.false-raw)
+      least_turn _ _ _ c.loop-x-test.true (sym c.number_taken.ensures ∙ c.if-not-number_taken.false)
           ∙ c.loop-x.invariant.1,
     )
 

@@ -14,18 +14,19 @@ use Rattle.rules.specs.Rules.{descriptor_in, pending_by}
 use Rattle.rounds.specs.Rounds.{carry_of, helped_of, with_applied}
 use Rattle.rounds.proofs.Laws.{help_left, help_back, help_carried, helped_settled, helped_turn, helped_few, round_end}
 use Rattle.rounds.proofs.round.Goals as goal
+use Rattle.rounds.proofs.round.Goals.{then-n-m, else-n-m, then-pending+then-not-holds_back, then-pending+else-not-holds_back, else-pending}
 
 pub loop-j-init : goal.loop-j-init
 unfolding helped_of
 loop-j-init c =
     let s = c.args in
-    let j = c.if-n-m in (
+    (
       search rules,
-      ⊎_elim (λ w. omega arith) (λ w. omega arith) j.branch,
-      ⊎_elim
-          (λ w. ap (helped_of s.state s.slots.now s.s s.depth s.toggle) (sym w.1))
-          (λ w. helped_few s.state s.slots.now s.s s.depth s.toggle s.s.workers j.m (omega arith) w.1)
-          j.branch,
+      elim c.if-n-m.branch [ then-n-m w ↦ omega arith | else-n-m w ↦ omega arith ],
+      elim c.if-n-m.branch [
+        then-n-m w ↦ ap (helped_of s.state s.slots.now s.s s.depth s.toggle) (sym w.m-is)
+      | else-n-m w ↦ helped_few s.state s.slots.now s.s s.depth s.toggle s.s.workers c.if-n-m.m (omega arith) w.m-is
+      ],
       refl,
     )
 
@@ -45,15 +46,17 @@ loop-j-preserved c =
       search rules,
       search rules,
       l.invariant.2,
-      ⊎_elim
-          (λ w. w.5 ∙ turn _ (w.4.ensures ∙ ap (carry_of l.x s.s l.j) w.3.ensures
-          ∙ sym (help_carried l.x s.s s.depth s.toggle l.j u (pending ∙ w.0.taken)
-          (sym w.1.ensures ∙ not-true _ w.2.taken))) l.invariant.3)
-          (⊎_elim
-          (λ w. w.3 ∙ turn _ (sym (help_back l.x s.s s.depth s.toggle l.j u
-          (sym w.1.ensures ∙ not-false _ w.2.left))) l.invariant.3)
-          (λ w. w.1 ∙ turn _ (sym (help_left l.x s.s s.depth s.toggle l.j u (pending ∙ w.0.left))) l.invariant.3))
-          c.if-pending.either,
+      elim c.if-pending.branch [
+        then-pending+then-not-holds_back w ↦
+            w.x-is ∙ turn _ (w.carry-x.ensures ∙ ap (carry_of l.x s.s l.j) w.descriptor_at.ensures
+            ∙ sym (help_carried l.x s.s s.depth s.toggle l.j u (pending ∙ w.if-pending.true)
+            (sym w.holds_back.ensures ∙ w.if-not-holds_back.true))) l.invariant.3
+      | then-pending+else-not-holds_back w ↦
+            w.x-is ∙ turn _ (sym (help_back l.x s.s s.depth s.toggle l.j u
+            (sym w.holds_back.ensures ∙ w.if-not-holds_back.false))) l.invariant.3
+      | else-pending w ↦
+            w.x-is ∙ turn _ (sym (help_left l.x s.s s.depth s.toggle l.j u (pending ∙ w.if-pending.false))) l.invariant.3
+      ],
     )
 
 pub returns : goal.returns

@@ -33,7 +33,7 @@ used-requires c = (c.requires, c.loop-k.invariant.0)
 
 pub returns-then-not-used : goal.returns-then-not-used
 returns-then-not-used c =
-    sym (spare_found _ _ _ _ c.loop-k-test.true (sym c.used.ensures ∙ not-true _ c.if-not-used.true))
+    sym (spare_found _ _ _ _ c.loop-k-test.true (sym c.used.ensures ∙ c.if-not-used.true))
     ∙ c.loop-k.invariant.1
 
 pub overflow_add-r : goal.overflow_add-r
@@ -49,7 +49,7 @@ overflow_add-r-then-r-all c =
 pub loop-k-preserved : goal.loop-k-preserved
 loop-k-preserved c =
     let all = c.pool-all.ensures in
-    let full = sym c.used.ensures ∙ not-false _ c.if-not-used.false-raw in
+    let full = sym c.used.ensures ∙ c.if-not-used.false in
     let search_from : ℕ → ℕ = λ (r : ℕ). spare_from c.args.words.now
     c.args.g r (c.loop-k.k - 1) in
     ⊎_elim

@@ -52,12 +52,12 @@ get-requires c = omega (arith, inside (goal.at.get-requires c).After-record_of-q
 
 pub returns-then-not-splittable : goal.returns-then-not-splittable
 returns-then-not-splittable c =
-    while_done _ _ _ _ _ c.record_of-q.ensures (tested (goal.at.returns-then-not-splittable c).After-splittable) _ (not-true _ c.if-not-splittable.true)
+    while_done _ _ _ _ _ c.record_of-q.ensures (tested (goal.at.returns-then-not-splittable c).After-splittable) _ c.if-not-splittable.true
     ∙ c.loop-f.invariant.1.1
 
 pub split-requires : goal.split-requires
 split-requires c =
-    let yes = sym (tested (goal.at.split-requires c).After-splittable) ∙ not-false _ c.if-not-splittable.false-raw in
+    let yes = sym (tested (goal.at.split-requires c).After-splittable) ∙ c.if-not-splittable.false in
     (whole (goal.at.split-requires c).At-loop-f, (splittable_depth c.loop-f.words c.args.g c.record_of-q.result yes, inside (goal.at.split-requires c).After-record_of-q))
 
 pub loop-f-preserved : goal.loop-f-preserved
@@ -66,7 +66,7 @@ loop-f-preserved c =
       search rules,
       (
         search rules,
-        while_turn _ _ _ _ _ c.record_of-q.ensures (tested (goal.at.loop-f-preserved c).After-splittable) _ _ c.loop-f-test.true (not-false _ c.if-not-splittable.false-raw)
+        while_turn _ _ _ _ _ c.record_of-q.ensures (tested (goal.at.loop-f-preserved c).After-splittable) _ _ c.loop-f-test.true c.if-not-splittable.false
             c.split.ensures
             ∙ c.loop-f.invariant.1.1,
       ),
