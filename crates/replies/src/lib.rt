@@ -1,6 +1,7 @@
 // Replies and the lines of a listing, printed into a caller's buffer from an index on: the whole text, or nothing where
 // it has no room. Each function answers how many bytes it wrote. Depends on printers and on interface's answers.
 #![tactic(auto)]
+
 ghost use Rattle.std.specs.Prelude.{[], ◌∷◌, ◌++◌};
 ghost use Rattle.decimals.specs.Decimals.{decimal, signed_decimal};
 ghost use Rattle.printers.specs.Written.{Wrote};

@@ -1,6 +1,5 @@
 -- `print_end`: a word and a number.
 -- Rests on the laws that it cites and on the contracts of what is called.
-use borrow.Author.Rules.{rules}
 use Rattle.interface.specs.Numbers.{bytes}
 use Rattle.replies.specs.Printed.{printed_end, printed_line}
 use Rattle.replies.proofs.print_end.Goals as goal

@@ -1,6 +1,5 @@
 -- `print_reply`: by the reply.
 -- Rests on the laws that it cites and on the contracts of what is called.
-use borrow.Author.Rules.{rules}
 use Rattle.interface.specs.Numbers.{bytes}
 use Rattle.replies.specs.Printed.{printed_reply, printed, printed_unread, printed_line}
 use Rattle.replies.proofs.print_reply.Goals as goal

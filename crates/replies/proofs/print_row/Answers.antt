@@ -3,7 +3,6 @@
 use mathlib.Core.Path.{◌∙◌, ap}
 use lib.IntN.{pos}
 use mir.Facts.{to_z-of_z}
-use borrow.Author.Rules.{rules}
 use Rattle.decimals.specs.declared.Decimal.{Decimal}
 use Rattle.decimals.specs.Signs.{sign_of}
 use Rattle.printers.specs.Written.{pair_text}
