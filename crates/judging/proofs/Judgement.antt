@@ -14,7 +14,7 @@ use Rattle.interface.specs.declared.Built.{Built}
 use Rattle.interface.specs.declared.Refusal.{Refusal}
 use Rattle.interface.specs.declared.Verdict.{Verdict}
 use Rattle.interface.proofs.Laws.{wrong_settings as outside_range, right_settings}
-use Rattle.machine.specs.Choice.{if◌then◌else◌, ◌and◌}
+use Rattle.machine.specs.Choice.{if◌then◌else◌}
 use Rattle.machine.specs.Sequential.{Table}
 use Rattle.machine.proofs.laws.Base.{if_true, if_false}
 use Rattle.logs.specs.Log.{are_log, count_of, log_of}

@@ -1,6 +1,7 @@
 // Judging a log: its checks, and the search for an order from the empty table. Rests on the checks, crate wellformed,
 // and on the search, crate searching.
 #![tactic(auto)]
+
 ghost use Rattle.std.specs.Prelude.{◌≡◌, ◌≤◌};
 ghost use Rattle.logs.specs.Judging.{check_log_words};
 ghost use Rattle.logs.specs.Log.{greatest_operations};

@@ -8,7 +8,7 @@ use mathlib.Core.Bool.{Bool, true, false, not}
 use mathlib.Core.List.{List, [], ◌∷◌}
 use mathlib.Core.Option.{Option, none, some}
 use borrow.Author.Tests.{not-true, ltb-true}
-use Rattle.machine.specs.Choice.{◌and◌, assign}
+use Rattle.machine.specs.Choice.{assign}
 use Rattle.machine.proofs.laws.Base.{no_both, none_some, below_suc, if_elim, and_parts}
 use Rattle.logs.specs.Search.{CutLaws, SearchLaws, starting, or_else, count_left, ready, Completes, begun, opened, tries, search, is_same, exchanged_from, exchanged, unless_exchanged, candidate, unless_still, cut_begun, cut_tries, cut_search}
 use Rattle.logs.proofs.Left.{left_before, not_taken, others_left, taken_both, left_less}

@@ -2,6 +2,7 @@
 // it.
 // Rests on the reports of crate report.
 #![tactic(auto)]
+
 ghost use Rattle.std.specs.Prelude.{◌≡◌};
 ghost use Rattle.numbers.specs.Returned.{needed_number, opened_number, called_number, stepped_number, ran_number, listed_number, stepped_report, ran_report, listed_report, exported_number, exported_report, verdict_number};
 

@@ -17,7 +17,7 @@ use borrow.Author.Tests.{eqb-true, ltb-true, ltb-false}
 use Rattle.interface.specs.Numbers.{answer_number}
 use Rattle.interface.specs.declared.Answer.{Answer}
 use Rattle.interface.specs.declared.Answer.TheVariants.{Crowded}
-use Rattle.machine.specs.Choice.{if◌then◌else◌, ◌and◌}
+use Rattle.machine.specs.Choice.{if◌then◌else◌}
 use Rattle.machine.specs.Sequential.{Update, insert, delete, post, account, Operation, update, lookup, first_bits, Table, find, having, looked, crowds, serve, Ascending}
 use Rattle.machine.specs.Calls.{operation_of}
 use Rattle.machine.proofs.laws.Base.{if_elim, if_elim₂, if_eq, if_same, no_both, and_parts, none_some}

@@ -1,6 +1,7 @@
 // A logged operation on the plain table, kept over the log's places: an account stands at the first place whose
 // operation is about it, as 0, or as 1 and its total. Rests on the words of a log, and on the sums of totals.
 #![tactic(auto)]
+
 ghost use Rattle.std.specs.Prelude.{◌≡◌, Bool, false, ℕ, ◌*◌, ◌^◌, ◌≤◌, ◌<◌, length};
 ghost use Rattle.std.proofs.Math.Option.{some};
 ghost use Rattle.std.specs.Int.{w64};

@@ -1,6 +1,7 @@
 // The search for an order that explains a log: recursive over what is left, lowest place first, with two cuts. Rests on
 // an operation replayed. Each contract is an equality with a definition.
 #![tactic(auto)]
+
 ghost use Rattle.std.specs.Prelude.{◌≡◌, eqb, leb, ◌*◌, ◌≤◌, ◌<◌, length};
 ghost use Rattle.std.proofs.Math.Option.{none};
 ghost use Rattle.machine.specs.Choice.{◌and◌};

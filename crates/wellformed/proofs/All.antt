@@ -9,7 +9,6 @@ use mathlib.Core.Path.{◌≡◌, refl, sym, ◌∙◌}
 use mathlib.Core.Logic.{by_cases}
 use mathlib.Core.Bool.{Bool, true, false, not}
 use borrow.Author.Tests.{not-true, not-false}
-use Rattle.machine.specs.Choice.{◌and◌}
 use Rattle.machine.proofs.laws.Base.{and_true, and_left_false, and_no}
 use Rattle.logs.specs.Log.{all}
 

@@ -1,6 +1,7 @@
 // Whether words are a log: whole operations, 12 at most, each of them one, and any two apart and, of one worker, in
 // turn: the field's well-formed history. Rests on the words of a log.
 #![tactic(auto)]
+
 ghost use Rattle.std.specs.Prelude.{◌≡◌, true, not, ◌≤◌, ◌<◌, eqb, ltb};
 ghost use Rattle.machine.specs.Choice.{if◌then◌else◌, ◌and◌};
 ghost use Rattle.logs.specs.Log.{all, apart, are_log, greatest_operations, in_turn, is_operation, logged_at};

@@ -1,8 +1,7 @@
 -- `all-left` sets the first n places.
-use Prim.Native.Nat.{◌-◌, ◌≤◌}
 use native.Mathlib.Nat.{le_antisymm}
 use native.Mathlib.Omega.{arith}
-use mathlib.Core.Path.{◌≡◌, refl, ◌∙◌, ap}
+use mathlib.Core.Path.{refl, ◌∙◌, ap}
 use lib.ListN.{set}
 use borrow.Author.Rules.{rules}
 use Rattle.judging.specs.Places.{all_left}

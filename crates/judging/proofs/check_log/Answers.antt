@@ -2,7 +2,6 @@
 use mathlib.Core.Bool.{true}
 use mathlib.Core.Path.{◌≡◌, sym, ◌∙◌}
 use borrow.Author.Rules.{rules}
-use borrow.Author.Tests.{not-true, not-false}
 use Rattle.interface.specs.Limits.{least_workers, in_range}
 use Rattle.interface.specs.declared.Verdict.{Verdict}
 use Rattle.machine.specs.Choice.{if◌then◌else◌}
@@ -22,10 +21,10 @@ in-range : (c : After-is_log) → in_range least_workers c.args.capacity c.args.
 in-range c = settings_in _ _ _ (sym c.new.ensures ∙ c.in-Settings.is)
 
 good : (c : Else-not-is_log) → are_log c.args.log.now ≡ true
-good c = sym c.is_log.ensures ∙ not-false _ c.if-not-is_log.false-raw
+good c = sym c.is_log.ensures ∙ c.if-not-is_log.false
 
 pub returns-then-not-is_log : goal.returns-then-not-is_log
-returns-then-not-is_log c = refused_as _ _ _ _ _ (bad_log _ _ _ _ (in-range (goal.at.returns-then-not-is_log c).After-is_log) (sym c.is_log.ensures ∙ not-true _ c.if-not-is_log.true))
+returns-then-not-is_log c = refused_as _ _ _ _ _ (bad_log _ _ _ _ (in-range (goal.at.returns-then-not-is_log c).After-is_log) (sym c.is_log.ensures ∙ c.if-not-is_log.true))
 
 pub returns-then-order-count : goal.returns-then-order-count
 unfolding count_of
@@ -40,12 +39,12 @@ search-requires c =
     (short _ (good (goal.at.search-requires c).Else-not-is_log), (search rules, c.if-order-count.false))
 
 -- what the search found
-found : (c : After-search) → (c.search.new.1.1.1.1.1.1.1.0, if c.search.result then Verdict.Accepted else Verdict.No)
+found : (c : After-search) → (c.search.new.order, if c.search.result then Verdict.Accepted else Verdict.No)
     ≡ check_log_words c.args.log.now c.args.capacity c.args.depth c.args.order.now
 unfolding count_of
 found c =
     answered _ _ _ _ (in-range (goal.at.After-search c).After-is_log) (good (goal.at.After-search c).Else-not-is_log) c.if-order-count.false _ _ c.all_left.ensures
-    c.search.ensures.1 _ c.search.ensures.0
+    c.search.ensures.written _ c.search.ensures.found
 
 pub returns-then-search : goal.returns-then-search
 unfolding count_of if◌then◌else◌

@@ -1,6 +1,5 @@
 -- `called_number` gives the number that `called_number` gives, by cases.
 -- Rests on the definition.
-use borrow.Author.Rules.{rules}
 use Rattle.numbers.specs.Returned.{called_number}
 use Rattle.numbers.proofs.called_number.Goals as goal
 

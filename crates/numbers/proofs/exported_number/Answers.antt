@@ -1,6 +1,5 @@
 -- `exported_number` gives the number and the report of an export's answer, by cases.
 -- Rests on the definitions.
-use borrow.Author.Rules.{rules}
 use mathlib.Core.Path.{refl}
 use Rattle.numbers.specs.Returned.{exported_number, exported_report}
 use Rattle.numbers.proofs.exported_number.Goals as goal

@@ -1,6 +1,5 @@
 -- `listed_number` gives the number and the report of a listing's answer, by cases.
 -- Rests on the definitions.
-use borrow.Author.Rules.{rules}
 use mathlib.Core.Path.{refl}
 use Rattle.numbers.specs.Returned.{listed_number, listed_report}
 use Rattle.numbers.proofs.listed_number.Goals as goal

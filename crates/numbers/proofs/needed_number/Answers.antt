@@ -1,6 +1,5 @@
 -- `needed_number` gives the number that `needed_number` gives, by cases.
 -- Rests on the definition.
-use borrow.Author.Rules.{rules}
 use Rattle.numbers.specs.Returned.{needed_number}
 use Rattle.numbers.proofs.needed_number.Goals as goal
 

@@ -1,6 +1,5 @@
 -- `opened_number` gives the number that `opened_number` gives, by cases.
 -- Rests on the definition.
-use borrow.Author.Rules.{rules}
 use Rattle.numbers.specs.Returned.{opened_number}
 use Rattle.numbers.proofs.opened_number.Goals as goal
 

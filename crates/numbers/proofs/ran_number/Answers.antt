@@ -1,6 +1,5 @@
 -- `ran_number` gives the number and the report of a run's answer, by cases.
 -- Rests on the definitions.
-use borrow.Author.Rules.{rules}
 use mathlib.Core.Path.{refl}
 use Rattle.numbers.specs.Returned.{ran_number, ran_report}
 use Rattle.numbers.proofs.ran_number.Goals as goal

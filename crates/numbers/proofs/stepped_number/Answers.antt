@@ -1,6 +1,5 @@
 -- `stepped_number` gives the number and the report of a step's answer, by cases.
 -- Rests on the definitions.
-use borrow.Author.Rules.{rules}
 use mathlib.Core.Path.{refl}
 use Rattle.numbers.specs.Returned.{stepped_number, stepped_report}
 use Rattle.numbers.proofs.stepped_number.Goals as goal

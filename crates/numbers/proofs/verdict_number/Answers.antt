@@ -1,6 +1,5 @@
 -- `verdict_number` gives the number that `verdict_number` gives, by cases.
 -- Rests on the definition.
-use borrow.Author.Rules.{rules}
 use Rattle.numbers.specs.Returned.{verdict_number}
 use Rattle.numbers.proofs.verdict_number.Goals as goal
 

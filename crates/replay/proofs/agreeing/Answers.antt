@@ -1,8 +1,7 @@
 -- `agreeing` counts what the definition counts.
-use Prim.Native.Nat.{◌≤◌, ◌-◌, ◌/◌}
+use Prim.Native.Nat.{◌/◌}
 use native.Mathlib.Omega.{arith}
 use mathlib.Core.Path.{◌≡◌, refl, sym, ap, ◌∙◌}
-use mathlib.Core.Logic.{⊎_elim}
 use lib.ListN.{length}
 use borrow.Author.Rules.{rules}
 use Rattle.machine.specs.Sequential.{first_bits}
@@ -10,6 +9,7 @@ use Rattle.logs.specs.Log.{count_of}
 use Rattle.replay.specs.Balances.{account_logged, there_at, agreeing}
 use Rattle.replay.proofs.PlaceLaws.{agree_missing, agree_same, agree_other}
 use Rattle.replay.proofs.agreeing.Goals as goal
+use Rattle.replay.proofs.agreeing.Goals.{then-balances-j-ne0+then-first_bits-bits, then-balances-j-ne0+else-first_bits-bits, else-balances-j-ne0}
 
 pub loop-j-init : goal.loop-j-init
 unfolding agreeing
@@ -20,35 +20,35 @@ unfolding account_logged there_at
 loop-j-preserved c =
     let s = c.args in
     let inv = c.loop-j.invariant in
-    ⊎_elim
-    (λ w. (
-      search rules,
-      (
+    elim c.if-balances-j-ne0.branch [
+      | then-balances-j-ne0+then-first_bits-bits w ↦ (
         omega arith,
-        w.4 ∙ rw inv.1.1 (sym (agree_same s.log.now s.depth s.bits s.t4 c.loop-j.j w.0.taken
-            (sym (w.2.ensures ∙ ap (first_bits s.depth) w.1.ensures) ∙ w.3.taken))),
-      ),
-    ))
-    (⊎_elim
-    (λ w. (
-      search rules,
-      (
+        (
+          omega arith,
+          w.found-is ∙ rw inv.1.1 (sym (agree_same s.log.now s.depth s.bits s.balances c.loop-j.j w.if-balances-j-ne0.true
+              (sym (w.first_bits.ensures ∙ ap (first_bits s.depth) w.word_at.ensures) ∙ w.if-first_bits-bits.true))),
+        ),
+      )
+      | then-balances-j-ne0+else-first_bits-bits w ↦ (
         omega arith,
-        w.4 ∙ rw inv.1.1 (sym (agree_other s.log.now s.depth s.bits s.t4 c.loop-j.j w.0.taken
-            (λ e. w.3.left (w.2.ensures ∙ ap (first_bits s.depth) w.1.ensures ∙ e)))),
-      ),
-    ))
-    (λ w. (
-      search rules,
-      (
+        (
+          omega arith,
+          w.found-is ∙ rw inv.1.1 (sym (agree_other s.log.now s.depth s.bits s.balances c.loop-j.j w.if-balances-j-ne0.true
+              (λ e. w.if-first_bits-bits.false (w.first_bits.ensures ∙ ap (first_bits s.depth) w.word_at.ensures ∙ e)))),
+        ),
+      )
+      | else-balances-j-ne0 w ↦ (
         omega arith,
-        w.1 ∙ rw inv.1.1 (sym (agree_missing s.log.now s.depth s.bits s.t4 c.loop-j.j w.0.left)),
-      ),
-    ))) c.if-balances-j-ne0.either
+        (
+          omega arith,
+          w.found-is ∙ rw inv.1.1 (sym (agree_missing s.log.now s.depth s.bits s.balances c.loop-j.j w.if-balances-j-ne0.false)),
+        ),
+      )
+    ]
 
 pub returns : goal.returns
 unfolding count_of
 returns c =
     let s = c.args in
     let e : c.loop-j.j ≡ length s.log.now / 8 = omega arith in
-    c.loop-j.invariant.1.1 ∙ ap (agreeing s.log.now s.depth s.bits s.t4) e
+    c.loop-j.invariant.1.1 ∙ ap (agreeing s.log.now s.depth s.bits s.balances) e

@@ -1,15 +1,8 @@
 -- `agreeing` counts what the definition counts. The loop's invariant: the count so far is that of the first j places.
 -- Rests on the laws of the count.
-use Prim.Native.Nat.{◌≤◌, ◌-◌, ◌/◌}
-use native.Mathlib.Omega.{arith}
-use mathlib.Core.Path.{◌≡◌, refl, sym, ap, ◌∙◌}
-use mathlib.Core.Logic.{⊎_elim}
-use lib.ListN.{length}
-use borrow.Author.Rules.{rules}
-use Rattle.machine.specs.Sequential.{first_bits}
-use Rattle.logs.specs.Log.{count_of}
-use Rattle.replay.specs.Balances.{account_logged, there_at, agreeing}
-use Rattle.replay.proofs.PlaceLaws.{agree_missing, agree_same, agree_other}
+use Prim.Native.Nat.{◌≤◌, ◌-◌}
+use mathlib.Core.Path.{◌≡◌}
+use Rattle.replay.specs.Balances.{agreeing}
 use Rattle.replay.proofs.agreeing.Given as goal
 
 abbrev pub invariant-loop-j : goal.invariant-loop-j

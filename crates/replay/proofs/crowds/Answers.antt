@@ -2,7 +2,6 @@
 use Prim.Native.Nat.{ℕ}
 use mathlib.Core.Path.{ap, ◌∙◌}
 use lib.Dec.{leb}
-use borrow.Author.Rules.{rules}
 use Rattle.machine.specs.Sequential.{first_bits}
 use Rattle.logs.specs.Log.{count_of}
 use Rattle.replay.specs.Balances.{account_logged, agreeing, crowds_at}

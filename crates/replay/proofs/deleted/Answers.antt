@@ -1,6 +1,5 @@
 -- `deleted` gives what a delete makes of a balance. Rests on the laws of a logged delete.
 use mathlib.Core.Path.{sym, ◌∙◌}
-use borrow.Author.Rules.{rules}
 use Rattle.replay.proofs.Outcomes.{delete_there, delete_missing}
 use Rattle.replay.proofs.Afterwards.{balance_there, balance_missing}
 use Rattle.replay.proofs.deleted.Goals as goal

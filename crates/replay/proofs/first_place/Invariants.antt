@@ -1,11 +1,8 @@
 -- `first_place` finds what the definition finds. The loop's invariant: the search from place j on has the answer of the whole search.
 -- Rests on the laws of a search.
-use Prim.Native.Nat.{ℕ, ◌≤◌, ◌-◌}
-use native.Mathlib.Omega.{arith}
-use mathlib.Core.Path.{◌≡◌, sym, ap, ◌∙◌}
-use borrow.Author.Rules.{rules}
-use Rattle.replay.specs.Balances.{account_logged, first_from, first_place}
-use Rattle.replay.proofs.PlaceLaws.{first_hit, first_turn, first_end}
+use Prim.Native.Nat.{◌≤◌, ◌-◌}
+use mathlib.Core.Path.{◌≡◌}
+use Rattle.replay.specs.Balances.{first_from, first_place}
 use Rattle.replay.proofs.first_place.Given as goal
 
 abbrev pub invariant-loop-j : goal.invariant-loop-j

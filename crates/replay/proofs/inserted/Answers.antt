@@ -1,6 +1,5 @@
 -- `inserted` gives what an insert makes of a balance. Rests on the laws of a logged insert.
 use mathlib.Core.Path.{sym, ◌∙◌}
-use borrow.Author.Rules.{rules}
 use Rattle.replay.proofs.Words.{word_fits}
 use Rattle.replay.proofs.Outcomes.{insert_there, insert_crowded, insert_new}
 use Rattle.replay.proofs.Afterwards.{balance_there, balance_missing}
@@ -11,18 +10,18 @@ returns-then-there-ne0 c total =
     let s = c.args in
     rw (balance_there s.there total c.if-there-ne0.true)
     ((rw (c.word_at-answer.ensures, c.word_at-total.ensures) at c.balance_if.ensures)
-    ∙ sym (insert_there s.log.now s.i c.requires.1 (word_fits c.word_at-total.ensures c.word_at-total.type-inv) s.crowded _))
+    ∙ sym (insert_there s.log.now s.i c.requires.1 (word_fits c.word_at-total.ensures c.word_at-total.type_inv) s.crowded _))
 
 pub returns-then-crowded : goal.returns-then-crowded
 returns-then-crowded c total =
     let s = c.args in
     rw (balance_missing s.there total c.if-there-ne0.false, c.if-crowded.true)
     ((rw c.word_at-answer.ensures at c.unchanged_if.ensures)
-    ∙ sym (insert_crowded s.log.now s.i c.requires.1 (word_fits c.word_at-total.ensures c.word_at-total.type-inv)))
+    ∙ sym (insert_crowded s.log.now s.i c.requires.1 (word_fits c.word_at-total.ensures c.word_at-total.type_inv)))
 
 pub returns : goal.returns
 returns c total =
     let s = c.args in
     rw (balance_missing s.there total c.if-there-ne0.false, c.if-crowded.false)
     ((rw (c.word_at-answer.ensures, c.word_at-total.ensures) at c.balance_if-2.ensures)
-    ∙ sym (insert_new s.log.now s.i c.requires.1 (word_fits c.word_at-total.ensures c.word_at-total.type-inv)))
+    ∙ sym (insert_new s.log.now s.i c.requires.1 (word_fits c.word_at-total.ensures c.word_at-total.type_inv)))

@@ -1,6 +1,5 @@
 -- `looked_up` gives what a lookup makes of a balance. Rests on the laws of a logged lookup.
 use mathlib.Core.Path.{sym, ◌∙◌}
-use borrow.Author.Rules.{rules}
 use Rattle.replay.proofs.Words.{word_fits}
 use Rattle.replay.proofs.Outcomes.{lookup_there, lookup_missing}
 use Rattle.replay.proofs.Afterwards.{balance_there, balance_missing}
@@ -12,7 +11,7 @@ returns-then-there-ne0 c crowded =
     rw (balance_there s.there s.total c.if-there-ne0.true)
     ((rw (c.word_at-answer.ensures, c.word_at-logged.ensures) at c.unchanged_if.ensures)
     ∙ sym (lookup_there s.log.now s.i c.requires.1 crowded s.total c.ranges.total
-    (word_fits c.word_at-logged.ensures c.word_at-logged.type-inv)))
+    (word_fits c.word_at-logged.ensures c.word_at-logged.type_inv)))
 
 pub returns : goal.returns
 returns c crowded =

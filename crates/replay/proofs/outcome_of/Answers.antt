@@ -1,6 +1,5 @@
 -- `outcome_of` gives what an operation makes of a balance, by its kind. Rests on the contracts of what it calls.
 use mathlib.Core.Path.{sym, ◌∙◌}
-use borrow.Author.Rules.{rules}
 use Rattle.replay.proofs.Outcomes.{no_kind}
 use Rattle.replay.proofs.outcome_of.Goals as goal
 

@@ -1,6 +1,5 @@
 -- `posted` gives what a post makes of a balance: an account that is not there starts from 0. Rests on the laws of a logged post.
 use mathlib.Core.Path.{sym, ap, ◌∙◌}
-use borrow.Author.Rules.{rules}
 use Rattle.logs.specs.Log.{logged_at}
 use Rattle.replay.specs.Replay.{as_outcome, still_at}
 use Rattle.replay.proofs.Alone.{crowding_unused}

@@ -1,6 +1,5 @@
 -- `summed` gives what a post makes of a total. Rests on the laws of a logged post.
 use mathlib.Core.Path.{sym, ◌∙◌}
-use borrow.Author.Rules.{rules}
 use Rattle.replay.proofs.Words.{word_fits}
 use Rattle.replay.proofs.Outcomes.{post_sum, post_overrun}
 use Rattle.replay.proofs.summed.Goals as goal
@@ -11,7 +10,7 @@ returns-in-Within c =
     (rw (c.word_at-answer.ensures, c.word_at-logged.ensures) at c.balance_if.ensures)
     ∙ sym (post_sum s.log.now s.i c.requires.1 s.total _
     (rw c.word_at.ensures at (sym c.sum_of.ensures ∙ c.in-Within.is))
-    (word_fits c.word_at-logged.ensures c.word_at-logged.type-inv))
+    (word_fits c.word_at-logged.ensures c.word_at-logged.type_inv))
 
 pub returns-in-Outside : goal.returns-in-Outside
 returns-in-Outside c =

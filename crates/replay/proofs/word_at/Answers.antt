@@ -1,5 +1,4 @@
 -- `word_at` reads a word of an operation. Rests on nothing but the contract of `get_or`.
-use borrow.Author.Rules.{rules}
 use Rattle.logs.specs.Log.{word_at}
 use Rattle.replay.proofs.word_at.Goals as goal
 

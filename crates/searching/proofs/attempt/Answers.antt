@@ -1,6 +1,5 @@
 -- `attempt` is the definition, test by test. Rests on the laws of an attempt.
 use mathlib.Core.Path.{◌∙◌}
-use borrow.Author.Rules.{rules}
 use borrow.Author.Tests.{not-true, not-false}
 use Rattle.searching.proofs.Candidates.{attempt_unfit, attempt_exchanged, attempt_kept, attempt_higher}
 use Rattle.searching.proofs.attempt.Goals as goal

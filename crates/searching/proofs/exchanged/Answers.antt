@@ -1,6 +1,5 @@
 -- `exchanged` is the definition, test by test. Rests on the laws of an exchange.
 use mathlib.Core.Path.{◌∙◌}
-use borrow.Author.Rules.{rules}
 use borrow.Author.Tests.{not-true, not-false}
 use Rattle.searching.proofs.Candidates.{exchange_earlier, exchange_unfit, exchange_unfit_later, exchange_same}
 use Rattle.searching.proofs.exchanged.Goals as goal

@@ -1,11 +1,7 @@
 -- `least_end` takes the least end of what is left, place by place. Rests on the law of one place more.
 use Prim.Native.Nat.{◌-◌, ◌≤◌}
-use native.Mathlib.Nat.{le_antisymm}
-use mathlib.Core.Path.{◌≡◌, refl, ap, ◌∙◌}
-use mathlib.Core.Logic.{⊎_elim}
-use borrow.Author.Rules.{rules}
+use mathlib.Core.Path.{◌≡◌}
 use Rattle.searching.specs.Searching.{least_end}
-use Rattle.searching.proofs.Ends.{ends_left, ends_gone}
 use Rattle.searching.proofs.least_end.Given as goal
 
 abbrev pub invariant-loop-j : goal.invariant-loop-j

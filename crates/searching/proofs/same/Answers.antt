@@ -1,10 +1,7 @@
 -- `same` compares word by word.
-use Prim.Native.Nat.{◌-◌, ◌≤◌}
-use mathlib.Core.Path.{◌≡◌, refl, sym, ◌∙◌}
-use lib.ListN.{drop}
+use mathlib.Core.Path.{refl, sym, ◌∙◌}
 use native.Mathlib.Omega.{arith}
 use borrow.Author.Rules.{rules}
-use Rattle.logs.specs.Same.{same_numbers}
 use Rattle.logs.proofs.SameLaws.{same_differ, same_next, same_end}
 use Rattle.searching.proofs.same.Goals as goal
 
@@ -15,15 +12,14 @@ pub returns-then-x-k : goal.returns-then-x-k
 returns-then-x-k c =
     sym
     (c.loop-k.invariant.1
-    ∙ same_differ c.args.t1 c.args.t2 c.loop-k.k (omega arith) (omega arith) c.if-x-k.true)
+    ∙ same_differ c.args.x c.args.y c.loop-k.k (omega arith) (omega arith) c.if-x-k.true)
 
 pub loop-k-preserved : goal.loop-k-preserved
-loop-k-preserved c =
-    (
-      search rules,
-      c.loop-k.invariant.1 ∙ same_next c.args.t1 c.args.t2 c.loop-k.k (omega arith) (omega arith) c.if-x-k.false,
-    )
+loop-k-preserved c = (
+  search rules,
+  c.loop-k.invariant.1 ∙ same_next c.args.x c.args.y c.loop-k.k (omega arith) (omega arith) c.if-x-k.false,
+)
 
 pub returns : goal.returns
 returns c =
-    sym (c.loop-k.invariant.1 ∙ same_end c.args.t1 c.args.t2 c.loop-k.k (omega arith) (omega arith))
+    sym (c.loop-k.invariant.1 ∙ same_end c.args.x c.args.y c.loop-k.k (omega arith) (omega arith))

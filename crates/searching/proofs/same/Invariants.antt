@@ -1,12 +1,9 @@
 -- `same` compares word by word. The loop's invariant: what is compared from k on decides. Rests on the laws of the
 -- comparison.
 use Prim.Native.Nat.{◌-◌, ◌≤◌}
-use mathlib.Core.Path.{◌≡◌, refl, sym, ◌∙◌}
+use mathlib.Core.Path.{◌≡◌}
 use lib.ListN.{drop}
-use native.Mathlib.Omega.{arith}
-use borrow.Author.Rules.{rules}
 use Rattle.logs.specs.Same.{same_numbers}
-use Rattle.logs.proofs.SameLaws.{same_differ, same_next, same_end}
 use Rattle.searching.proofs.same.Given as goal
 
 abbrev pub invariant-loop-k : goal.invariant-loop-k

@@ -1,10 +1,7 @@
 -- `all_pairs` tries the operations in turn.
-use Prim.Native.Nat.{◌-◌}
-use mathlib.Core.Path.{sym}
-use borrow.Author.Rules.{rules}
-use Rattle.machine.specs.Choice.{◌and◌}
-use Rattle.logs.specs.Log.{all, apart, in_turn, logged_at}
-use Rattle.wellformed.proofs.All.{Passed, passed_none, passed_more, passed_all, passed_not}
+use mathlib.Core.Path.{sym, ap}
+use mathlib.Core.Bool.{not}
+use Rattle.wellformed.proofs.All.{passed_none, passed_more, passed_all, passed_not}
 use Rattle.wellformed.proofs.all_pairs.Goals as goal
 
 pub loop-i-init : goal.loop-i-init
@@ -12,11 +9,11 @@ loop-i-init c = passed_none _ _
 
 pub returns-then-not-pairs : goal.returns-then-not-pairs
 returns-then-not-pairs c =
-    sym (passed_not _ _ _ c.loop-i-test.true c.pairs.ensures c.if-not-pairs.true)
+    sym (passed_not _ _ _ c.loop-i-test.true c.pairs.ensures (ap not c.if-not-pairs.true))
 
 pub loop-i-preserved : goal.loop-i-preserved
 loop-i-preserved c =
-    passed_more _ _ _ c.loop-i-test.true c.loop-i.invariant c.pairs.ensures c.if-not-pairs.false-raw
+    passed_more _ _ _ c.loop-i-test.true c.loop-i.invariant c.pairs.ensures (ap not c.if-not-pairs.false)
 
 pub returns : goal.returns
 returns c = sym (passed_all _ _ _ c.loop-i-test.false c.loop-i.invariant)

@@ -2,7 +2,6 @@
 -- Rests on the laws of one operation's tests.
 use native.Mathlib.Omega.{arith}
 use mathlib.Core.Path.{sym}
-use borrow.Author.Rules.{rules}
 use Rattle.logs.specs.Log.{logged_at, word_at}
 use Rattle.wellformed.proofs.Fields.{kind_low, kind_high, account_wide, by_end}
 use Rattle.wellformed.proofs.operation.Goals as goal

@@ -1,10 +1,8 @@
 -- `operations` tries the operations in turn. The loop's invariant: those below i have passed; the measure: those left.
 -- Rests on the laws of all.
 use Prim.Native.Nat.{◌-◌}
-use mathlib.Core.Path.{sym}
-use borrow.Author.Rules.{rules}
 use Rattle.logs.specs.Log.{is_operation, logged_at}
-use Rattle.wellformed.proofs.All.{Passed, passed_none, passed_more, passed_all, passed_not}
+use Rattle.wellformed.proofs.All.{Passed}
 use Rattle.wellformed.proofs.operations.Given as goal
 
 abbrev pub invariant-loop-i : goal.invariant-loop-i

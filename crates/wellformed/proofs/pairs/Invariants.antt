@@ -1,11 +1,9 @@
 -- `pairs` tries the operations of lower places. The loop's invariant: those below j have passed; the measure: those left.
 -- Rests on the laws of all.
 use Prim.Native.Nat.{◌-◌}
-use mathlib.Core.Path.{sym}
-use borrow.Author.Rules.{rules}
 use Rattle.machine.specs.Choice.{◌and◌}
 use Rattle.logs.specs.Log.{apart, in_turn, logged_at}
-use Rattle.wellformed.proofs.All.{Passed, passed_none, passed_more, passed_all, passed_not}
+use Rattle.wellformed.proofs.All.{Passed}
 use Rattle.wellformed.proofs.pairs.Given as goal
 
 abbrev pub invariant-loop-j : goal.invariant-loop-j
