@@ -13,7 +13,7 @@ use Rattle.lookups.proofs.LookupLaws.{looked-at, found_below}
 use Rattle.lookups.specs.Lookups.{found_at, looked_at}
 use borrow.Author.Rules.{rules}
 use Rattle.lookups.proofs.look.Goals as goal
-use Rattle.lookups.proofs.look.Goals.{After-scan, After-size-c, In-At-2}
+use Rattle.lookups.proofs.look.Goals.{After-scan, After-size-c, In-At}
 
 -- no more accounts than the greatest bucket has
 few : (c : After-size-c) → c.size-c.result ≤ greatest_capacity
@@ -29,10 +29,10 @@ here c =
     looked-at s.words.now s.g s.q s.account _ _ c.size-c.ensures c.scan.ensures
 
 -- the position is one of the accounts
-found : (c : In-At-2) → c.in-At.i < c.size-c.result
+found : (c : In-At) → c.in-At.i < c.size-c.result
 found c =
     let s = c.args in
-    let room = few (goal.at.In-At-2 c).After-size-c in
+    let room = few (goal.at.In-At c).After-size-c in
     let below = found_below s.words.now s.g s.q s.account _ _ c.size-c.ensures c.scan.ensures (omega arith) in
     subst (Among c.size-c.result) c.in-At.is below
 
@@ -49,17 +49,17 @@ pub scan-requires : goal.scan-requires
 scan-requires c = let h = few (goal.at.scan-requires c).After-size-c in rw length-take (omega arith)
 
 pub overflow_add-at-in-At : goal.overflow_add-at-in-At
-overflow_add-at-in-At c = let h = found (goal.at.overflow_add-at-in-At c).In-At-2 in let k = few (goal.at.overflow_add-at-in-At c).After-size-c in omega arith
+overflow_add-at-in-At c = let h = found (goal.at.overflow_add-at-in-At c).In-At in let k = few (goal.at.overflow_add-at-in-At c).After-size-c in omega arith
 
 pub get-requires : goal.get-requires
-get-requires c = let h = found (goal.at.get-requires c).In-At-2 in let k = few (goal.at.get-requires c).After-size-c in omega arith
+get-requires c = let h = found (goal.at.get-requires c).In-At in let k = few (goal.at.get-requires c).After-size-c in omega arith
 
 pub returns-in-At : goal.returns-in-At
 unfolding found_at
 returns-in-At c =
-    ap Answer.Found (total_kept _ _ _ c.total_of.ensures c.get.type-inv c.get.ensures)
-    ∙ sym (here (goal.at.returns-in-At c).After-scan ∙ ap (found_at _ _ _) c.in-At.is)
+    ap Answer.Found (total_kept _ _ _ c.total_of.ensures c.get.type_inv c.get.ensures)
+    ∙ sym (here (goal.at.returns-in-At c).After-scan ∙ ap (found_at c.args.words.now c.args.g c.args.q) c.in-At.is)
 
 pub returns-in-Before : goal.returns-in-Before
 unfolding found_at
-returns-in-Before c = sym (here (goal.at.returns-in-Before c).After-scan ∙ ap (found_at _ _ _) c.in-Before.is)
+returns-in-Before c = sym (here (goal.at.returns-in-Before c).After-scan ∙ ap (found_at c.args.words.now c.args.g c.args.q) c.in-Before.is)

@@ -49,8 +49,7 @@ half-requires-2 c = (
   search rules,
   omega (
     arith,
-    deep
-        c.before.before.before.before.before.before.before.before.before.before.before.before.before.before,
+    deep (goal.at.half-requires-2 c).After-get,
   ),
 )
 
