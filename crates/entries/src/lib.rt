@@ -1,6 +1,7 @@
 // The rows of one entry of the directory at depth M: those accounts of its bucket whose first M bits are the entry,
 // counted and written.
 #![tactic(auto)]
+
 ghost use Rattle.std.specs.Prelude.{◌≡◌, ◌+◌, ◌^◌, ◌≤◌, ◌<◌, length};
 ghost use Rattle.layout.specs.Shape.{Fits};
 ghost use Rattle.sorting.specs.RowLists.{RowsWritten};

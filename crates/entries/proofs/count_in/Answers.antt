@@ -1,19 +1,12 @@
 -- `count_in` counts the rows of one entry.
-use Prim.Native.Nat.{◌≤◌, ◌-◌}
 use native.Mathlib.Omega.{arith}
-use mathlib.Core.Path.{◌≡◌, refl, sym, ◌∙◌, ap}
-use mathlib.Core.Logic.{⊎_elim}
+use mathlib.Core.Path.{refl, sym, ◌∙◌, ap}
 use lib.ListN.{length}
 use Rattle.entries.specs.Entries.{rows_in}
-use Rattle.entries.proofs.EntryLaws.{Looked, looked, entry_inside, same_bits, rows_same, counted_more, counted_end}
+use Rattle.entries.proofs.EntryLaws.{looked, entry_inside, same_bits, rows_same, counted_more, counted_end}
 use borrow.Author.Rules.{rules}
-use Rattle.entries.proofs.count_in.Reads as reads
-use Rattle.entries.proofs.count_in.Lts as lts
-use Rattle.memory.proofs.get.Reads as get-reads
-use Rattle.rules.proofs.first_bits.Reads as first-bits-reads
-use Rattle.entries.proofs.entry_record.Reads as entry-record-reads
-use Rattle.layout.proofs.addresses.size.Reads as size-reads
 use Rattle.entries.proofs.count_in.Goals as goal
+use Rattle.entries.proofs.count_in.Goals.{then-first_bits-e, else-first_bits-e}
 
 pub size-c-requires : goal.size-c-requires
 size-c-requires c = (c.requires.0, entry_inside _ _ c.requires.0 c.entry_record-q.ensures)
@@ -33,12 +26,14 @@ loop-i-preserved c =
       (
         search rules,
         (
-          ⊎_elim (λ w. omega arith) (λ w. omega arith) c.if-first_bits-e.either,
-          ⊎_elim
-              (λ w. omega (arith, counted_more s.words.now s.g s.e q l.i (sym same ∙ w.0.taken)))
-              (λ w. w.1 ∙ l.invariant.1.1.1 ∙ ap length
-              (sym (rows_same s.words.now s.g s.e q l.i (λ h. w.0.left (same ∙ h)))))
-              c.if-first_bits-e.either,
+          elim c.if-first_bits-e.branch [ then-first_bits-e w ↦ omega arith | else-first_bits-e w ↦ omega arith ],
+          elim c.if-first_bits-e.branch [
+            | then-first_bits-e w ↦
+                omega (arith, counted_more s.words.now s.g s.e q l.i (sym same ∙ w.if-first_bits-e.true))
+            | else-first_bits-e w ↦
+                w.k-is ∙ l.invariant.1.1.1 ∙ ap length
+                (sym (rows_same s.words.now s.g s.e q l.i (λ h. w.if-first_bits-e.false (same ∙ h))))
+          ],
         ),
       ),
     )

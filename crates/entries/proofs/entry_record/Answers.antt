@@ -4,12 +4,6 @@ use native.Mathlib.Omega.{arith}
 use Rattle.entries.specs.Entries.{entry_record}
 use Rattle.layout.proofs.Positions.{start_bound}
 use Rattle.entries.proofs.EntryLaws.{span_limit}
-use borrow.Author.Rules.{rules}
-use Rattle.entries.proofs.entry_record.Reads as reads
-use Rattle.entries.proofs.entry_record.Lts as lts
-use Rattle.memory.proofs.get_or.Reads as get-or-reads
-use Rattle.layout.proofs.addresses.record_in.Reads as record-in-reads
-use Rattle.layout.proofs.shape.directory_start.Reads as directory-start-reads
 use Rattle.entries.proofs.entry_record.Goals as goal
 
 pub overflow_add-directory_start : goal.overflow_add-directory_start

@@ -1,22 +1,14 @@
 -- `write_in` writes the rows of one entry.
-use Prim.Native.Nat.{ℕ, ◌≤◌, ◌<◌, ◌-◌, ◌%◌}
+use Prim.Native.Nat.{ℕ, ◌<◌, ◌%◌}
 use lib.ListN.{length}
 use native.Mathlib.Omega.{arith}
 use mathlib.Core.Path.{sym, ◌∙◌, ap}
-use mathlib.Core.Logic.{⊎_elim}
 use Rattle.entries.specs.Entries.{row_at}
-use Rattle.entries.proofs.EntryLaws.{Looked, looked, entry_inside, same_bits, Written, written_start, written_room, written_more, written_same, written_end}
+use Rattle.entries.proofs.EntryLaws.{looked, entry_inside, same_bits, written_start, written_room, written_more, written_same, written_end}
 use Rattle.memory.proofs.Totals.{total_kept}
 use borrow.Author.Rules.{rules}
-use Rattle.entries.proofs.write_in.Reads as reads
-use Rattle.entries.proofs.write_in.Lts as lts
-use Rattle.memory.proofs.get.Reads as get-reads
-use Rattle.memory.proofs.total_of.Reads as total-of-reads
-use Rattle.rules.proofs.first_bits.Reads as first-bits-reads
-use Rattle.entries.proofs.entry_record.Reads as entry-record-reads
-use Rattle.layout.proofs.addresses.size.Reads as size-reads
 use Rattle.entries.proofs.write_in.Goals as goal
-use Rattle.entries.proofs.write_in.Goals.{Then-first_bits-e}
+use Rattle.entries.proofs.write_in.Goals.{Then-first_bits-e, then-first_bits-e, else-first_bits-e}
 
 pub size-c-requires : goal.size-c-requires
 size-c-requires c = (c.requires.0, entry_inside _ _ c.requires.0 c.entry_record-q.ensures)
@@ -29,7 +21,7 @@ loop-i-init c =
 room :
     (c : Then-first_bits-e)
     → let s = c.args in
-    (c.loop-i.at < length c.accounts.now) × (c.loop-i.at < length c.totals.now)
+    (c.loop-i.at < length s.accounts.now) × (c.loop-i.at < length s.totals.now)
 room c =
     let l = c.loop-i in
     let bits = same_bits c.args.words.now c.args.g _ l.i _ _ c.get-a.ensures
@@ -41,27 +33,24 @@ room c =
     )
 
 pub offset_bounds-accounts-at : goal.offset_bounds-accounts-at
-offset_bounds-accounts-at c = let h = room c in omega arith
+offset_bounds-accounts-at c = let h = room (goal.at.offset_bounds-accounts-at c).Then-first_bits-e in omega arith
 
 pub bounds-accounts-at : goal.bounds-accounts-at
-bounds-accounts-at c = let h = room c in omega arith
+bounds-accounts-at c = let h = room (goal.at.bounds-accounts-at c).Then-first_bits-e in omega arith
 
 pub offset_bounds-totals-at : goal.offset_bounds-totals-at
 offset_bounds-totals-at c =
     let h = room (goal.at.offset_bounds-totals-at c).Then-first_bits-e in
-    let long = c.well_formed.1.1.1.1.1.0 in
     omega arith
 
 pub bounds-totals-at : goal.bounds-totals-at
 bounds-totals-at c =
     let h = room (goal.at.bounds-totals-at c).Then-first_bits-e in
-    let long = c.well_formed.1.1.1.1.1.0 in
     omega arith
 
 pub overflow_add-at : goal.overflow_add-at
 overflow_add-at c =
     let h = room (goal.at.overflow_add-at c).Then-first_bits-e in
-    let long = c.well_formed.1.1.1.1.1.0 in
     omega arith
 
 pub loop-i-preserved : goal.loop-i-preserved
@@ -77,16 +66,18 @@ loop-i-preserved c =
       l.invariant.0,
       (
         search rules,
-        ⊎_elim
-            (λ w.
-            let hit = sym same ∙ w.0.taken in
-            rw (w.3, w.4, w.5)
-            (written_more _ _ _ _ _ _ _ _ _ _ _ written _ _ hit (ap (λ (a : ℕ). a % 4_294_967_296) get)
-            (total_kept _ _ _ w.2.ensures w.1.ok w.1.ensures)
-            (written_room _ _ _ _ _ _ _ _ _ _ _ written _ _ l.invariant.0 hit test c.requires.1.1.0)
-            (written_room _ _ _ _ _ _ _ _ _ _ _ written _ _ l.invariant.0 hit test c.requires.1.1.1)))
-            (λ w. rw (w.1, w.2, w.3) (written_same _ _ _ _ _ _ _ _ _ _ _ written (λ h. w.0.left (same ∙ h))))
-            c.if-first_bits-e.either,
+        elim c.if-first_bits-e.branch [
+          | then-first_bits-e w ↦
+              let hit = sym same ∙ w.if-first_bits-e.true in
+              rw (w.accounts-is, w.totals-is, w.at-is)
+              (written_more _ _ _ _ _ _ _ _ _ _ _ written _ _ hit (ap (λ (a : ℕ). a % 4_294_967_296) get)
+              (total_kept _ _ _ w.total_of.ensures (search rules) w.get.ensures)
+              (written_room _ _ _ _ _ _ _ _ _ _ _ written _ _ l.invariant.0 hit test c.requires.1.1.0)
+              (written_room _ _ _ _ _ _ _ _ _ _ _ written _ _ l.invariant.0 hit test c.requires.1.1.1))
+          | else-first_bits-e w ↦
+              rw (w.accounts-is, w.totals-is, w.at-is)
+              (written_same _ _ _ _ _ _ _ _ _ _ _ written (λ h. w.if-first_bits-e.false (same ∙ h)))
+        ],
       ),
     )
 

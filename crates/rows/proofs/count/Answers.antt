@@ -1,16 +1,13 @@
 -- `count` counts the rows of every entry.
-use Prim.Native.Nat.{ℕ, ◌≤◌, ◌-◌, ◌*◌, ◌^◌}
+use Prim.Native.Nat.{ℕ}
 use native.Mathlib.Nat.{le_antisymm}
 use native.Mathlib.Omega.{arith}
-use mathlib.Core.Path.{◌≡◌, refl, ◌∙◌, ap}
+use mathlib.Core.Path.{refl, ◌∙◌, ap}
 use lib.ListN.{length}
 use Rattle.rows.specs.Rows.{rows_from, unsorted}
 use Rattle.rows.proofs.RowLaws.{span_is, counted_entry}
 use Rattle.entries.proofs.EntryLaws.{span_limit, entry_limit}
 use borrow.Author.Rules.{rules}
-use Rattle.rows.proofs.count.Reads as reads
-use Rattle.rows.proofs.count.Lts as lts
-use Rattle.entries.proofs.count_in.Reads as count-in-reads
 use Rattle.rows.proofs.count.Goals as goal
 
 pub loop-e-init : goal.loop-e-init

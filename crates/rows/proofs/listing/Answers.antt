@@ -5,7 +5,6 @@ use mathlib.Core.Logic.{inl, inr}
 use mathlib.Core.Path.{sym, ◌∙◌}
 use Rattle.rows.proofs.RowLaws.{sort_room, sorted_written, listing_strange, listing_narrow, listing_all}
 use Rattle.layout.proofs.Checks.{fits_of, fits_read}
-use borrow.Author.Rules.{rules}
 use Rattle.rows.proofs.listing.Goals as goal
 
 pub returns-then-strange_words : goal.returns-then-strange_words

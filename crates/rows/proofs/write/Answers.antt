@@ -1,20 +1,14 @@
 -- `write` writes the rows of every entry.
-use Prim.Native.Nat.{ℕ, ◌≤◌, ◌<◌, ◌-◌, ◌^◌}
+use Prim.Native.Nat.{ℕ, ◌<◌, ◌^◌}
 use native.Mathlib.Nat.{le_antisymm}
 use lib.IntN.{ℤ}
 use native.Mathlib.Omega.{arith}
-use mathlib.Core.Path.{◌≡◌, refl, sym, ◌∙◌}
-use mathlib.Core.List.{map}
-use lib.ListN.{length}
-use Rattle.lists.specs.Parts.{overlay}
+use mathlib.Core.Path.{refl, sym, ◌∙◌}
 use Rattle.entries.specs.Entries.{rows_of}
 use Rattle.rows.specs.Rows.{rows_from, unsorted}
 use Rattle.lists.proofs.PartLaws.{overlay_nil}
 use Rattle.rows.proofs.RowLaws.{span_is, entries_more, counted_entry, entry_room, written_behind}
 use borrow.Author.Rules.{rules}
-use Rattle.rows.proofs.write.Reads as reads
-use Rattle.rows.proofs.write.Lts as lts
-use Rattle.entries.proofs.write_in.Reads as write-in-reads
 use Rattle.rows.proofs.write.Goals as goal
 
 pub loop-e-init : goal.loop-e-init

@@ -1,21 +1,11 @@
 -- `write` writes the rows of every entry. The loop's invariant: the rows of the first e entries are written; the measure: the entries left.
 -- Rests on the laws of rows.
-use Prim.Native.Nat.{ℕ, ◌≤◌, ◌<◌, ◌-◌, ◌^◌}
-use native.Mathlib.Nat.{le_antisymm}
-use lib.IntN.{ℤ}
-use native.Mathlib.Omega.{arith}
-use mathlib.Core.Path.{◌≡◌, refl, sym, ◌∙◌}
+use Prim.Native.Nat.{◌≤◌, ◌-◌, ◌^◌}
+use mathlib.Core.Path.{◌≡◌}
 use mathlib.Core.List.{map}
 use lib.ListN.{length}
 use Rattle.lists.specs.Parts.{overlay}
-use Rattle.entries.specs.Entries.{rows_of}
-use Rattle.rows.specs.Rows.{rows_from, unsorted}
-use Rattle.lists.proofs.PartLaws.{overlay_nil}
-use Rattle.rows.proofs.RowLaws.{span_is, entries_more, counted_entry, entry_room, written_behind}
-use borrow.Author.Rules.{rules}
-use Rattle.rows.proofs.write.Reads as reads
-use Rattle.rows.proofs.write.Lts as lts
-use Rattle.entries.proofs.write_in.Reads as write-in-reads
+use Rattle.rows.specs.Rows.{rows_from}
 use Rattle.rows.proofs.write.Given as goal
 
 abbrev pub invariant-loop-e : goal.invariant-loop-e
