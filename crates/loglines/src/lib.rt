@@ -2,6 +2,7 @@
 // for an input are definitions of specs/, which the functions here equal. Rests on the numbers, crate numerals, on
 // lines' fields, on printers, and on the judgement, crate judging.
 #![tactic(auto)]
+
 mod field;
 mod line;
 mod progress;

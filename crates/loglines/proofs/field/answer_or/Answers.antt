@@ -1,6 +1,5 @@
 -- `answer_or`: the field is the word, or it is not.
 -- Rests on the laws that it cites and on the contracts of what is called.
-use borrow.Author.Rules.{rules}
 use Rattle.machine.specs.Choice.{if◌then◌else◌}
 use Rattle.loglines.proofs.field.answer_or.Goals as goal
 

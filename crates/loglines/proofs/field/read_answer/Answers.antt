@@ -3,7 +3,6 @@
 use mathlib.Core.Path.{refl}
 use lib.IntN.{pos}
 use lib.ListN.{drop}
-use borrow.Author.Rules.{rules}
 use Rattle.interface.specs.Numbers.{bytes, answer_word}
 use Rattle.interface.specs.declared.Answer.TheVariants.{Added, Replaced, Removed, Absent, Found, None, Posted, Crowded, Overrun}
 use Rattle.numerals.specs.Numerals.{as_number}

@@ -1,7 +1,6 @@
 -- `read_field`: by the field's place.
 -- Rests on the laws that it cites and on the contracts of what is called.
 use borrow.Author.Tests.{eq-eqb, ne_eqb}
-use borrow.Author.Rules.{rules}
 use Rattle.machine.specs.Choice.{if◌then◌else◌}
 use Rattle.commands.specs.Commands.{account_of}
 use Rattle.logs.specs.Log.{logged_account, logged_total, logged_answer, logged_answer_total}

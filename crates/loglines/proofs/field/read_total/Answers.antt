@@ -19,6 +19,6 @@ returns-in_default c = rw (signed_none _ (sym c.in_default.is ∙ c.read_signed.
 pub returns : goal.returns
 unfolding total_of as_word as_number
 returns c =
-    let f : SFits w64 c.in-Value.total = record { sfits = c.known-told.given.0.1 } in
+    let f : SFits w64 c.in-Value.total = search rules in
     rw (signed_some _ _ (sym c.in-Value.is ∙ c.read_signed.ensures))
     (ap Value (c.word_of.ensures ∙ ap (of_z w64) (to_z-of_z f)))

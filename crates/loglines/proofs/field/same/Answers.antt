@@ -1,10 +1,7 @@
 -- `same`: the bytes passed are the same.
-use Prim.Native.Nat.{◌-◌, ◌≤◌}
-use mathlib.Core.Path.{◌≡◌, refl, sym, ◌∙◌}
+use mathlib.Core.Path.{refl, sym, ◌∙◌}
 use native.Mathlib.Omega.{arith}
-use lib.ListN.{length, drop}
 use borrow.Author.Rules.{rules}
-use Rattle.logs.specs.Same.{same_numbers}
 use Rattle.logs.proofs.SameLaws.{other_length, same_differ, same_next, same_end}
 use Rattle.loglines.proofs.field.same.Goals as goal
 

@@ -5,7 +5,6 @@ use mathlib.Core.Option.{some}
 use native.Mathlib.Omega.{arith}
 use lib.ListN.{length, set, length-set}
 use lib.Seq.{take_all, take-suc-set}
-use borrow.Author.Rules.{rules}
 use Rattle.machine.specs.Choice.{if◌then◌else◌}
 use Rattle.numerals.proofs.NumeralLaws.{number_none, number_some}
 use Rattle.loglines.specs.Lines.{row_of}

@@ -1,5 +1,5 @@
 -- `read_operation`: k fields are read, and the others follow.
-use Prim.Native.Nat.{◌-◌, ◌≤◌, ◌<◌}
+use Prim.Native.Nat.{◌<◌}
 use mathlib.Core.Path.{◌≡◌, refl, sym, ◌∙◌}
 use native.Mathlib.Omega.{arith}
 use native.Mathlib.Numerals.{add-one}
@@ -7,10 +7,9 @@ use lib.ListN.{length, take, drop, length-drop, length-set}
 use lib.Seq.{length-take-le, take-suc-set}
 use borrow.Author.Rules.{rules}
 use Rattle.machine.specs.Choice.{if◌then◌else◌}
-use Rattle.lines.specs.Grammar.{fields_of}
 use Rattle.numerals.proofs.Parts.{part_from}
 use Rattle.numerals.proofs.NumeralLaws.{number_none, number_some}
-use Rattle.loglines.specs.Lines.{operation_line, operation_from, row_of}
+use Rattle.loglines.specs.Lines.{row_of}
 use Rattle.loglines.proofs.LineLaws.{no_word_yet, too_few, next_unread, next_read}
 use Rattle.loglines.proofs.line.read_operation.Goals as goal
 

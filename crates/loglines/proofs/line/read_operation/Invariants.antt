@@ -1,18 +1,10 @@
 -- `read_operation`: k fields are read, and the others follow.
 -- Rests on the laws that it cites and on the contracts of what is called.
-use Prim.Native.Nat.{◌-◌, ◌≤◌, ◌<◌}
-use mathlib.Core.Path.{◌≡◌, refl, sym, ◌∙◌}
-use native.Mathlib.Omega.{arith}
-use native.Mathlib.Numerals.{add-one}
-use lib.ListN.{length, take, drop, length-drop, length-set}
-use lib.Seq.{length-take-le, take-suc-set}
-use borrow.Author.Rules.{rules}
-use Rattle.machine.specs.Choice.{if◌then◌else◌}
+use Prim.Native.Nat.{◌-◌, ◌≤◌}
+use mathlib.Core.Path.{◌≡◌}
+use lib.ListN.{length, take, drop}
 use Rattle.lines.specs.Grammar.{fields_of}
-use Rattle.numerals.proofs.Parts.{part_from}
-use Rattle.numerals.proofs.NumeralLaws.{number_none, number_some}
-use Rattle.loglines.specs.Lines.{operation_line, operation_from, row_of}
-use Rattle.loglines.proofs.LineLaws.{no_word_yet, too_few, next_unread, next_read}
+use Rattle.loglines.specs.Lines.{operation_line, operation_from}
 use Rattle.loglines.proofs.line.read_operation.Given as goal
 
 abbrev pub invariant-loop-k : goal.invariant-loop-k

@@ -4,7 +4,6 @@ use Prim.Native.Nat.{◌+◌}
 use mathlib.Core.Path.{sym, ◌∙◌}
 use native.Mathlib.Omega.{arith}
 use lib.Seq.{length-take-le}
-use borrow.Author.Rules.{rules}
 use Rattle.numerals.proofs.Parts.{part_from}
 use Rattle.commands.specs.Commands.{small_of}
 use Rattle.loglines.proofs.LineLaws.{one_setting, more_settings, two_settings}

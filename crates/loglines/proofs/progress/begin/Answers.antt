@@ -1,6 +1,5 @@
 -- `begin`: nothing is held.
 -- Rests on the laws that it cites and on the contracts of what is called.
-use borrow.Author.Rules.{rules}
 use Rattle.loglines.specs.Holding.{begin, start, none_kept}
 use Rattle.loglines.proofs.progress.begin.Goals as goal
 

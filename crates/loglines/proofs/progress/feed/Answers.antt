@@ -1,9 +1,6 @@
 -- `feed`: feeding the bytes left comes to feeding all.
-use Prim.Native.Nat.{◌-◌, ◌≤◌}
-use mathlib.Core.Path.{◌≡◌, refl, ◌∙◌}
-use lib.ListN.{length, drop}
+use mathlib.Core.Path.{refl, ◌∙◌}
 use borrow.Author.Rules.{rules}
-use Rattle.loglines.specs.Holding.{fed}
 use Rattle.loglines.proofs.Streaming.{fed_next, fed_end}
 use Rattle.loglines.proofs.progress.feed.Goals as goal
 

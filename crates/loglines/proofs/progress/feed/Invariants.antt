@@ -1,11 +1,9 @@
 -- `feed`: feeding the bytes left comes to feeding all.
 -- Rests on the laws that it cites and on the contracts of what is called.
 use Prim.Native.Nat.{◌-◌, ◌≤◌}
-use mathlib.Core.Path.{◌≡◌, refl, ◌∙◌}
+use mathlib.Core.Path.{◌≡◌}
 use lib.ListN.{length, drop}
-use borrow.Author.Rules.{rules}
 use Rattle.loglines.specs.Holding.{fed}
-use Rattle.loglines.proofs.Streaming.{fed_next, fed_end}
 use Rattle.loglines.proofs.progress.feed.Given as goal
 
 abbrev pub invariant-loop-i : goal.invariant-loop-i

@@ -1,7 +1,6 @@
 -- `next_line`: one more, up to the greatest word.
 -- Rests on the laws that it cites and on the contracts of what is called.
 use borrow.Author.Tests.{lt-ltb, le-ltb}
-use borrow.Author.Rules.{rules}
 use Rattle.machine.specs.Choice.{if◌then◌else◌}
 use Rattle.logs.specs.Log.{greatest_word}
 use Rattle.loglines.specs.Holding.{next_line}

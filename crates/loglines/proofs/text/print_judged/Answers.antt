@@ -34,9 +34,9 @@ same_words : (w : After-within-filled)
 same_words w = w.within-filled.ensures.1 _ (all_words w)
 
 judged-text : (k : After-check_log-verdict)
-    → input_text (kept_log (progress k.before.before.before))
+    → input_text (kept_log k.args.progress)
     ≡ verdict_text k.check_log-verdict.result
-    (take (k.within-filled.result / operation_words) k.check_log-verdict.new.1.1.1.0)
+    (take (k.within-filled.result / operation_words) k.check_log-verdict.new.order)
 unfolding kept_log input_text judged_text
 judged-text k =
     rw (← same_words (goal.at.After-check_log-verdict k).After-within-filled, count_taken _ _ (filled_in (goal.at.After-check_log-verdict k).After-within-filled), ← k.check_log-verdict.ensures)
@@ -58,7 +58,7 @@ slice_bounds-check_log-end c = sym (length-take-le _ _ (filled_in (goal.at.slice
 
 pub slice_bounds-order-end : goal.slice_bounds-order-end
 slice_bounds-order-end c =
-    omega (arith, places_in (goal.at.slice_bounds-order-end c).In-Accepted, c.check_log-verdict.auto.1.1.1.0)
+    omega (arith, places_in (goal.at.slice_bounds-order-end c).In-Accepted, c.check_log-verdict.auto.order)
 
 pub slice_bounds-print_order-end : goal.slice_bounds-print_order-end
 slice_bounds-print_order-end c = sym (length-take-le _ _ (slice_bounds-order-end c.before))
@@ -74,17 +74,21 @@ pub returns-in-Accepted : goal.returns-in-Accepted
 unfolding verdict_text
 returns-in-Accepted c =
     let p = c.print_order.ensures in
-    rw (judged-text (goal.at.returns-in-Accepted c).After-check_log-verdict, c.in-Accepted.is) (overlay_printed _ _ p.0 p.1.0, p.1.1)
+    record {
+      told = rw (judged-text (goal.at.returns-in-Accepted c).After-check_log-verdict, c.in-Accepted.is) (overlay_printed _ _ p.0 p.1.0);
+      within = p.1.1;
+    }
 
 pub returns-in-No : goal.returns-in-No
 unfolding verdict_text printed_line bytes
 returns-in-No c =
-    rw (judged-text (goal.at.returns-in-No c).After-check_log-verdict, c.in-No.is) (wrote_printed _ _ c.print_word.ensures (omega (arith, c.requires)))
+    let p = wrote_printed _ _ c.print_word.ensures (omega (arith, c.requires)) in
+    record { told = rw (judged-text (goal.at.returns-in-No c).After-check_log-verdict, c.in-No.is) p.0; within = p.1 }
 
 pub returns-in-Refused : goal.returns-in-Refused
 unfolding verdict_text printed_line bytes
 returns-in-Refused c =
     let r = c.in-Refused.refusal in
     let size = counted_length (bytes "refused ") (number_of r) (number_fits r) in
-    rw (judged-text (goal.at.returns-in-Refused c).After-check_log-verdict, c.in-Refused.is)
-    (wrote_printed _ _ (rw c.number.ensures at c.print_counted.ensures) (omega (arith, c.requires)))
+    let p = wrote_printed _ _ (rw c.number.ensures at c.print_counted.ensures) (omega (arith, c.requires)) in
+    record { told = rw (judged-text (goal.at.returns-in-Refused c).After-check_log-verdict, c.in-Refused.is) p.0; within = p.1 }

@@ -23,7 +23,7 @@ bytes_five = refl
 -- the word is written, and its length is 5
 word_in : (p : After-print_word-at)
     → (p.print_word-at.result ≡ 5)
-    × (p.print_word-at.new.0 ≡ overlay p.args.out.now 0 (bytes "order"))
+    × (p.print_word-at.new.out ≡ overlay p.args.out.now 0 (bytes "order"))
 unfolding bytes
 word_in p =
     let h = p.requires in
@@ -39,7 +39,7 @@ room_for a =
       arith,
       a.loop-i.invariant.1.0,
       a.loop-i.invariant.1.1.1.1,
-      a.print_word-at.auto.0,
+      a.print_word-at.auto.out,
       a.requires,
     )
 
@@ -56,7 +56,7 @@ print_place-at-requires c =
 pub loop-i-preserved : goal.loop-i-preserved
 loop-i-preserved c =
     let t = c.print_place-at in
-    let l = c.print_word-at.new.0 in
+    let l = c.print_word-at.new.out in
     let at = c.print_word-at.result in
     let ps = c.args.places.now in
     let i = c.loop-i.i in
@@ -67,7 +67,7 @@ loop-i-preserved c =
     let m = ap length e in (
       omega arith,
       (
-        t.auto.0 ∙ c.loop-i.invariant.1.0,
+        t.auto.out ∙ c.loop-i.invariant.1.0,
         (
           next l at (spaced (take i ps)) c.loop-i.at (place_text (get_or ps i 0))
               (omega (arith, c.loop-i.invariant.1.0, c.loop-i.invariant.1.1.1.0)) c.loop-i.invariant.1.1.0 t.ensures.0
@@ -86,15 +86,15 @@ bounds-out-at c = omega (arith, room_for (goal.at.bounds-out-at c).At-loop-i)
 
 pub overflow_add-result : goal.overflow_add-result
 overflow_add-result c =
-    record { fits = omega (arith, room_for (goal.at.overflow_add-result c).At-loop-i, c.loop-i.invariant.1.0, c.print_word-at.auto.0, c.well-formed.0.0) }
+    record { fits = omega (arith, room_for (goal.at.overflow_add-result c).At-loop-i, c.loop-i.invariant.1.0, c.print_word-at.auto.out) }
 
 pub shape_of-out : goal.shape_of-out
 shape_of-out c =
-    length-set c.loop-i.out c.loop-i.at 10 ∙ c.loop-i.invariant.1.0 ∙ c.print_word-at.auto.0
+    length-set c.loop-i.out c.loop-i.at 10 ∙ c.loop-i.invariant.1.0 ∙ c.print_word-at.auto.out
 
 pub returns : goal.returns
 returns c =
-    let l = c.print_word-at.new.0 in
+    let l = c.print_word-at.new.out in
     let at = c.print_word-at.result in
     let ps = c.args.places.now in
     let word = word_in (goal.at.returns c).After-print_word-at in

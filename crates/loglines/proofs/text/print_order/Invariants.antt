@@ -1,19 +1,10 @@
 -- `print_order`: the word, i places behind it, and a line feed.
 -- Rests on the laws that it cites and on the contracts of what is called.
 use Prim.Native.Nat.{◌+◌, ◌-◌, ◌*◌, ◌≤◌}
-use mathlib.Core.Path.{◌≡◌, refl, sym, ◌∙◌, ap}
-use mathlib.Core.List.{[], ◌∷◌, ◌++◌}
-use native.Mathlib.Omega.{arith}
-use lib.ListN.{length, take, get_or, length-set, length-append}
-use lib.Seq.{take_all}
-use borrow.Author.Rules.{rules}
-use Rattle.interface.specs.Numbers.{bytes}
+use mathlib.Core.Path.{◌≡◌}
+use lib.ListN.{length, take}
 use Rattle.lists.specs.Parts.{overlay}
-use Rattle.lists.proofs.PartLaws.{overlay_nil}
-use Rattle.decimals.specs.Ascii.{line_feed}
-use Rattle.decimals.proofs.Overlays.{next, next_byte}
-use Rattle.loglines.specs.Texts.{place_text}
-use Rattle.loglines.proofs.TextLaws.{spaced, spaced_next, order-text, wrote_count, wrote_text}
+use Rattle.loglines.proofs.TextLaws.{spaced}
 use Rattle.loglines.proofs.text.print_order.Given as goal
 
 abbrev pub invariant-loop-i : goal.invariant-loop-i

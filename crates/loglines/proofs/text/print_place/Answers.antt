@@ -4,7 +4,6 @@ use mathlib.Core.Path.{◌∙◌, ap}
 use Prim.Native.Nat.{ℕ, ◌+◌}
 use native.Mathlib.Omega.{arith}
 use lib.ListN.{length-set, set}
-use borrow.Author.Rules.{rules}
 use Rattle.lists.specs.Parts.{overlay}
 use Rattle.decimals.specs.Ascii.{space}
 use Rattle.decimals.specs.Decimals.{digits, decimal}
@@ -18,7 +17,7 @@ spell-requires c = simp length-set (omega (arith, c.digit_count-k.ensures.1))
 
 pub shape_of-out : goal.shape_of-out
 shape_of-out c =
-    c.spell.auto.0 ∙ simp length-set
+    c.spell.auto.out ∙ simp length-set
 
 pub returns : goal.returns
 unfolding place_text decimal

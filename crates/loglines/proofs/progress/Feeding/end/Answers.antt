@@ -1,7 +1,6 @@
 -- `Feeding::end`: a line that has a byte is ended.
 -- Rests on the laws that it cites and on the contracts of what is called.
 use borrow.Author.Tests.{eq-eqb, ne_eqb}
-use borrow.Author.Rules.{rules}
 use Rattle.machine.specs.Choice.{if◌then◌else◌}
 use Rattle.loglines.specs.Holding.{ended}
 use Rattle.loglines.proofs.progress.Feeding.end.Goals as goal

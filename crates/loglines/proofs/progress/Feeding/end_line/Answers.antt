@@ -3,7 +3,6 @@
 use mathlib.Core.Path.{sym, ◌∙◌, ap}
 use native.Mathlib.Omega.{arith}
 use lib.Seq.{take_all, length-take-le}
-use borrow.Author.Rules.{rules}
 use Rattle.loglines.specs.Holding.{line_in, with_line}
 use Rattle.loglines.proofs.progress.Feeding.end_line.Goals as goal
 

@@ -1,7 +1,6 @@
 -- `Feeding::take`: a line feed ends the line, any other byte is one of it.
 -- Rests on the laws that it cites and on the contracts of what is called.
 use borrow.Author.Tests.{eq-eqb, ne_eqb}
-use borrow.Author.Rules.{rules}
 use Rattle.machine.specs.Choice.{if◌then◌else◌}
 use Rattle.decimals.specs.Ascii.{line_feed}
 use Rattle.loglines.specs.Holding.{took}

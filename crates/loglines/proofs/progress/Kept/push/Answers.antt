@@ -23,5 +23,5 @@ returns c =
 pub store-requires : goal.store-requires
 store-requires c =
     let all : length c.args.self.words ≡ kept_words = search rules in
-    let row : length c.args.t2 ≡ operation_words = search rules in
+    let row : length c.args.row ≡ operation_words = search rules in
     omega arith

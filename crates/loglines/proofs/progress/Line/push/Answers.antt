@@ -1,7 +1,6 @@
 -- `Line::push`: the byte is kept while there is room.
 -- Rests on the laws that it cites and on the contracts of what is called.
 use borrow.Author.Tests.{lt-ltb, le-ltb}
-use borrow.Author.Rules.{rules}
 use Rattle.machine.specs.Choice.{if◌then◌else◌}
 use Rattle.loglines.specs.Holding.{line_room, pushed}
 use Rattle.loglines.proofs.progress.Line.push.Goals as goal

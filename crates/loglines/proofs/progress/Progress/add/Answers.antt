@@ -1,7 +1,6 @@
 -- `Progress::add`: an operation that was read, or none.
 -- Rests on the laws that it cites and on the contracts of what is called.
 use borrow.Author.Tests.{not-true, not-false}
-use borrow.Author.Rules.{rules}
 use Rattle.machine.specs.Choice.{if◌then◌else◌}
 use Rattle.loglines.specs.Lines.{row_of}
 use Rattle.loglines.specs.Holding.{with_operation}

@@ -1,7 +1,6 @@
 -- `Progress::read`: nothing past a bad line, the settings first, and else an operation.
 -- Rests on the laws that it cites and on the contracts of what is called.
 use mathlib.Core.Path.{◌∙◌, ap}
-use borrow.Author.Rules.{rules}
 use Rattle.machine.specs.Choice.{if◌then◌else◌}
 use Rattle.loglines.specs.Holding.{with_settings, with_operation, with_line}
 use Rattle.loglines.proofs.Reading.{first_line, later_line}

@@ -1,6 +1,5 @@
 -- `Progress::settle`: settings that were read, or none.
 -- Rests on the laws that it cites and on the contracts of what is called.
-use borrow.Author.Rules.{rules}
 use Rattle.loglines.specs.Holding.{with_settings}
 use Rattle.loglines.proofs.progress.Progress.settle.Goals as goal
 
