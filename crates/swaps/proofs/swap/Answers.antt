@@ -42,7 +42,7 @@ overflow_add-q-2 c =
 pub put-requires : goal.put-requires
 put-requires c =
     let h = inside (goal.at.put-requires c).After-held_by-q in
-    let e : length c.round.new.0 ≡ length c.args.words.now = search rules in
+    let e : length c.round.new.words ≡ length c.args.words.now = search rules in
     omega arith
 
 pub returns : goal.returns

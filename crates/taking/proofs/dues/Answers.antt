@@ -10,6 +10,7 @@ use lib.Pow.{pow_mono}
 use Rattle.rules.proofs.Bits.{shift_one}
 use Rattle.taking.proofs.TakingLaws.{Dues, dues_start, dues_more, dues_same}
 use Rattle.taking.proofs.dues.Goals as goal
+use Rattle.taking.proofs.dues.Goals.{else-due, then-due}
 
 pub loop-i-init : goal.loop-i-init
 loop-i-init c = (search rules, dues_start _ _ _ _)
@@ -31,10 +32,7 @@ loop-i-preserved c =
     let few = c.requires.0.workers in
     let more = c.due.ensures in (
       search rules,
-      ⊎_elim
-          (λ w. dues_more _ _ _ _ _ _ _ c.loop-i.invariant.1 more _ _ w.0.taken (shift_one c.loop-i.i (omega arith)) w.1)
-          (λ w. dues_same _ _ _ _ _ _ _ c.loop-i.invariant.1 more _ w.0.left w.1)
-          c.if-due.either,
+      (elim c.if-due.branch [ then-due w ↦ dues_more _ _ _ _ _ _ _ c.loop-i.invariant.1 more _ _ w.if-due.true (shift_one c.loop-i.i (omega arith)) w.bits-is | else-due w ↦ dues_same _ _ _ _ _ _ _ c.loop-i.invariant.1 more _ w.if-due.false w.bits-is ]),
     )
 
 pub returns : goal.returns

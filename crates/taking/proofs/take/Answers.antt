@@ -19,17 +19,17 @@ use Rattle.taking.proofs.take.Goals.{After-holds_back, After-record_of-q}
 -- the record of the account's bucket is inside the words, which a split keeps
 inside :
     (c : After-record_of-q)
-    → Fits c.split_while.new.0 c.args.g
-    × (c.record_of-q.result + widest_record ≤ length c.split_while.new.0)
+    → Fits c.split_while.new.words c.args.g
+    × (c.record_of-q.result + widest_record ≤ length c.split_while.new.words)
 inside c =
-    let fits : Fits c.split_while.new.0 c.args.g = fits_kept (search rules) c.requires.0.fits in
+    let fits : Fits c.split_while.new.words c.args.g = fits_kept (search rules) c.requires.0.fits in
     (fits, rw c.record_of-q.ensures (record_inside fits _))
 
 -- whether it takes no update
 tested :
     (c : After-holds_back)
     → c.holds_back.result
-    ≡ holds_back_at c.split_while.new.0 c.args.g c.record_of-q.result
+    ≡ holds_back_at c.split_while.new.words c.args.g c.record_of-q.result
 tested c = both_read (holds_back_by _) c.holds_back.ensures c.get-depth.ensures c.get.ensures
 
 pub overflow_add-q : goal.overflow_add-q

@@ -10,6 +10,7 @@ use Rattle.taking.specs.Taking.{taken_all}
 use Rattle.spares.proofs.PoolLaws.{whole_kept}
 use Rattle.taking.proofs.TakingLaws.{all_more, all_same}
 use Rattle.taking.proofs.take_all.Goals as goal
+use Rattle.taking.proofs.take_all.Goals.{else-bits-i-eq1, then-bits-i-eq1}
 
 pub loop-i-init : goal.loop-i-init
 unfolding taken_all
@@ -24,17 +25,14 @@ take-requires c =
 
 pub loop-i-preserved : goal.loop-i-preserved
 loop-i-preserved c =
-    ⊎_elim
-    (λ w. (
+    (elim c.if-bits-i-eq1.branch [ then-bits-i-eq1 w ↦ (
       search rules,
       (
-        ap length w.5 ∙ search rules,
-        w.5
-            ∙ all_more _ _ _ _ _ _ c.loop-i.invariant.1.1 _ w.0.taken w.2.ensures,
+        ap length w.words-is ∙ search rules,
+        w.words-is
+            ∙ all_more _ _ _ _ _ _ c.loop-i.invariant.1.1 _ w.if-bits-i-eq1.true w.take.ensures,
       ),
-    ))
-    (λ w. (search rules, (ap length w.1 ∙ c.loop-i.invariant.1.0, w.1 ∙ all_same _ _ _ _ _ _ c.loop-i.invariant.1.1 w.0.left)))
-    c.if-bits-i-eq1.either
+    ) | else-bits-i-eq1 w ↦ (search rules, (ap length w.words-is ∙ c.loop-i.invariant.1.0, w.words-is ∙ all_same _ _ _ _ _ _ c.loop-i.invariant.1.1 w.if-bits-i-eq1.false)) ])
 
 pub returns : goal.returns
 returns c =
