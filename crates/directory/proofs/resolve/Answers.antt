@@ -12,6 +12,7 @@ use Rattle.layout.proofs.Positions.{record_inside}
 use Rattle.directory.proofs.DirectoryLaws.{resolved_more, resolved_same}
 use borrow.Author.Rules.{rules}
 use Rattle.directory.proofs.resolve.Goals as goal
+use Rattle.directory.proofs.resolve.Goals.{else-worker_word-j-eq1, then-worker_word-j-eq1}
 use Rattle.directory.proofs.resolve.Goals.{At-loop-j}
 
 -- what the turns have left of the words holds every record
@@ -24,7 +25,7 @@ loop-j-init c = (search rules, (refl, refl))
 
 pub worker_word-requires : goal.worker_word-requires
 worker_word-requires c =
-    ((whole (goal.at.worker_word-requires c).At-loop-j).ranges, (c.requires.1, omega arith))
+    ((whole (goal.at.worker_word-requires c).At-loop-j).fits, (c.requires.1, omega arith))
 
 pub overflow_shr-worker_word : goal.overflow_shr-worker_word
 overflow_shr-worker_word c = omega (arith, c.requires.0.fits.workers)
@@ -38,7 +39,7 @@ record_of-q-requires c = (whole (goal.at.record_of-q-requires c).At-loop-j).fits
 
 pub dues-bits-requires : goal.dues-bits-requires
 dues-bits-requires c =
-    let fits = (whole (goal.at.dues-bits-requires c).At-loop-j).ranges in
+    let fits = (whole (goal.at.dues-bits-requires c).At-loop-j).fits in
     (fits, (c.requires.1, rw c.record_of-q.ensures (record_inside fits _)))
 
 pub take_all-requires : goal.take_all-requires
@@ -48,24 +49,21 @@ take_all-requires c =
 pub loop-j-preserved : goal.loop-j-preserved
 loop-j-preserved c =
     let bits = c.worker_word.ensures in
-    ⊎_elim
-    (λ w. (
+    (elim c.if-worker_word-j-eq1.branch [ then-worker_word-j-eq1 w ↦ (
       search rules,
       (
-        ap length w.10 ∙ search rules,
-        w.10 ∙ resolved_more _ _ _ _ _ _ c.loop-j.invariant.1.1 bits _ _ _ _ w.0.taken w.2.ensures w.3.ensures
-            w.5.ensures w.7.ensures,
+        ap length w.words-is ∙ search rules,
+        w.words-is ∙ resolved_more _ _ _ _ _ _ c.loop-j.invariant.1.1 bits _ _ _ _ w.if-worker_word-j-eq1.true w.slot_word.ensures w.record_of-q.ensures
+            w.dues-bits.ensures w.take_all.ensures,
       ),
-    ))
-    (λ w. (
+    ) | else-worker_word-j-eq1 w ↦ (
       search rules,
       (
-        ap length w.1 ∙ c.loop-j.invariant.1.0,
-        w.1
-            ∙ resolved_same _ _ _ _ _ _ c.loop-j.invariant.1.1 bits w.0.left,
+        ap length w.words-is ∙ c.loop-j.invariant.1.0,
+        w.words-is
+            ∙ resolved_same _ _ _ _ _ _ c.loop-j.invariant.1.1 bits w.if-worker_word-j-eq1.false,
       ),
-    ))
-    c.if-worker_word-j-eq1.either
+    ) ])
 
 pub returns : goal.returns
 returns c =

@@ -10,6 +10,7 @@ use Rattle.layout.proofs.Positions.{long}
 use Rattle.directory.proofs.DirectoryLaws.{whole_else, redirected_not, redirected_done}
 use borrow.Author.Rules.{rules}
 use Rattle.directory.proofs.swap_directory.Goals as goal
+use Rattle.directory.proofs.swap_directory.Goals.{else-not-nothing, then-not-nothing}
 use Rattle.directory.proofs.swap_directory.Goals.{Joined-not-nothing}
 
 -- after the splits, if there are any, as many words as before
@@ -17,7 +18,7 @@ same :
     (c : Joined-not-nothing)
     → length c.if-not-nothing.words ≡ length
     c.args.words.now
-same c = ⊎_elim (λ w. ap length w.5 ∙ search rules) (λ w. ap length w.1) c.if-not-nothing.either
+same c = (elim c.if-not-nothing.branch [ then-not-nothing w ↦ ap length w.words-is ∙ search rules | else-not-nothing w ↦ ap length w.words-is ])
 
 pub returns-then-worker_word-get : goal.returns-then-worker_word-get
 returns-then-worker_word-get c = redirected_not _ _ _ _ _ c.worker_word.ensures c.get.ensures c.if-worker_word-get.true
@@ -39,6 +40,4 @@ unfolding if◌then◌else◌
 returns c =
     redirected_done _ _ _ _ _ c.worker_word.ensures c.get.ensures c.if-not-nothing.words _ _ c.nothing.result
     c.if-worker_word-get.false c.fresh_directory-x.ensures c.nothing.ensures c.put.ensures
-    (⊎_elim (λ w. rw (w.5, w.2.ensures, not-true c.nothing.result w.0.taken))
-    (λ w. rw (w.1, not-false c.nothing.result w.0.left))
-    c.if-not-nothing.either)
+    (elim c.if-not-nothing.branch [ then-not-nothing w ↦ rw (w.words-is, w.resolve.ensures, w.if-not-nothing.true) | else-not-nothing w ↦ rw (w.words-is, w.if-not-nothing.false) ])
