@@ -1,6 +1,7 @@
 // The listing of a table as a file: made in two local lists that hold every table's rows, and written where the output
 // is long enough for all of it.
 #![tactic(auto)]
+
 ghost use Rattle.std.specs.Prelude.{◌≡◌, ◌+◌, ◌*◌, ◌≤◌, ltb, length};
 ghost use Rattle.lists.specs.Parts.{overlay};
 ghost use Rattle.sorting.specs.RowLists.{rows_at};

@@ -1,6 +1,7 @@
 // What is printed into a caller's buffer behind the bytes that are used. Each printer answers how many bytes are used
 // then; a line for which there is no room is left out. Depends on rows for the listing, and on replies for the texts.
 #![tactic(auto)]
+
 ghost use Rattle.std.specs.Prelude.{◌≡◌, ◌≤◌, length};
 ghost use Rattle.replies.specs.Printed.{printed_reply, printed_row, printed_end};
 ghost use Rattle.outputs.specs.Outputs.{output_of, emitted, put_rows, state_of, listed};

@@ -16,7 +16,6 @@ use Rattle.lists.specs.Parts.{overlay}
 use Rattle.lists.proofs.PartLaws.{set_overlay}
 use Rattle.layout.specs.Shape.{shape_of}
 use Rattle.sorting.specs.RowLists.{accounts_with, row_at, rows_at}
-use Rattle.sorting.specs.Heaps.{listed}
 use Rattle.sorting.proofs.FirstRows.{rows_more, rows_count}
 use Rattle.rows.specs.Rows.{rows}
 use Rattle.rows.proofs.RowLaws.{written_behind}

@@ -1,6 +1,7 @@
 // The rebates on the totals of a table: the listing, made in two local lists that hold every table's rows, and from it
 // the accounts with the rebates on their totals.
 #![tactic(auto)]
+
 ghost use Rattle.std.specs.Prelude.{◌≡◌, ◌≤◌, length};
 ghost use Rattle.sorting.specs.RowLists.{accounts_with, rows_at};
 ghost use Rattle.rebates.specs.Rebates.{rebates_with, rebates_words};

@@ -5,13 +5,12 @@ use native.Mathlib.Omega.{arith}
 use lib.IntN.{pos}
 use Rattle.rows.proofs.AllRows.{AllRows, rows_counted, rows_refused, zeros_long}
 use Rattle.export.proofs.Answers.{export_refused, all_within, export_narrow, enough, export_all}
-use borrow.Author.Rules.{rules}
 use Rattle.export.proofs.export.Goals as goal
 use Rattle.export.proofs.export.Goals.{In-Count}
 
 -- a listing that is counted has all rows
-counted : (c : In-Count) → AllRows c.args.words.now c.in-Count.n c.listing.new.1.0
-    c.listing.new.1.1.0
+counted : (c : In-Count) → AllRows c.args.words.now c.in-Count.n c.listing.new.accounts
+    c.listing.new.totals
 counted c = rows_counted _ _ _ _ _ c.listing.ensures c.in-Count.is
 
 pub too_short-requires : goal.too_short-requires

@@ -1,15 +1,16 @@
 -- `file_size` adds the rows' sizes.
-use Prim.Native.Nat.{◌+◌, ◌*◌, ◌-◌, ◌≤◌}
+use mir.Val.{SFits}
+use mir.Syntax.{w64}
 use native.Mathlib.Nat.{le_antisymm}
 use native.Mathlib.Omega.{arith}
-use mathlib.Core.Path.{◌≡◌, refl, sym, ◌∙◌, ap}
+use mathlib.Core.Path.{refl, sym, ◌∙◌, ap}
 use lib.IntN.{ℤ, pos}
 use lib.ListN.{length, get_or}
 use mir.Facts.{to_z-of_z}
 use borrow.Author.Rules.{rules}
 use Rattle.sorting.specs.RowLists.{rows_at}
-use Rattle.csv_file.specs.Csv.{header_size, longest_row, csv_row, csv_rows}
-use Rattle.export.proofs.Files.{file-size, lines, lines_size}
+use Rattle.csv_file.specs.Csv.{csv_row, csv_rows}
+use Rattle.export.proofs.Files.{file-size, lines_size}
 use Rattle.export.proofs.file_size.Goals as goal
 
 pub loop-i-init : goal.loop-i-init
@@ -24,8 +25,8 @@ loop-i-preserved c =
     let a = c.args.accounts.now in
     let t = c.args.totals.now in
     let i = c.loop-i.i in
-    let kept : _ ≡ get_or t i (pos 0) = to_z-of_z (record { sfits = c.row-size-arg.given }) in
-    let e = c.row_size-size.ensures.0 ∙ ap (λ (z : ℤ). length (csv_row (get_or a i 0) z)) kept in
+    let fits : SFits w64 (get_or t i (pos 0)) = search rules in
+    let e = c.row_size-size.ensures.0 ∙ ap (λ (z : ℤ). length (csv_row (get_or a i 0) z)) (to_z-of_z fits) in
     let n = lines_size a t i in
     (search rules, (omega arith, omega (arith, c.row_size-size.ensures.1)))
 

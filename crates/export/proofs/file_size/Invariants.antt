@@ -1,16 +1,10 @@
 -- `file_size` adds the rows' sizes. The loop's invariant: the size of the file of the first i rows, which is small; the measure: the rows
 -- left. Rests on the laws of files.
 use Prim.Native.Nat.{◌+◌, ◌*◌, ◌-◌, ◌≤◌}
-use native.Mathlib.Nat.{le_antisymm}
-use native.Mathlib.Omega.{arith}
-use mathlib.Core.Path.{◌≡◌, refl, sym, ◌∙◌, ap}
-use lib.IntN.{ℤ, pos}
-use lib.ListN.{length, get_or}
-use mir.Facts.{to_z-of_z}
-use borrow.Author.Rules.{rules}
-use Rattle.sorting.specs.RowLists.{rows_at}
-use Rattle.csv_file.specs.Csv.{header_size, longest_row, csv_row, csv_rows}
-use Rattle.export.proofs.Files.{file-size, lines, lines_size}
+use mathlib.Core.Path.{◌≡◌}
+use lib.ListN.{length}
+use Rattle.csv_file.specs.Csv.{header_size, longest_row}
+use Rattle.export.proofs.Files.{lines}
 use Rattle.export.proofs.file_size.Given as goal
 
 abbrev pub invariant-loop-i : goal.invariant-loop-i

@@ -1,12 +1,14 @@
 -- `write_file` writes the rows one by one.
-use Prim.Native.Nat.{◌+◌, ◌-◌, ◌≤◌}
+use lib.IntN.{pos}
+use mir.Val.{SFits}
+use mir.Syntax.{w64}
+use Prim.Native.Nat.{◌+◌, ◌≤◌}
 use native.Mathlib.Nat.{le_antisymm}
 use native.Mathlib.Omega.{arith}
-use mathlib.Core.Path.{◌≡◌, refl, sym, ◌∙◌}
-use lib.ListN.{length}
+use mathlib.Core.Path.{refl, sym, ◌∙◌}
+use lib.ListN.{length, get_or}
 use mir.Facts.{to_z-of_z}
 use borrow.Author.Rules.{rules}
-use Rattle.lists.specs.Parts.{overlay}
 use Rattle.lists.proofs.PartLaws.{overlay_nil}
 use Rattle.sorting.specs.RowLists.{rows_at}
 use Rattle.csv_file.specs.Csv.{header_size, csv_rows}
@@ -30,22 +32,24 @@ write_row-at-requires c =
     let h = room_for (goal.at.write_row-at-requires c).Start in
     let i = c.loop-i.i in
     let n = line-room c.args.accounts.now c.args.totals.now i c.args.k c.loop-i-test.true in
-    rw (to_z-of_z (record { sfits = c.write-row-arg2.given })) (omega (arith, c.write_header.auto.0, c.loop-i.invariant))
+    let fits : SFits w64 (get_or c.args.totals.now i (pos 0)) = search rules in
+    rw (to_z-of_z fits) (omega (arith, c.write_header.auto.out, c.loop-i.invariant))
 
 pub loop-i-preserved : goal.loop-i-preserved
 loop-i-preserved c =
     let h = room_for (goal.at.loop-i-preserved c).Start in
-    let l = c.loop-i in (
+    let l = c.loop-i in
+    let fits : SFits w64 (get_or c.args.totals.now l.i (pos 0)) = search rules in (
       search rules,
       (
-        c.write_row-at.auto.0 ∙ l.invariant.1.0,
-        line_behind _ _ _ _ _ _ _ l.i _ (to_z-of_z (record { sfits = c.write-row-arg2.given }))
-            (omega (arith, c.write_header.auto.0)) l.invariant.1.1 c.write_row-at.ensures,
+        c.write_row-at.auto.out ∙ l.invariant.1.0,
+        line_behind _ _ _ _ _ _ _ l.i _ (to_z-of_z fits)
+            (omega (arith, c.write_header.auto.out)) l.invariant.1.1 c.write_row-at.ensures,
       ),
     )
 
 pub shape_of-out : goal.shape_of-out
-shape_of-out c = c.loop-i.invariant.1.0 ∙ c.write_header.auto.0
+shape_of-out c = c.loop-i.invariant.1.0 ∙ c.write_header.auto.out
 
 pub returns : goal.returns
 returns c =

@@ -2,7 +2,6 @@
 -- Rests on the laws that it cites and on the contract of what is called.
 use native.Mathlib.Omega.{arith}
 use Rattle.outputs.proofs.Outputs.{wrote_put, wrote_within}
-use borrow.Author.Rules.{rules}
 use Rattle.outputs.proofs.put_reply.Goals as goal
 
 pub overflow_add-result : goal.overflow_add-result

@@ -7,7 +7,6 @@ use mir.Facts.{to_z-of_z}
 use Rattle.replies.specs.Printed.{printed_row}
 use Rattle.outputs.specs.Outputs.{emitted}
 use Rattle.outputs.proofs.Outputs.{wrote_put, wrote_within}
-use borrow.Author.Rules.{rules}
 use Rattle.outputs.proofs.put_row.Goals as goal
 
 pub overflow_add-result : goal.overflow_add-result

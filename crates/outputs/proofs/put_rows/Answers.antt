@@ -1,13 +1,13 @@
 -- `put_rows`: the loop's invariant is that putting the rows left comes to putting all; the measure is how many are left.
-use Prim.Native.Nat.{◌≤◌, ◌-◌}
-use mathlib.Core.Path.{◌≡◌, refl, ◌∙◌, ap}
-use lib.IntN.{ℤ}
-use lib.ListN.{length, get_or}
+use mir.Val.{SFits}
+use mir.Syntax.{w64}
+use mathlib.Core.Path.{refl, ◌∙◌, ap}
+use lib.IntN.{ℤ, pos}
+use lib.ListN.{get_or}
 use mir.Facts.{to_z-of_z}
 use borrow.Author.Rules.{rules}
 use Rattle.replies.specs.Printed.{printed_row}
-use Rattle.outputs.specs.Outputs.{Output, emitted, put_rows}
-use Rattle.sorting.specs.RowLists.{rows_at}
+use Rattle.outputs.specs.Outputs.{Output, emitted}
 use Rattle.outputs.proofs.Outputs.{rows_start, rows_end, rows_next}
 use Rattle.outputs.proofs.put_rows.Goals as goal
 
@@ -19,8 +19,8 @@ loop-i-preserved c =
     let a = c.args in
     let o : Output = record { bytes = c.loop-i.out; used = c.loop-i.used } in
     let row = printed_row (get_or a.accounts.now c.loop-i.i 0) in
-    let kept = to_z-of_z (record { sfits = c.put-row-arg2.given }) in
-    let e = c.put_row-used.ensures ∙ ap (λ (z : ℤ). emitted o (row z)) kept in (
+    let fits : SFits w64 (get_or a.totals.now c.loop-i.i (pos 0)) = search rules in
+    let e = c.put_row-used.ensures ∙ ap (λ (z : ℤ). emitted o (row z)) (to_z-of_z fits) in (
       search rules,
       (
         search rules,

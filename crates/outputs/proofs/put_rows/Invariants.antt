@@ -1,21 +1,16 @@
 -- `put_rows`: the loop's invariant is that putting the rows left comes to putting all; the measure is how many are left.
 -- Rests on the laws of rows.
 use Prim.Native.Nat.{◌≤◌, ◌-◌}
-use mathlib.Core.Path.{◌≡◌, refl, ◌∙◌, ap}
-use lib.IntN.{ℤ}
-use lib.ListN.{length, get_or}
-use mir.Facts.{to_z-of_z}
-use borrow.Author.Rules.{rules}
-use Rattle.replies.specs.Printed.{printed_row}
-use Rattle.outputs.specs.Outputs.{Output, emitted, put_rows}
+use mathlib.Core.Path.{◌≡◌}
+use lib.ListN.{length}
+use Rattle.outputs.specs.Outputs.{put_rows}
 use Rattle.sorting.specs.RowLists.{rows_at}
-use Rattle.outputs.proofs.Outputs.{rows_start, rows_end, rows_next}
 use Rattle.outputs.proofs.put_rows.Given as goal
 
 abbrev pub invariant-loop-i : goal.invariant-loop-i
 invariant-loop-i l = (l.i ≤ l.count)
-    × ((length l.out ≡ length l.initial.out) × (put_rows (record { bytes = l.out; l.used-2 = l.used }) (rows_at l.accounts l.totals l.i (l.count - l.i))
-    ≡ put_rows (record { bytes = l.initial.out; l.used-2 = l.used-2 }) (rows_at l.accounts l.totals 0 l.count)))
+    × ((length l.out ≡ length l.initial.out) × (put_rows (record { bytes = l.out; used = l.used }) (rows_at l.accounts l.totals l.i (l.count - l.i))
+    ≡ put_rows (record { bytes = l.initial.out; used = l.used-2 }) (rows_at l.accounts l.totals 0 l.count)))
 
 abbrev pub decreases-loop-i : goal.decreases-loop-i
 decreases-loop-i l = l.count - l.i

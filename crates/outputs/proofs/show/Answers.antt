@@ -4,7 +4,6 @@ use mathlib.Core.Path.{sym, ◌∙◌, ap}
 use native.Mathlib.Omega.{arith}
 use Rattle.rows.specs.Rows.{Shown}
 use Rattle.outputs.proofs.Outputs.{count_within, listed_count, listed_refused}
-use borrow.Author.Rules.{rules}
 use Rattle.outputs.proofs.show.Goals as goal
 
 pub put_rows-next-requires : goal.put_rows-next-requires

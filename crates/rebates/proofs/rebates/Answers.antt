@@ -6,13 +6,12 @@ use mathlib.Core.Logic.{inl, inr}
 use lib.IntN.{pos}
 use Rattle.rows.proofs.AllRows.{AllRows, rows_counted, rows_refused, zeros_long}
 use Rattle.rebates.proofs.RebateRows.{rebates_refused, rebates_narrow, rebates_all}
-use borrow.Author.Rules.{rules}
 use Rattle.rebates.proofs.rebates.Goals as goal
 use Rattle.rebates.proofs.rebates.Goals.{In-Count}
 
 -- a listing that is counted has all rows
-counted : (c : In-Count) → AllRows c.args.words.now c.in-Count.n c.listing.new.1.0
-    c.listing.new.1.1.0
+counted : (c : In-Count) → AllRows c.args.words.now c.in-Count.n c.listing.new.accounts
+    c.listing.new.totals
 counted c = rows_counted _ _ _ _ _ c.listing.ensures c.in-Count.is
 
 pub returns-then-accounts-k : goal.returns-then-accounts-k

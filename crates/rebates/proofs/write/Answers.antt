@@ -1,15 +1,16 @@
 -- `write` writes the rows one by one.
-use Prim.Native.Nat.{ℕ, ◌-◌, ◌≤◌}
+use mir.Val.{SFits}
+use mir.Syntax.{w64}
+use Prim.Native.Nat.{ℕ}
 use native.Mathlib.Nat.{le_antisymm}
 use lib.IntN.{ℤ, pos}
 use native.Mathlib.Omega.{arith}
 use mathlib.Core.Path.{◌≡◌, refl, sym, ◌∙◌, ap}
-use lib.ListN.{length, get_or}
+use lib.ListN.{get_or}
 use mir.Facts.{to_z-of_z}
 use Rattle.lists.proofs.PartLaws.{overlay_nil}
-use Rattle.sorting.specs.RowLists.{accounts_with, row_at, rows_at}
+use Rattle.sorting.specs.RowLists.{row_at, rows_at}
 use Rattle.rebate.specs.Rebate.{rebate_on}
-use Rattle.rebates.specs.Rebates.{rebates_with}
 use Rattle.rebates.proofs.RebateRows.{row_behind}
 use borrow.Author.Rules.{rules}
 use Rattle.rebates.proofs.write.Goals as goal
@@ -23,8 +24,9 @@ unfolding row_at
 loop-i-preserved c =
     let s = c.args in
     let l = c.loop-i in
+    let fits : SFits w64 (get_or s.totals.now l.i (pos 0)) = search rules in
     let e : c.rebate.result ≡ rebate_on (get_or s.totals.now l.i (pos 0)) =
-    c.rebate.ensures ∙ ap rebate_on (to_z-of_z (record { sfits = c.rebate-arg.given })) in (
+    c.rebate.ensures ∙ ap rebate_on (to_z-of_z fits) in (
       search rules,
       (
         search rules,

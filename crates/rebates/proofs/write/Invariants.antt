@@ -1,18 +1,10 @@
 -- `write` writes the rows one by one. The loop's invariant: both lists are as long as at first, with the first i rows; the measure: the
 -- rows left. Rests on the laws of rows with their rebates.
-use Prim.Native.Nat.{ℕ, ◌-◌, ◌≤◌}
-use native.Mathlib.Nat.{le_antisymm}
-use lib.IntN.{ℤ, pos}
-use native.Mathlib.Omega.{arith}
-use mathlib.Core.Path.{◌≡◌, refl, sym, ◌∙◌, ap}
-use lib.ListN.{length, get_or}
-use mir.Facts.{to_z-of_z}
-use Rattle.lists.proofs.PartLaws.{overlay_nil}
-use Rattle.sorting.specs.RowLists.{accounts_with, row_at, rows_at}
-use Rattle.rebate.specs.Rebate.{rebate_on}
+use Prim.Native.Nat.{◌-◌, ◌≤◌}
+use mathlib.Core.Path.{◌≡◌}
+use lib.ListN.{length}
+use Rattle.sorting.specs.RowLists.{accounts_with, rows_at}
 use Rattle.rebates.specs.Rebates.{rebates_with}
-use Rattle.rebates.proofs.RebateRows.{row_behind}
-use borrow.Author.Rules.{rules}
 use Rattle.rebates.proofs.write.Given as goal
 
 abbrev pub invariant-loop-i : goal.invariant-loop-i
