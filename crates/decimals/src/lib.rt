@@ -1,5 +1,6 @@
 // Numbers written in decimal into a caller's buffer: their sign and size, how many bytes they take, and their digits.
 #![tactic(auto)]
+
 ghost use Rattle.std.specs.Prelude.{◌+◌, ◌≤◌, ◌≡◌, length, pos};
 ghost use Rattle.lists.specs.Parts.{overlay};
 ghost use Rattle.decimals.specs.Decimals.{digits, digit_count, most_digits};

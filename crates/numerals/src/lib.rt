@@ -1,6 +1,7 @@
 // The numbers of a line's fields. A field is a number in one way only: decimal, with no leading zeros.
 // Rests on nothing.
 #![tactic(auto)]
+
 ghost use Rattle.std.specs.Prelude.{◌≡◌};
 ghost use Rattle.numerals.specs.Numerals.{numeral, digits_after, plus, minus, signed_numeral, up_to, in64, as_number, as_signed};
 

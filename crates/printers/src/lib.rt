@@ -1,6 +1,7 @@
 // Words and numbers printed into a caller's buffer, from an index on: the whole text, or nothing where it has no room.
 // Each printer answers how many bytes it wrote. Depends on decimals for the numbers.
 #![tactic(auto)]
+
 ghost use Rattle.std.specs.Prelude.{◌+◌, ◌≤◌, ◌≡◌, ◌++◌, leb, length};
 ghost use Rattle.lists.specs.Parts.{overlay};
 ghost use Rattle.printers.specs.Written.{Wrote, counted_text, pair_text};

@@ -1,11 +1,11 @@
 -- `file_size` adds the rows' sizes.
-use mir.Val.{SFits}
-use mir.Syntax.{w64}
 use native.Mathlib.Nat.{le_antisymm}
 use native.Mathlib.Omega.{arith}
 use mathlib.Core.Path.{refl, sym, ◌∙◌, ap}
 use lib.IntN.{ℤ, pos}
 use lib.ListN.{length, get_or}
+use mir.Val.{SFits}
+use mir.Syntax.{w64}
 use mir.Facts.{to_z-of_z}
 use borrow.Author.Rules.{rules}
 use Rattle.sorting.specs.RowLists.{rows_at}

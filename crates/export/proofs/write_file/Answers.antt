@@ -1,12 +1,12 @@
 -- `write_file` writes the rows one by one.
-use lib.IntN.{pos}
-use mir.Val.{SFits}
-use mir.Syntax.{w64}
 use Prim.Native.Nat.{◌+◌, ◌≤◌}
 use native.Mathlib.Nat.{le_antisymm}
 use native.Mathlib.Omega.{arith}
 use mathlib.Core.Path.{refl, sym, ◌∙◌}
+use lib.IntN.{pos}
 use lib.ListN.{length, get_or}
+use mir.Val.{SFits}
+use mir.Syntax.{w64}
 use mir.Facts.{to_z-of_z}
 use borrow.Author.Rules.{rules}
 use Rattle.lists.proofs.PartLaws.{overlay_nil}

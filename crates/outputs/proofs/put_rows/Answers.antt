@@ -1,9 +1,9 @@
 -- `put_rows`: the loop's invariant is that putting the rows left comes to putting all; the measure is how many are left.
-use mir.Val.{SFits}
-use mir.Syntax.{w64}
 use mathlib.Core.Path.{refl, ◌∙◌, ap}
 use lib.IntN.{ℤ, pos}
 use lib.ListN.{get_or}
+use mir.Val.{SFits}
+use mir.Syntax.{w64}
 use mir.Facts.{to_z-of_z}
 use borrow.Author.Rules.{rules}
 use Rattle.replies.specs.Printed.{printed_row}

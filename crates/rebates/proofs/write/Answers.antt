@@ -1,18 +1,18 @@
 -- `write` writes the rows one by one.
-use mir.Val.{SFits}
-use mir.Syntax.{w64}
 use Prim.Native.Nat.{ℕ}
 use native.Mathlib.Nat.{le_antisymm}
-use lib.IntN.{ℤ, pos}
 use native.Mathlib.Omega.{arith}
 use mathlib.Core.Path.{◌≡◌, refl, sym, ◌∙◌, ap}
+use lib.IntN.{ℤ, pos}
 use lib.ListN.{get_or}
+use mir.Val.{SFits}
+use mir.Syntax.{w64}
 use mir.Facts.{to_z-of_z}
+use borrow.Author.Rules.{rules}
 use Rattle.lists.proofs.PartLaws.{overlay_nil}
 use Rattle.sorting.specs.RowLists.{row_at, rows_at}
 use Rattle.rebate.specs.Rebate.{rebate_on}
 use Rattle.rebates.proofs.RebateRows.{row_behind}
-use borrow.Author.Rules.{rules}
 use Rattle.rebates.proofs.write.Goals as goal
 
 pub loop-i-init : goal.loop-i-init
