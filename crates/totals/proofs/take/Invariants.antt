@@ -5,10 +5,10 @@ use lib.ListN.{length}
 use Rattle.totals.proofs.take.Given as goal
 
 abbrev pub invariant-loop-from : goal.invariant-loop-from
-invariant-loop-from l =
+invariant-loop-from g l =
     (l.from ≤ length l.block)
     × ((length l.words ≡ length l.initial.words) × ((length l.accounts ≡ length l.initial.accounts)
     × ((length l.totals ≡ length l.initial.totals) × (length l.out ≡ length l.initial.out))))
 
 abbrev pub decreases-loop-from : goal.decreases-loop-from
-decreases-loop-from l = length l.block - l.from
+decreases-loop-from g l = length l.block - l.from
