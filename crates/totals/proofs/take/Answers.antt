@@ -6,15 +6,16 @@ use native.Mathlib.Omega.{arith}
 use lib.ListN.{length, take, drop, length-drop}
 use lib.Seq.{length-take-le}
 use Rattle.driver.proofs.Bounds.{used_after, most_after, first_after}
+use Rattle.totals.proofs.take.Given.{Over}
 use Rattle.totals.proofs.take.Goals as goal
 use Rattle.totals.proofs.take.Goals.{After-feed-fed}
 
 -- the used bytes are bytes of the output
-used_in : (g : goal.Over) → (c : After-feed-fed g) → c.feed-fed.result.used ≤ length c.feed-fed.new.out
+used_in : (g : Over) → (c : After-feed-fed g) → c.feed-fed.result.used ≤ length c.feed-fed.new.out
 used_in g c = used_after _ _ _ c.feed-fed.ensures (omega arith)
 
 -- a byte at least is taken, and none past the block
-taken_in : (g : goal.Over) → (c : After-feed-fed g)
+taken_in : (g : Over) → (c : After-feed-fed g)
     → (0 < c.feed-fed.result.taken) × (c.loop-from.from + c.feed-fed.result.taken ≤ length c.args.block.now)
 taken_in g c =
     let l = c.loop-from in
@@ -27,7 +28,7 @@ taken_in g c =
     (omega arith, omega arith)
 
 pub slice_bounds-write-end : goal.slice_bounds-write-end
-slice_bounds-write-end g c = used_in g c
+slice_bounds-write-end g c = used_in g (goal.at.slice_bounds-write-end g c).After-feed-fed
 
 pub slice_bounds-write-end-in-loop-from : goal.slice_bounds-write-end-in-loop-from
 slice_bounds-write-end-in-loop-from g c =
