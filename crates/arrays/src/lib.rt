@@ -2,6 +2,7 @@
 // search serves a bucket's state, the update in place and the lookup. It counts in a byte: a bucket has at most 16
 // accounts (docs/DECISIONS.md, 70, 71). Each contract is an equality with a definition of specs/.
 #![tactic(auto)]
+
 ghost use Rattle.std.specs.Prelude.{◌≡◌, ◌≤◌, length};
 ghost use Rattle.interface.specs.Limits.{greatest_capacity};
 ghost use Rattle.arrays.specs.Arrays.{inserted_in, removed_from, scan};

@@ -1,6 +1,7 @@
 // A bucket's state by value: search, a total read, put and remove, and a ticket settled. Every field is a word, so that
 // a state is loaded and stored by copying. Each contract is an equality with a definition of specs/, for any values.
 #![tactic(auto)]
+
 ghost use Rattle.std.specs.Prelude.{◌≡◌};
 ghost use Rattle.bucket.specs.State.{size_of, search_of, total_in, put_of, remove_of, settle_of};
 

@@ -1,5 +1,6 @@
 // An operation handed to a worker, and its end.
 #![tactic(auto)]
+
 ghost use Rattle.std.specs.Prelude.{◌≡◌, ◌+◌, ◌≤◌, ◌<◌, length, set};
 ghost use Rattle.interface.specs.Numbers.{kind_none};
 ghost use Rattle.fields.specs.Fields.{worker_kind, worker_steps, worker_slots};

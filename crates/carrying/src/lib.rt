@@ -1,6 +1,7 @@
 // A worker's own update carried out on the words of a bucket's record: crowded, or what its kind does at the position
 // that a search gave. What for: the head of crate own.
 #![tactic(auto)]
+
 ghost use Rattle.std.specs.Prelude.{◌≡◌, ◌<◌};
 ghost use Rattle.interface.specs.Numbers.{kind_post};
 ghost use Rattle.inplace.specs.InPlace.{Counted, RoomAt, Searched, changed_at, own_at};

@@ -1,5 +1,6 @@
 // The directory swap: the marked buckets are looked at again and resolved, and the directory gets a fresh number.
 #![tactic(auto)]
+
 ghost use Rattle.std.specs.Prelude.{◌≡◌, ◌<◌};
 ghost use Rattle.layout.specs.Shape.{Fits, Whole};
 ghost use Rattle.fields.specs.Regions.{worker_at};

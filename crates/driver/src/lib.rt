@@ -1,6 +1,7 @@
 // Input of any length, a part at a time: each line that it ends is answered. Depends on responses for the answers, on
 // lines for the reader, and on outputs for the room.
 #![tactic(auto)]
+
 ghost use Rattle.std.specs.Prelude.{◌≡◌};
 ghost use Rattle.outputs.specs.Outputs.{state_of};
 ghost use Rattle.driver.specs.Feeding.{feeding_of, fed};

@@ -3,6 +3,7 @@
 // instructions for an insert at n 1 by single steps and 1,540 by `run`; without this crate 2,528 and 2,009
 // (docs/DECISIONS.md, 42).
 #![tactic(auto)]
+
 ghost use Rattle.std.specs.Prelude.{◌≡◌, ◌+◌, ◌*◌, ◌≤◌, ◌<◌};
 ghost use Rattle.interface.specs.declared.Stepped.{Stepped};
 ghost use Rattle.layout.specs.Shape.{settings_of, Fits};

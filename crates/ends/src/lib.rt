@@ -1,6 +1,7 @@
 // An operation's end: its answer with its steps and its check; an update's answer by the number and the total that are
 // stored of it.
 #![tactic(auto)]
+
 ghost use Rattle.std.specs.Prelude.{◌≡◌, ◌+◌, ◌<◌};
 ghost use Rattle.fields.specs.Fields.{steps_range};
 ghost use Rattle.rules.specs.Rules.{answer_of};

@@ -6,6 +6,7 @@
 // contents are read by the bucket swap that finds the number unchanged. Replies and meaning are the machine's all the
 // same: step-means of crate simulation (docs/DECISIONS.md, 51).
 #![tactic(auto)]
+
 ghost use Rattle.std.specs.Prelude.{◌≡◌, ◌<◌};
 ghost use Rattle.fields.specs.Regions.{worker_at};
 ghost use Rattle.layout.specs.Shape.{Fits};

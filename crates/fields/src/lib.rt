@@ -1,5 +1,6 @@
 // The lent words by name: constants of the same names and values as the definitions of specs/Fields.antt.
 #![tactic(auto)]
+
 use interface::Settings;
 
 // ---- the header

@@ -1,5 +1,6 @@
 // A half of a split: what a bucket's state leaves to one of the two buckets that it becomes.
 #![tactic(auto)]
+
 ghost use Rattle.std.specs.Prelude.{◌≡◌};
 ghost use Rattle.halves.specs.Halves.{half_of};
 

@@ -1,6 +1,7 @@
 // What a state's methods do, on the words of a bucket's record: search, total, settle, put and delete. What for: the
 // head of crate own.
 #![tactic(auto)]
+
 ghost use Rattle.std.specs.Prelude.{◌≡◌, ◌≢◌, ◌<◌};
 ghost use Rattle.interface.specs.Numbers.{kind_insert, kind_post};
 ghost use Rattle.bucket.specs.State.{search_of, total_in, settle_of};

@@ -1,5 +1,6 @@
 // Where things stand in the lent words: the header with the checks behind 8, and the words of each worker, slot and
 // bucket record. Every function takes any words that pass the checks.
 #![tactic(auto)]
+
 pub mod addresses;
 pub mod shape;

@@ -1,5 +1,6 @@
 // A lookup's two steps.
 #![tactic(auto)]
+
 ghost use Rattle.std.specs.Prelude.{◌≡◌, ◌+◌, ◌≤◌, ◌<◌, length};
 ghost use Rattle.fields.specs.Fields.{steps_range, worker_slots, widest_record};
 ghost use Rattle.layout.specs.Shape.{Fits};

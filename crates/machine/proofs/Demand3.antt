@@ -18,7 +18,6 @@ use Rattle.interface.specs.declared.Completion.{Completion}
 use Rattle.machine.specs.Sequential.{Table, first_bits, having, Operation}
 use Rattle.machine.specs.Records.{Leaf, Worker, Machine, new_bucket, first_cells, opened}
 use Rattle.machine.specs.DirectoryPass.{copy_of, name_of}
-use Rattle.machine.specs.Steps.{step}
 use Rattle.machine.specs.Calls.{settings, listing, listing_of}
 use Rattle.machine.specs.Systems.{machines, Entry, calling, stepping, showing, reopening, next, asked, calls_to}
 use Rattle.machine.specs.History.{Member, Distinct, serve_if, entry_at, state_at, is_call, OpeningsRefused}

@@ -3,6 +3,7 @@
 // accounts marked before in this round, and it only marks. Reply and meaning are the machine's all the same: step-means
 // of crate simulation (docs/DECISIONS.md, 51).
 #![tactic(auto)]
+
 ghost use Rattle.std.specs.Prelude.{◌≡◌, ◌<◌};
 ghost use Rattle.fields.specs.Regions.{worker_at};
 ghost use Rattle.layout.specs.Shape.{Fits};

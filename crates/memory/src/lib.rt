@@ -1,6 +1,7 @@
 // Lent words: totals in words and back, one word or a run of words read and written, the lesser of two numbers. Each
 // contract is an equality with a definition; an index that a `requires` bounds is not tested again.
 #![tactic(auto)]
+
 ghost use Rattle.std.specs.Prelude.{◌≡◌, ◌⊎◌, ◌+◌, ◌-◌, ◌≤◌, ◌<◌, length, get_or, set, replicate};
 ghost use Rattle.std.specs.Int.{w64};
 ghost use Rattle.std.proofs.Common.{of_z, to_z};

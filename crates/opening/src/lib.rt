@@ -1,5 +1,6 @@
 // The words needed for settings, and opening.
 #![tactic(auto)]
+
 ghost use Rattle.std.specs.Prelude.{◌≡◌, [], ◌∷◌, ◌≤◌, length};
 ghost use Rattle.interface.specs.Limits.{built, greatest_workers, greatest_capacity};
 ghost use Rattle.fields.specs.Fields.{header_size, deepest};

@@ -3,6 +3,7 @@
 // copied and stored. This source compiled as Rust takes 2,035 instructions for an insert at n 1 by single steps and
 // 1,540 by `run`; without crates own, carrying, inplace and writes 2,586 and 2,091 (docs/DECISIONS.md, 43).
 #![tactic(auto)]
+
 ghost use Rattle.std.specs.Prelude.{◌≡◌};
 ghost use Rattle.fields.specs.Regions.{worker_at};
 ghost use Rattle.inplace.specs.InPlace.{round_at};

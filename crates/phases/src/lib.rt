@@ -1,5 +1,6 @@
 // Which step of an update comes: by its worker's own steps so far.
 #![tactic(auto)]
+
 ghost use Rattle.std.specs.Prelude.{◌≡◌, ◌+◌, ◌-◌, ◌*◌, ◌≤◌, ◌<◌, leb, get_or};
 ghost use Rattle.machine.specs.Choice.{if◌then◌else◌};
 ghost use Rattle.machine.specs.Plan.{check_state, bucket_pass, directory_pass, pass, phase, check_number};

@@ -1,6 +1,7 @@
 // The place of an account, whose first bits choose its bucket, and the way back from a place to its account. Each takes
 // any number, and each of the two on 32 bits is the other's inverse.
 #![tactic(auto)]
+
 ghost use Rattle.std.specs.Prelude.{◌≡◌};
 ghost use Rattle.machine.specs.Sequential.{place, account_at};
 

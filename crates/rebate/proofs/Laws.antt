@@ -13,6 +13,7 @@ use Rattle.rebate.specs.declared.Band.{Band}
 use Rattle.rebate.specs.Bands.{ascending, yearly}
 use Rattle.rebate.specs.Rebate.{inside, due_by, rounded, rebate_on}
 use Rattle.rebate.specs.Laws.{inside_all, ByBand, RebateLaws}
+use Rattle.rebate.proofs.Ascends.{ascends}
 use Rattle.rebate.proofs.Dues.{next_above, rest_ascends}
 
 -- ---- bands that ascend
@@ -67,7 +68,7 @@ bounded t = let h = due_above t in omega arith
 
 monotone : (x y : ℤ) → x ≤ℤ y → rebate_on x ≤ rebate_on y
 unfolding rebate_on rounded
-monotone (pos t) (pos u) h = let k = due_monotone t u (leb_yes h.le) yearly.bands yearly.ascends in omega arith
+monotone (pos t) (pos u) h = let k = due_monotone t u (leb_yes h.le) yearly.bands ascends in omega arith
 monotone (pos t) (negsuc u) h = absurd h.le
 monotone (negsuc t) y h = omega arith
 
@@ -75,7 +76,7 @@ pub rebate_laws : RebateLaws
 unfolding rebate_on
 rebate_laws =
     record {
-      whole = λ t. inside_whole _ _ t yearly.ascends ∙ sub-zero t;
+      whole = λ t. inside_whole _ _ t ascends ∙ sub-zero t;
       by_band = by_band;
       negative = λ t. refl;
       bounded = bounded;

@@ -1,3 +1,4 @@
+pub mod Ascends
 pub mod Dues
 pub mod Signs
 pub mod Laws

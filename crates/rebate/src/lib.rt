@@ -1,6 +1,7 @@
 // The yearly rebate on a total in cents, for every total. Whole cents and ten-thousandths of a cent are summed apart,
 // so that nothing leaves 64 bits.
 #![tactic(auto)]
+
 ghost use Rattle.std.specs.Prelude.{◌≡◌, ◌-◌, ◌^◌, ◌<◌, length, drop};
 ghost use Rattle.rebate.specs.Bands.{yearly, band_at};
 ghost use Rattle.rebate.specs.Rebate.{inside, due_by, rounded, rebate_on};

@@ -1,6 +1,7 @@
 // A bucket's record in the lent words, read: its state loaded, and what is settled in it. Each contract is an equality
 // with a definition of specs/; an index that a `requires` bounds is not tested again.
 #![tactic(auto)]
+
 ghost use Rattle.std.specs.Prelude.{◌≡◌, ◌+◌, ◌≤◌, ◌<◌, length};
 ghost use Rattle.interface.specs.Limits.{greatest_workers, greatest_capacity};
 ghost use Rattle.fields.specs.Fields.{widest_record};

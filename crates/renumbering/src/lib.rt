@@ -1,5 +1,6 @@
 // Numbers of states and of the directory, used again: the least one that no worker has read.
 #![tactic(auto)]
+
 ghost use Rattle.std.specs.Prelude.{◌≡◌, ◌<◌};
 ghost use Rattle.fields.specs.Fields.{worker_slots};
 ghost use Rattle.layout.specs.Shape.{Fits};

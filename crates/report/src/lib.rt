@@ -1,5 +1,6 @@
 // What does not fit into a returned number: words told at the start of a report, and an operation's end.
 #![tactic(auto)]
+
 ghost use Rattle.std.specs.Prelude.{◌≡◌, [], ◌∷◌};
 ghost use Rattle.report.specs.Report.{ended_number, told, told_three, total_word, ended_report};
 

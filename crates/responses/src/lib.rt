@@ -1,6 +1,7 @@
 // A command carried out on the words, and its reply, or the listing, printed behind the used bytes of a buffer.
 // Depends on table for the calls, on commands for what a line asks, and on outputs for what is printed.
 #![tactic(auto)]
+
 ghost use Rattle.std.specs.Prelude.{◌≡◌};
 ghost use Rattle.outputs.specs.Outputs.{state_of};
 ghost use Rattle.responses.specs.Responses.{responded, of_opened, of_called, of_ran};

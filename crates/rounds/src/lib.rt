@@ -1,6 +1,7 @@
 // What a round does with a bucket's state: one worker's update carried out, a post apart, and a whole round.
 // Each contract is an equality with a definition of specs/, for any values.
 #![tactic(auto)]
+
 ghost use Rattle.std.specs.Prelude.{◌≡◌, length, get_or};
 ghost use Rattle.bucket.specs.State.{array_size};
 ghost use Rattle.rounds.specs.Rounds.{post_of, changed_of, carry_of, round_of};

@@ -2,6 +2,7 @@
 // the update in a slot, when it is pending, and one bit of a word changed. Each contract is an equality with a
 // definition.
 #![tactic(auto)]
+
 ghost use Rattle.std.specs.Prelude.{◌≡◌, ◌+◌, ◌≤◌, ◌<◌, length};
 ghost use Rattle.fields.specs.Fields.{slot_size};
 ghost use Rattle.machine.specs.Sequential.{first_bits};

@@ -2,6 +2,7 @@
 // that no early step's answer is made and taken apart: this source compiled as Rust takes 1,540 instructions for an
 // insert by `run` at n 1, and 2,058 through `operation_step` (docs/DECISIONS.md, 42).
 #![tactic(auto)]
+
 ghost use Rattle.std.specs.Prelude.{◌≡◌, ◌≤◌, ◌<◌};
 ghost use Rattle.layout.specs.Shape.{settings_of, Fits};
 ghost use Rattle.runs.specs.Runs.{longest_run, run_in, run_words};

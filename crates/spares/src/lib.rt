@@ -1,5 +1,6 @@
 // The bucket records: where they are, how many words all need, which are in use, and the next spare one.
 #![tactic(auto)]
+
 ghost use Rattle.std.specs.Prelude.{◌≡◌, ◌+◌, ◌≤◌, ◌<◌, length};
 ghost use Rattle.interface.specs.Limits.{greatest_workers, greatest_capacity};
 ghost use Rattle.fields.specs.Fields.{deepest, widest_record};

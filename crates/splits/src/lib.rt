@@ -1,5 +1,6 @@
 // A bucket split in place: its halves in spare records, which the directory then names.
 #![tactic(auto)]
+
 ghost use Rattle.std.specs.Prelude.{◌≡◌, ◌+◌, ◌≤◌, length};
 ghost use Rattle.layout.specs.Shape.{Fits, Whole};
 ghost use Rattle.fields.specs.Fields.{widest_record};

@@ -1,5 +1,6 @@
 // The sum of a total and an amount, each as the word that keeps it, where it is a total again.
 #![tactic(auto)]
+
 ghost use Rattle.std.specs.Prelude.{◌≡◌};
 ghost use Rattle.sums.specs.Sums.{sum_of};
 

@@ -3,6 +3,7 @@
 // have read at this record, for a fresh one. Reply and meaning are the machine's all the same: step-means of crate
 // simulation (docs/DECISIONS.md, 51).
 #![tactic(auto)]
+
 ghost use Rattle.std.specs.Prelude.{◌≡◌, ◌+◌, ◌≤◌, ◌<◌, length};
 ghost use Rattle.fields.specs.Fields.{widest_record};
 ghost use Rattle.fields.specs.Regions.{worker_at};

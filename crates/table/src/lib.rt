@@ -4,6 +4,7 @@
 // Every one of these functions takes any words and any arguments; its contract equals a definition of specs/ in the
 // crate that it stands in, or of the machine's.
 #![tactic(auto)]
+
 pub use calls::call;
 pub use export::export;
 pub use opening::{open, words_needed};

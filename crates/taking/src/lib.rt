@@ -1,6 +1,7 @@
 // The updates that a directory swap takes: which are due at a marked bucket, and each carried out after the splits that
 // it needs. A bucket's contents are read here and not at the state step (docs/DECISIONS.md, 51).
 #![tactic(auto)]
+
 ghost use Rattle.std.specs.Prelude.{◌≡◌, ◌+◌, ◌≤◌, ◌<◌, length};
 ghost use Rattle.layout.specs.Shape.{Fits, Whole};
 ghost use Rattle.fields.specs.Fields.{widest_record};

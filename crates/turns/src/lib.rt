@@ -1,5 +1,6 @@
 // A whole step of one worker: the public call with its checks.
 #![tactic(auto)]
+
 ghost use Rattle.std.specs.Prelude.{◌≡◌};
 ghost use Rattle.turns.specs.Turns.{step_words};
 

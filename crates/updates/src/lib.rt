@@ -1,5 +1,6 @@
 // A step of an update: the step that its plan names, and the check.
 #![tactic(auto)]
+
 ghost use Rattle.std.specs.Prelude.{◌≡◌, ◌<◌};
 ghost use Rattle.fields.specs.Fields.{steps_range};
 ghost use Rattle.layout.specs.Shape.{settings_of, Fits};

@@ -1,6 +1,7 @@
 // The words of a bucket's record changed where they stand: an array's words moved up or down, the count and the applied
 // bits, a settled ticket. What for: the head of crate own.
 #![tactic(auto)]
+
 ghost use Rattle.std.specs.Prelude.{◌≡◌, ◌∷◌, ◌+◌, ◌-◌, ◌≤◌, ◌<◌, length, set};
 ghost use Rattle.fields.specs.Fields.{record_count, record_applied, settled_from, answers_from, posted_from, widest_record};
 ghost use Rattle.lists.specs.Parts.{part, overlay};

@@ -1,11 +1,11 @@
 -- `lower` leaves what `removed_from` says.
-use Prim.Native.Nat.{ℕ, ◌≤◌, ◌<◌, ◌-◌, ◌+◌}
+use Prim.Native.Nat.{ℕ, ◌+◌}
 use native.Mathlib.Omega.{arith}
-use mathlib.Core.Path.{◌≡◌, refl, sym, ◌∙◌, ap}
+use mathlib.Core.Path.{refl, sym, ◌∙◌, ap}
 use mathlib.Core.List.{List}
-use lib.ListN.{length, set, get_or, length-set}
+use lib.ListN.{set, get_or, length-set}
 use borrow.Author.Rules.{rules}
-use Rattle.arrays.proofs.Laws.{lowered, lowered_start, lowered_turn, lowered_end, removed_none, removed_past}
+use Rattle.arrays.proofs.Laws.{lowered_start, lowered_turn, lowered_end, removed_none, removed_past}
 use Rattle.arrays.proofs.lower.Goals as goal
 
 pub returns-then-a-c : goal.returns-then-a-c

@@ -1,12 +1,9 @@
 -- `lower` leaves what `removed_from` says. The loop's invariant: the items up to position k are moved down, by `lowered`.
 -- Rests on the laws of `lowered`.
-use Prim.Native.Nat.{ℕ, ◌≤◌, ◌<◌, ◌-◌, ◌+◌}
-use native.Mathlib.Omega.{arith}
-use mathlib.Core.Path.{◌≡◌, refl, sym, ◌∙◌, ap}
-use mathlib.Core.List.{List}
-use lib.ListN.{length, set, get_or, length-set}
-use borrow.Author.Rules.{rules}
-use Rattle.arrays.proofs.Laws.{lowered, lowered_start, lowered_turn, lowered_end, removed_none, removed_past}
+use Prim.Native.Nat.{◌≤◌, ◌<◌, ◌-◌}
+use mathlib.Core.Path.{◌≡◌}
+use lib.ListN.{length}
+use Rattle.arrays.proofs.Laws.{lowered}
 use Rattle.arrays.proofs.lower.Given as goal
 
 abbrev pub invariant-loop-k : goal.invariant-loop-k

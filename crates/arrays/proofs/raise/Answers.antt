@@ -1,10 +1,10 @@
 -- `raise` leaves what `inserted_in` says.
-use Prim.Native.Nat.{ℕ, ◌≤◌, ◌-◌}
+use Prim.Native.Nat.{ℕ, ◌-◌}
 use native.Mathlib.Nat.{le_antisymm}
 use native.Mathlib.Omega.{arith}
-use mathlib.Core.Path.{◌≡◌, refl, sym, ◌∙◌, ap}
+use mathlib.Core.Path.{refl, sym, ◌∙◌, ap}
 use mathlib.Core.List.{List}
-use lib.ListN.{length, set, get_or, length-set}
+use lib.ListN.{set, get_or, length-set}
 use borrow.Author.Rules.{rules}
 use Rattle.arrays.proofs.Laws.{raised, raised_start, raised_turn, raised_end, inserted_none, inserted_past}
 use Rattle.arrays.proofs.raise.Goals as goal

@@ -1,13 +1,9 @@
 -- `raise` leaves what `inserted_in` says. The loop's invariant: the items above position k are moved up, by `raised`.
 -- Rests on the laws of `raised`.
-use Prim.Native.Nat.{ℕ, ◌≤◌, ◌-◌}
-use native.Mathlib.Nat.{le_antisymm}
-use native.Mathlib.Omega.{arith}
-use mathlib.Core.Path.{◌≡◌, refl, sym, ◌∙◌, ap}
-use mathlib.Core.List.{List}
-use lib.ListN.{length, set, get_or, length-set}
-use borrow.Author.Rules.{rules}
-use Rattle.arrays.proofs.Laws.{raised, raised_start, raised_turn, raised_end, inserted_none, inserted_past}
+use Prim.Native.Nat.{◌≤◌, ◌-◌}
+use mathlib.Core.Path.{◌≡◌}
+use lib.ListN.{length}
+use Rattle.arrays.proofs.Laws.{raised}
 use Rattle.arrays.proofs.raise.Given as goal
 
 abbrev pub invariant-loop-k : goal.invariant-loop-k

@@ -1,10 +1,7 @@
 -- `scan` finds what the definition finds.
-use Prim.Native.Nat.{◌≤◌, ◌-◌}
 use native.Mathlib.Omega.{arith}
-use mathlib.Core.Path.{◌≡◌, refl, sym, ◌∙◌}
-use lib.ListN.{length, drop}
+use mathlib.Core.Path.{refl, sym, ◌∙◌}
 use borrow.Author.Rules.{rules}
-use Rattle.arrays.specs.Arrays.{scan}
 use Rattle.arrays.proofs.Laws.{scan_hit, scan_before, scan_turn, scan_end}
 use Rattle.arrays.proofs.scan.Goals as goal
 

@@ -1,12 +1,9 @@
 -- `scan` finds what the definition finds. The loop's invariant: the scan from position i on has the answer of the whole scan.
 -- Rests on the laws of a search.
 use Prim.Native.Nat.{◌≤◌, ◌-◌}
-use native.Mathlib.Omega.{arith}
-use mathlib.Core.Path.{◌≡◌, refl, sym, ◌∙◌}
+use mathlib.Core.Path.{◌≡◌}
 use lib.ListN.{length, drop}
-use borrow.Author.Rules.{rules}
 use Rattle.arrays.specs.Arrays.{scan}
-use Rattle.arrays.proofs.Laws.{scan_hit, scan_before, scan_turn, scan_end}
 use Rattle.arrays.proofs.scan.Given as goal
 
 abbrev pub invariant-loop-i : goal.invariant-loop-i

@@ -3,7 +3,6 @@
 use native.Mathlib.Omega.{arith}
 use Rattle.layout.proofs.Positions.{Placed, placed}
 use Rattle.calls.specs.Calls.{begun_at}
-use borrow.Author.Rules.{rules}
 use Rattle.calls.proofs.begin.Goals as goal
 use Rattle.calls.proofs.begin.Goals.{After-worker_at-p}
 

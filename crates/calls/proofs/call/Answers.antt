@@ -6,7 +6,6 @@ use mir.Facts.{to_z-of_z}
 use Rattle.layout.proofs.Checks.{fits_of, fits_read, strange_first, stranger_next}
 use Rattle.calls.proofs.CallLaws.{call-words}
 use Rattle.calls.specs.Calls.{call_in, call_words}
-use borrow.Author.Rules.{rules}
 use Rattle.calls.proofs.call.Goals as goal
 
 pub returns-then-strange_words : goal.returns-then-strange_words

@@ -1,7 +1,7 @@
 -- `call_in` refuses a call, or begins it, as `call_in` says: a case for each `return`.
 -- Rests on the laws of a call, and on the bounds of a worker's words.
 use native.Mathlib.Omega.{arith}
-use mathlib.Core.Logic.{inl, inr, ⊎_elim}
+use mathlib.Core.Logic.{inl, inr}
 use mathlib.Core.Path.{sym, ◌∙◌, ap}
 use mir.Syntax.{w64}
 use mir.Val.{of_z}
@@ -9,7 +9,6 @@ use mir.Facts.{to_z-of_z}
 use Rattle.machine.proofs.laws.Base.{if_eq, if_ne}
 use Rattle.layout.proofs.Positions.{Placed, placed}
 use Rattle.calls.proofs.CallLaws.{call_busy, call_kind, call_lookup, call_spent, call_update}
-use borrow.Author.Rules.{rules}
 use Rattle.calls.proofs.call_in.Goals as goal
 use Rattle.calls.proofs.call_in.Goals.{else-kind-eq-KIND_DELETE, then-kind-eq-KIND_DELETE}
 use Rattle.calls.proofs.call_in.Goals.{After-worker_at-p}

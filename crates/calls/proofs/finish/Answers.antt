@@ -1,6 +1,5 @@
 -- `finish` clears the kind and the own steps of the worker whose words are at p.
 -- Rests on nothing but the two stores.
-use borrow.Author.Rules.{rules}
 use Rattle.calls.proofs.finish.Goals as goal
 
 pub returns : goal.returns

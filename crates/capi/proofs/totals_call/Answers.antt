@@ -1,6 +1,5 @@
 -- `totals_call` gives the number of what `table::call` answers.
 -- Rests on the law of a number.
-use borrow.Author.Rules.{rules}
 use mathlib.Core.Path.{◌∙◌, ap}
 use mir.Facts.{to_z-of_z}
 use Rattle.calls.specs.Calls.{call_words}

@@ -1,6 +1,5 @@
 -- `totals_check_log` gives the number of what `check_log` answers.
 -- Rests on the law of a number.
-use borrow.Author.Rules.{rules}
 use Rattle.numbers.specs.Returned.{verdict_number}
 use Rattle.capi.proofs.Laws.{flat_is}
 use Rattle.capi.proofs.totals_check_log.Goals as goal

@@ -1,6 +1,5 @@
 -- `totals_export` gives the number and the report of what `table::export` answers.
 -- Rests on the law of a number and a report.
-use borrow.Author.Rules.{rules}
 use Rattle.numbers.specs.Returned.{exported_number, exported_report}
 use Rattle.capi.proofs.Laws.{reported_is}
 use Rattle.capi.proofs.totals_export.Goals as goal

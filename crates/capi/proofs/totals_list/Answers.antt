@@ -1,6 +1,5 @@
 -- `totals_list` writes what `table::listing` writes, and gives the number and the report of what it answers.
 -- Rests on the law of a listing.
-use borrow.Author.Rules.{rules}
 use Rattle.capi.proofs.Laws.{written_is}
 use Rattle.capi.proofs.totals_list.Goals as goal
 

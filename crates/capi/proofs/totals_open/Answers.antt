@@ -1,6 +1,5 @@
 -- `totals_open` gives the number of what `table::open` answers.
 -- Rests on the law of a number.
-use borrow.Author.Rules.{rules}
 use Rattle.numbers.specs.Returned.{opened_number}
 use Rattle.capi.proofs.Laws.{flat_is}
 use Rattle.capi.proofs.totals_open.Goals as goal

@@ -1,7 +1,6 @@
 -- `totals_rebate` gives what `table::rebate` gives.
 use mathlib.Core.Path.{◌∙◌, ap}
 use mir.Facts.{to_z-of_z}
-use borrow.Author.Rules.{rules}
 use Rattle.rebate.specs.Rebate.{rebate_on}
 use Rattle.capi.proofs.totals_rebate.Goals as goal
 

@@ -1,6 +1,5 @@
 -- `totals_rebates` writes what `table::rebates` writes, and gives the number and the report of what it answers.
 -- Rests on the law of the rebates.
-use borrow.Author.Rules.{rules}
 use Rattle.capi.proofs.Laws.{written_rebates_is}
 use Rattle.capi.proofs.totals_rebates.Goals as goal
 

@@ -1,6 +1,5 @@
 -- `totals_run` gives the number and the report of what `table::run` answers.
 -- Rests on the law of a number and a report.
-use borrow.Author.Rules.{rules}
 use Rattle.numbers.specs.Returned.{ran_number, ran_report}
 use Rattle.capi.proofs.Laws.{reported_is}
 use Rattle.capi.proofs.totals_run.Goals as goal

@@ -1,6 +1,5 @@
 -- `totals_step` gives the number and the report of what `table::step` answers.
 -- Rests on the law of a number and a report.
-use borrow.Author.Rules.{rules}
 use Rattle.numbers.specs.Returned.{stepped_number, stepped_report}
 use Rattle.capi.proofs.Laws.{reported_is}
 use Rattle.capi.proofs.totals_step.Goals as goal

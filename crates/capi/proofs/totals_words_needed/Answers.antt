@@ -1,6 +1,5 @@
 -- `totals_words_needed` gives the number of what `table::words_needed` answers.
 -- Rests on the contracts of what is called.
-use borrow.Author.Rules.{rules}
 use mathlib.Core.Path.{◌∙◌, ap}
 use Rattle.numbers.specs.Returned.{needed_number}
 use Rattle.capi.proofs.totals_words_needed.Goals as goal

@@ -3,7 +3,6 @@
 use Prim.Native.Nat.{ℕ}
 use mathlib.Core.Path.{◌≡◌, refl, sym, ◌∙◌, ap}
 use mathlib.Core.Logic.{◌⊎◌, inl, inr}
-use borrow.Author.Rules.{rules}
 use Rattle.interface.specs.Numbers.{kind_insert, kind_post}
 use Rattle.rules.specs.Rules.{crowded_by, insert_answer}
 use Rattle.record.specs.Bucket.{bucket_at}

@@ -2,7 +2,6 @@
 -- Rests on the laws of a post.
 use Prim.Native.Nat.{ℕ}
 use mathlib.Core.Path.{◌≡◌, refl, sym, ◌∙◌, ap}
-use borrow.Author.Rules.{rules}
 use Rattle.sums.specs.Sums.{sum_of}
 use Rattle.bucket.specs.State.{total_in}
 use Rattle.record.specs.Bucket.{bucket_at}

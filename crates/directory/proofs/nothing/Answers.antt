@@ -1,7 +1,6 @@
 -- `nothing` tells whether there is nothing to split.
 -- Rests on both outcomes of the test.
 use Rattle.directory.proofs.DirectoryLaws.{nothing_marked, nothing_short}
-use borrow.Author.Rules.{rules}
 use Rattle.directory.proofs.nothing.Goals as goal
 
 pub returns-then-worker_word-eq0 : goal.returns-then-worker_word-eq0

@@ -1,8 +1,7 @@
 -- `resolve` resolves the marked buckets.
-use Prim.Native.Nat.{◌-◌, ◌≤◌}
+use Prim.Native.Nat.{◌-◌}
 use native.Mathlib.Omega.{arith}
 use mathlib.Core.Path.{◌≡◌, refl, sym, ◌∙◌, ap}
-use mathlib.Core.Logic.{⊎_elim}
 use lib.ListN.{length}
 use Rattle.layout.specs.Shape.{Whole}
 use Rattle.fields.specs.Regions.{worker_at}
@@ -49,21 +48,24 @@ take_all-requires c =
 pub loop-j-preserved : goal.loop-j-preserved
 loop-j-preserved c =
     let bits = c.worker_word.ensures in
-    (elim c.if-worker_word-j-eq1.branch [ then-worker_word-j-eq1 w ↦ (
-      search rules,
-      (
-        ap length w.words-is ∙ search rules,
-        w.words-is ∙ resolved_more _ _ _ _ _ _ c.loop-j.invariant.1.1 bits _ _ _ _ w.if-worker_word-j-eq1.true w.slot_word.ensures w.record_of-q.ensures
-            w.dues-bits.ensures w.take_all.ensures,
-      ),
-    ) | else-worker_word-j-eq1 w ↦ (
-      search rules,
-      (
-        ap length w.words-is ∙ c.loop-j.invariant.1.0,
-        w.words-is
-            ∙ resolved_same _ _ _ _ _ _ c.loop-j.invariant.1.1 bits w.if-worker_word-j-eq1.false,
-      ),
-    ) ])
+    (elim c.if-worker_word-j-eq1.branch [
+      | then-worker_word-j-eq1 w ↦ (
+        search rules,
+        (
+          ap length w.words-is ∙ search rules,
+          w.words-is ∙ resolved_more _ _ _ _ _ _ c.loop-j.invariant.1.1 bits _ _ _ _ w.if-worker_word-j-eq1.true w.slot_word.ensures w.record_of-q.ensures
+              w.dues-bits.ensures w.take_all.ensures,
+        ),
+      )
+      | else-worker_word-j-eq1 w ↦ (
+        search rules,
+        (
+          ap length w.words-is ∙ c.loop-j.invariant.1.0,
+          w.words-is
+              ∙ resolved_same _ _ _ _ _ _ c.loop-j.invariant.1.1 bits w.if-worker_word-j-eq1.false,
+        ),
+      )
+    ])
 
 pub returns : goal.returns
 returns c =

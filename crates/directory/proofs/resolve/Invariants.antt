@@ -1,17 +1,10 @@
 -- `resolve` resolves the marked buckets. The loop's invariant: as many words, and the buckets of the marks passed are resolved; the
 -- measure: the marks left. Rests on the turn for one mark more.
 use Prim.Native.Nat.{◌-◌, ◌≤◌}
-use native.Mathlib.Omega.{arith}
-use mathlib.Core.Path.{◌≡◌, refl, sym, ◌∙◌, ap}
-use mathlib.Core.Logic.{⊎_elim}
+use mathlib.Core.Path.{◌≡◌}
 use lib.ListN.{length}
-use Rattle.layout.specs.Shape.{Whole}
 use Rattle.fields.specs.Regions.{worker_at}
 use Rattle.directory.specs.Directory.{resolved_at}
-use Rattle.spares.proofs.PoolLaws.{whole_kept}
-use Rattle.layout.proofs.Positions.{record_inside}
-use Rattle.directory.proofs.DirectoryLaws.{resolved_more, resolved_same}
-use borrow.Author.Rules.{rules}
 use Rattle.directory.proofs.resolve.Given as goal
 
 abbrev pub invariant-loop-j : goal.invariant-loop-j

@@ -2,9 +2,7 @@
 -- Rests on the outcomes of the tests.
 use native.Mathlib.Omega.{arith}
 use mathlib.Core.Path.{◌≡◌, sym, ◌∙◌, ap}
-use mathlib.Core.Logic.{⊎_elim}
 use lib.ListN.{length}
-use borrow.Author.Tests.{not-false, not-true}
 use Rattle.machine.specs.Choice.{if◌then◌else◌}
 use Rattle.layout.proofs.Positions.{long}
 use Rattle.directory.proofs.DirectoryLaws.{whole_else, redirected_not, redirected_done}

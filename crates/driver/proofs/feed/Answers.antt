@@ -1,10 +1,8 @@
 -- `feed`: the loop's invariant is that feeding the bytes left comes to feeding all; the measure is how many are left.
-use Prim.Native.Nat.{◌≤◌, ◌-◌}
-use mathlib.Core.Path.{◌≡◌, refl, ◌∙◌, ap}
-use mathlib.Core.Logic.{⊎_elim}
-use lib.ListN.{length, drop}
+use Prim.Native.Nat.{◌-◌}
+use mathlib.Core.Path.{refl, ◌∙◌, ap}
+use lib.ListN.{length}
 use borrow.Author.Rules.{rules}
-use Rattle.driver.specs.Feeding.{Feeding, fed}
 use Rattle.driver.proofs.Bytes.{same_feeding, fed_end, fed_full, fed_next, took_line, took_byte}
 use Rattle.driver.proofs.feed.Goals as goal
 use Rattle.driver.proofs.feed.Goals.{else-byte-eq10, then-byte-eq10}
@@ -18,26 +16,29 @@ loop-i-preserved c =
       search rules,
       let next = fed_next _ _ _ _ _ c.loop-i-test.true c.roomy.ensures
           c.if-roomy.true in
-          (elim c.if-byte-eq10.branch [ then-byte-eq10 w ↦
-          let kept = w.answer-used.auto in (
-            (
-              ap length w.words-is ∙ kept.words ∙ lengths.0,
+          (elim c.if-byte-eq10.branch [
+            | then-byte-eq10 w ↦
+                let kept = w.answer-used.auto in (
+                  (
+                    ap length w.words-is ∙ kept.words ∙ lengths.0,
+                    (
+                      ap length w.accounts-is ∙ kept.accounts ∙ lengths.1.0,
+                      (ap length w.totals-is ∙ kept.totals ∙ lengths.1.1.0, ap length w.out-is ∙ kept.out ∙ lengths.1.1.1),
+                    ),
+                  ),
+                  next (same_feeding _ w.words-is w.accounts-is w.totals-is w.out-is w.reader-is w.used-is
+                      ∙ took_line _ _ _ _ _ w.if-byte-eq10.true w.command.ensures w.answer-used.ensures w.new-reader.ensures)
+                      ∙ c.loop-i.invariant.1.1,
+                )
+            | else-byte-eq10 w ↦ (
               (
-                ap length w.accounts-is ∙ kept.accounts ∙ lengths.1.0,
-                (ap length w.totals-is ∙ kept.totals ∙ lengths.1.1.0, ap length w.out-is ∙ kept.out ∙ lengths.1.1.1),
+                ap length w.words-is ∙ lengths.0,
+                (ap length w.accounts-is ∙ lengths.1.0, (ap length w.totals-is ∙ lengths.1.1.0, ap length w.out-is ∙ lengths.1.1.1)),
               ),
-            ),
-            next (same_feeding _ w.words-is w.accounts-is w.totals-is w.out-is w.reader-is w.used-is
-                ∙ took_line _ _ _ _ _ w.if-byte-eq10.true w.command.ensures w.answer-used.ensures w.new-reader.ensures)
-                ∙ c.loop-i.invariant.1.1,
-          ) | else-byte-eq10 w ↦ (
-            (
-              ap length w.words-is ∙ lengths.0,
-              (ap length w.accounts-is ∙ lengths.1.0, (ap length w.totals-is ∙ lengths.1.1.0, ap length w.out-is ∙ lengths.1.1.1)),
-            ),
-            next (same_feeding _ w.words-is w.accounts-is w.totals-is w.out-is w.reader-is w.used-is ∙ took_byte _ _ _ w.if-byte-eq10.false w.push-reader.ensures)
-                ∙ c.loop-i.invariant.1.1,
-          ) ]),
+              next (same_feeding _ w.words-is w.accounts-is w.totals-is w.out-is w.reader-is w.used-is ∙ took_byte _ _ _ w.if-byte-eq10.false w.push-reader.ensures)
+                  ∙ c.loop-i.invariant.1.1,
+            )
+          ]),
     )
 
 pub returns-else-roomy : goal.returns-else-roomy

@@ -1,12 +1,9 @@
 -- `feed`: the loop's invariant is that feeding the bytes left comes to feeding all; the measure is how many are left.
 -- Rests on the laws of feeding and on the contracts of what is called.
 use Prim.Native.Nat.{◌≤◌, ◌-◌}
-use mathlib.Core.Path.{◌≡◌, refl, ◌∙◌, ap}
-use mathlib.Core.Logic.{⊎_elim}
+use mathlib.Core.Path.{◌≡◌}
 use lib.ListN.{length, drop}
-use borrow.Author.Rules.{rules}
 use Rattle.driver.specs.Feeding.{Feeding, fed}
-use Rattle.driver.proofs.Bytes.{same_feeding, fed_end, fed_full, fed_next, took_line, took_byte}
 use Rattle.driver.proofs.feed.Given as goal
 
 abbrev pub invariant-loop-i : goal.invariant-loop-i

@@ -10,7 +10,6 @@ use Rattle.phases.proofs.Plans.{plan_announce}
 use Rattle.updates.specs.Updates.{update_at}
 use Rattle.updates.proofs.UpdateLaws.{at_phase}
 use Rattle.early.proofs.EarlyPhases.{early_directory, early_flip}
-use borrow.Author.Rules.{rules}
 use Rattle.early.proofs.early_step.Goals as goal
 
 pub announce-requires : goal.announce-requires

@@ -11,7 +11,6 @@ use Rattle.phases.proofs.Plans.{reduced_below, bucket_state, bucket_toggle, buck
 use Rattle.updates.specs.Updates.{update_at}
 use Rattle.updates.proofs.UpdateLaws.{at_phase}
 use Rattle.early.proofs.EarlyPhases.{early_round}
-use borrow.Author.Rules.{rules}
 use Rattle.early.proofs.round_step.Goals as goal
 
 pub overflow_add-n : goal.overflow_add-n

@@ -2,7 +2,6 @@
 -- Rests on the definition.
 use mathlib.Core.Path.{refl, ap}
 use borrow.Author.Rules.{rules}
-use borrow.Author.Tests.{ne_eqb}
 use Rattle.interface.specs.declared.Answer.TheVariants.{Posted}
 use Rattle.machine.specs.Choice.{if◌then◌else◌}
 use Rattle.memory.proofs.Totals.{total_kept}

@@ -1,7 +1,6 @@
 -- `copy_directory` keeps the directory's number, with no marks.
 -- Rests on nothing but the definition.
 use Rattle.engine.specs.Engine.{directory_read_at}
-use borrow.Author.Rules.{rules}
 use Rattle.engine.proofs.copy_directory.Goals as goal
 
 pub returns : goal.returns

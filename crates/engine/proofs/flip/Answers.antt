@@ -6,7 +6,6 @@ use lib.ListN.{length}
 use Rattle.fields.specs.Fields.{widest_record}
 use Rattle.engine.specs.Engine.{flipped_at}
 use Rattle.layout.proofs.Positions.{held_inside}
-use borrow.Author.Rules.{rules}
 use Rattle.engine.proofs.flip.Goals as goal
 use Rattle.engine.proofs.flip.Goals.{After-held_by-q}
 

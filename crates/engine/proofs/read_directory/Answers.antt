@@ -1,7 +1,6 @@
 -- `read_directory` keeps the record of the account's bucket.
 -- Rests on nothing but the definition.
 use Rattle.layout.specs.Addresses.{bucket_read_at}
-use borrow.Author.Rules.{rules}
 use Rattle.engine.proofs.read_directory.Goals as goal
 
 pub returns : goal.returns

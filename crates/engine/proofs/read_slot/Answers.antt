@@ -2,7 +2,6 @@
 -- Rests on the address of a worker's words.
 use native.Mathlib.Omega.{arith}
 use mathlib.Core.Logic.{inl}
-use borrow.Author.Rules.{rules}
 use Rattle.engine.specs.Engine.{slot_read_at}
 use Rattle.layout.proofs.Positions.{placed}
 use Rattle.engine.proofs.read_slot.Goals as goal

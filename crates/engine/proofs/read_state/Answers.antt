@@ -1,7 +1,6 @@
 -- `read_state` keeps the number of the state of the record that the worker holds.
 -- Rests on nothing but the definition.
 use Rattle.engine.specs.Engine.{state_read_at}
-use borrow.Author.Rules.{rules}
 use Rattle.engine.proofs.read_state.Goals as goal
 
 pub returns : goal.returns

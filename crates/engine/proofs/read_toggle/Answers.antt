@@ -1,7 +1,6 @@
 -- `read_toggle` keeps the toggle of the record that the worker holds.
 -- Rests on nothing but the definition.
 use Rattle.engine.specs.Engine.{toggle_read_at}
-use borrow.Author.Rules.{rules}
 use Rattle.engine.proofs.read_toggle.Goals as goal
 
 pub returns : goal.returns

@@ -1,12 +1,10 @@
 -- `half` makes the state that `half_of` makes.
-use Prim.Native.Nat.{◌≤◌, ◌-◌}
+use Prim.Native.Nat.{◌-◌}
 use native.Mathlib.Nat.{le_antisymm}
 use native.Mathlib.Omega.{arith}
-use mathlib.Core.Logic.{⊎_elim}
 use mathlib.Core.Path.{sym, ◌∙◌}
 use borrow.Author.Rules.{rules}
-use Rattle.bucket.specs.State.{array_size}
-use Rattle.halves.proofs.Laws.{Halved, halved_start, halved_more, halved_same, halved_end}
+use Rattle.halves.proofs.Laws.{halved_start, halved_more, halved_same, halved_end}
 use Rattle.bucket.proofs.Laws.{size_limit}
 use Rattle.halves.proofs.half.Goals as goal
 use Rattle.halves.proofs.half.Goals.{else-first_bits-q, then-first_bits-q}
@@ -20,8 +18,11 @@ loop-i-preserved c =
       search rules,
       search rules,
       (elim c.if-first_bits-q.branch [ then-first_bits-q w ↦ omega arith | else-first_bits-q w ↦ omega arith ]),
-      (elim c.if-first_bits-q.branch [ then-first_bits-q w ↦ rw (w.accounts-is, w.totals-is, w.kept-is) (halved_more _ _ _ _ _ _ _ _ l.invariant.3 (omega arith)
-          (sym c.first_bits.ensures ∙ w.if-first_bits-q.true)) | else-first_bits-q w ↦ rw (w.accounts-is, w.totals-is, w.kept-is) (halved_same _ _ _ _ _ _ _ _ l.invariant.3 (λ e. w.if-first_bits-q.false (c.first_bits.ensures ∙ e))) ]),
+      (elim c.if-first_bits-q.branch [
+        | then-first_bits-q w ↦ rw (w.accounts-is, w.totals-is, w.kept-is) (halved_more _ _ _ _ _ _ _ _ l.invariant.3 (omega arith)
+            (sym c.first_bits.ensures ∙ w.if-first_bits-q.true))
+        | else-first_bits-q w ↦ rw (w.accounts-is, w.totals-is, w.kept-is) (halved_same _ _ _ _ _ _ _ _ l.invariant.3 (λ e. w.if-first_bits-q.false (c.first_bits.ensures ∙ e)))
+      ]),
     )
 
 pub returns : goal.returns

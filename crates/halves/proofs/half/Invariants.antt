@@ -1,14 +1,8 @@
 -- `half` makes the state that `half_of` makes. The loop's invariant: what has been gathered from the positions below i.
 -- Rests on the laws of a half.
 use Prim.Native.Nat.{◌≤◌, ◌-◌}
-use native.Mathlib.Nat.{le_antisymm}
-use native.Mathlib.Omega.{arith}
-use mathlib.Core.Logic.{⊎_elim}
-use mathlib.Core.Path.{sym, ◌∙◌}
-use borrow.Author.Rules.{rules}
 use Rattle.bucket.specs.State.{array_size}
-use Rattle.halves.proofs.Laws.{Halved, halved_start, halved_more, halved_same, halved_end}
-use Rattle.bucket.proofs.Laws.{size_limit}
+use Rattle.halves.proofs.Laws.{Halved}
 use Rattle.halves.proofs.half.Given as goal
 
 abbrev pub invariant-loop-i : goal.invariant-loop-i

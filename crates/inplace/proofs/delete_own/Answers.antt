@@ -4,7 +4,6 @@ use Prim.Native.Nat.{◌+◌, ◌<◌}
 use native.Mathlib.Omega.{arith}
 use mathlib.Core.Path.{refl, ◌∙◌, ap}
 use lib.ListN.{length}
-use borrow.Author.Rules.{rules}
 use Rattle.fields.specs.Fields.{totals_from}
 use Rattle.arrays.specs.declared.Position.TheVariants.{At, Before}
 use Rattle.bucket.specs.State.{remove_of}

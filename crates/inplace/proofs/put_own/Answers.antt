@@ -4,7 +4,6 @@ use Prim.Native.Nat.{◌+◌, ◌≤◌, ◌<◌}
 use native.Mathlib.Omega.{arith}
 use mathlib.Core.Path.{refl, subst}
 use lib.ListN.{length}
-use borrow.Author.Rules.{rules}
 use Rattle.fields.specs.Fields.{totals_from}
 use Rattle.arrays.specs.declared.Position.TheVariants.{At, Before}
 use Rattle.inplace.specs.InPlace.{RoomAt, put_at}

@@ -3,7 +3,6 @@
 use native.Mathlib.Omega.{arith}
 use mathlib.Core.Path.{◌∙◌}
 use lib.ListN.{length-take}
-use borrow.Author.Rules.{rules}
 use Rattle.inplace.proofs.OwnUpdate.{Start, start, search_is}
 use Rattle.inplace.proofs.search_own.Goals as goal
 use Rattle.inplace.proofs.search_own.Goals.{After-shared_slice_known-1}

@@ -1,7 +1,6 @@
 -- `settle_own` writes the count as it stands, the applied bits and the ticket with its answer.
 -- Rests on the laws of an own update.
 use mathlib.Core.Path.{refl}
-use borrow.Author.Rules.{rules}
 use Rattle.inplace.proofs.OwnUpdate.{start, kept}
 use Rattle.inplace.proofs.settle_own.Goals as goal
 

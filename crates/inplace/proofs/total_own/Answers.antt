@@ -4,7 +4,6 @@ use Prim.Native.Nat.{◌+◌, ◌<◌}
 use native.Mathlib.Omega.{arith}
 use mathlib.Core.Path.{◌∙◌}
 use lib.ListN.{length}
-use borrow.Author.Rules.{rules}
 use Rattle.fields.specs.Fields.{totals_from}
 use Rattle.arrays.specs.declared.Position.TheVariants.{At}
 use Rattle.bucket.specs.State.{total_in}

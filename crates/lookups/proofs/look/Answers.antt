@@ -11,7 +11,6 @@ use Rattle.layout.proofs.Positions.{size_limit}
 use Rattle.memory.proofs.Totals.{total_kept}
 use Rattle.lookups.proofs.LookupLaws.{looked-at, found_below}
 use Rattle.lookups.specs.Lookups.{found_at, looked_at}
-use borrow.Author.Rules.{rules}
 use Rattle.lookups.proofs.look.Goals as goal
 use Rattle.lookups.proofs.look.Goals.{After-scan, After-size-c, In-At}
 

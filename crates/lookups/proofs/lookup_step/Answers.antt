@@ -5,7 +5,6 @@ use Rattle.layout.proofs.Positions.{long, record_in_inside}
 use Rattle.lookups.proofs.LookupLaws.{lookup_later}
 use Rattle.calls.specs.Calls.{ended_at}
 use Rattle.lookups.specs.Lookups.{lookup_at}
-use borrow.Author.Rules.{rules}
 use Rattle.lookups.proofs.lookup_step.Goals as goal
 
 pub returns-then-k-eq0 : goal.returns-then-k-eq0

@@ -17,7 +17,7 @@ use Rattle.machine.specs.Records.{announced, Cells, Reads, Worker, Machine}
 use Rattle.machine.specs.Plan.{plan, phase}
 use Rattle.machine.specs.Steps.{announcing, update_access, access, assign_slot, perform, counted, done, step_of, step}
 use Rattle.machine.specs.Calls.{operation_of, spent, ticket_for, begun, call_of, call}
-use Rattle.machine.specs.Counter.{one, two, announce, read_d}
+use Rattle.machine.specs.Counter.{two, announce, read_d}
 use Rattle.machine.specs.Tasks.{Task, task_of, tasks_of}
 use Rattle.machine.proofs.laws.Base.{if_elim₂, if_ap}
 use Rattle.machine.proofs.invariant.Counter.{counter_start, counter_second, phase_again}

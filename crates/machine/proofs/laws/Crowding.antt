@@ -9,7 +9,7 @@ use mathlib.Core.Option.{Option, some, none}
 use lib.IntN.{ℤ, ◌+ℤ◌}
 use Rattle.interface.specs.Numbers.{answer_number}
 use Rattle.interface.specs.declared.Answer.{Answer}
-use Rattle.interface.specs.declared.Answer.TheVariants.{Added, Replaced, Removed, Absent, Posted, Crowded, Overrun}
+use Rattle.interface.specs.declared.Answer.TheVariants.{Replaced, Removed, Posted, Crowded, Overrun}
 use Rattle.machine.specs.Choice.{if◌then◌else◌, ◌and◌}
 use Rattle.machine.specs.Sequential.{Update, insert, delete, post, update, account, Table, find, put, remove, present, total_or0, is_total, sum, result, changed, creates, tried, crowds, serve}
 use Rattle.machine.proofs.laws.Base.{if_elim, if_true, if_false, and_true, and_parts, and_right_false}

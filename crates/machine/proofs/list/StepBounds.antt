@@ -25,7 +25,7 @@ use Rattle.machine.specs.History.{Tariff, first_check, second_check, third_check
 use Rattle.machine.specs.History.{steps_between, IsOperation, Ended}
 use Rattle.machine.proofs.laws.Base.{no_both, and_true, and_parts}
 use Rattle.machine.proofs.Openings.{opening_refused, step_made}
-use Rattle.machine.specs.Counter.{Two, one, check_s}
+use Rattle.machine.specs.Counter.{Two, check_s}
 use Rattle.machine.specs.Tasks.{Task, tasks_of}
 use Rattle.machine.proofs.invariant.Counter.{Proper, counter_proper, counter_check}
 use Rattle.machine.proofs.invariant.Transitions.{Transition, finds, answers}

@@ -16,7 +16,7 @@ use Rattle.machine.specs.History.{Member}
 use Rattle.machine.proofs.laws.Base.{no_both, if_elim, if_true, if_false, if_same, if_eq, and_true, and_parts}
 use Rattle.machine.proofs.laws.Cells.{same_elim}
 use Rattle.machine.proofs.laws.Copies.{InBucket, leaf_replaced, Coherent, Partition, partition_of, partition_name}
-use Rattle.machine.specs.Counter.{Two, one, PC, look₂, swap_d, in_d}
+use Rattle.machine.specs.Counter.{Two, PC, look₂, swap_d, in_d}
 use Rattle.machine.proofs.invariant.Counter.{after_d, UnderWay, by_counter}
 use Rattle.machine.proofs.invariant.CounterFacts.{under_after_d}
 use Rattle.machine.specs.Tasks.{Task, target, leaf, DirectoryFresh, own}

@@ -16,7 +16,7 @@ use Rattle.machine.specs.DirectoryPass.{leaf_of, name_of, body_made}
 use Rattle.machine.specs.Steps.{created, direct}
 use Rattle.machine.proofs.laws.Base.{no_both, and_true, and_parts}
 use Rattle.machine.proofs.laws.Copies.{name_at, depth_at, Coherent, Partition, partition_name, partition_of, body_made_made, body_made_kept, body_made_some, bucket_of_directory_of, coherent_directory_of}
-use Rattle.machine.specs.Counter.{Two, swap_d, state, in_d}
+use Rattle.machine.specs.Counter.{Two, swap_d, in_d}
 use Rattle.machine.proofs.invariant.Counter.{after_d}
 use Rattle.machine.proofs.invariant.CounterFacts.{Rounds, HasToggle, HasSlotD, UpdateSeen, slot_toggle, flip_seen_rounds, toggle_rounds, rounds_holds, update_seen_under, last_bucket_split}
 use Rattle.machine.specs.Passed.{PastState, HoldsBucket}

@@ -1,13 +1,11 @@
 -- `found-before` answers `found_before`.
-use Prim.Native.Nat.{◌≤◌}
 use native.Mathlib.Omega.{arith}
-use mathlib.Core.Path.{◌≡◌, refl, sym, ◌∙◌}
+use mathlib.Core.Path.{refl, sym, ◌∙◌}
 use Rattle.rules.specs.Rules.{bit}
 use Rattle.fields.specs.Regions.{worker_at}
-use Rattle.renumbering.specs.Numbers.{any}
 use Rattle.marks.specs.StateStep.{found_before}
 use Rattle.renumbering.proofs.Searches.{any_hit, any_turn, any_none}
-use Rattle.marks.proofs.Cases.{found, found_unmarked, found_it, found_not}
+use Rattle.marks.proofs.Cases.{found_unmarked, found_it, found_not}
 use borrow.Author.Rules.{rules}
 use Rattle.marks.proofs.found_before.Goals as goal
 
@@ -29,14 +27,13 @@ returns-then-record_of-q c =
     ∙ c.loop-i.invariant.1
 
 pub loop-i-preserved-else-record_of-q : goal.loop-i-preserved-else-record_of-q
-loop-i-preserved-else-record_of-q c =
-    (
-      search rules,
-      any_turn _ _ c.loop-i-test.true
-          (found_not _ _ _ _ _ _ c.worker_word-bits.ensures _ _ c.slot_word.ensures c.record_of.ensures
-          c.if-record_of-q.false)
-          ∙ c.loop-i.invariant.1,
-    )
+loop-i-preserved-else-record_of-q c = (
+  search rules,
+  any_turn _ _ c.loop-i-test.true
+      (found_not _ _ _ _ _ _ c.worker_word-bits.ensures _ _ c.slot_word.ensures c.record_of.ensures
+      c.if-record_of-q.false)
+      ∙ c.loop-i.invariant.1,
+)
 
 pub loop-i-preserved : goal.loop-i-preserved
 unfolding bit

@@ -4,7 +4,6 @@ use Prim.Native.Nat.{◌+◌, ◌≤◌}
 use native.Mathlib.Omega.{arith}
 use mathlib.Core.Path.{◌≡◌}
 use lib.ListN.{length}
-use borrow.Author.Tests.{not-true, not-false}
 use Rattle.fields.specs.Fields.{widest_record}
 use Rattle.fields.specs.Regions.{worker_at}
 use Rattle.rules.specs.Rules.{splittable_by}
@@ -12,7 +11,6 @@ use Rattle.layout.proofs.Positions.{record_inside}
 use Rattle.record.specs.Bucket.{splittable_at}
 use Rattle.record.proofs.Tests.{both_read}
 use Rattle.marks.proofs.Cases.{marks_idle, marks_not, marks_settled, marks_found}
-use borrow.Author.Rules.{rules}
 use Rattle.marks.proofs.marking.Goals as goal
 use Rattle.marks.proofs.marking.Goals.{After-record_of-q, After-splittable}
 

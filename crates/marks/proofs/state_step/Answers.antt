@@ -5,7 +5,6 @@ use Rattle.rules.specs.Rules.{bit}
 use Rattle.fields.specs.Regions.{worker_at}
 use Rattle.rules.proofs.Bits.{mark_set}
 use Rattle.marks.proofs.Cases.{step_none, step_marked, step_kept}
-use borrow.Author.Rules.{rules}
 use Rattle.marks.proofs.state_step.Goals as goal
 
 pub returns-then-x-j-eq0 : goal.returns-then-x-j-eq0

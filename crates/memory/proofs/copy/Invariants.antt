@@ -1,13 +1,9 @@
 -- `memory::copy` writes k words again elsewhere. The loop's invariant: the words passed stand there; the measure: the words left.
 -- Rests on the law of one word more, which reads a word that is not yet written over.
-use Prim.Native.Nat.{ℕ, ◌≤◌, ◌-◌}
-use mathlib.Core.Path.{◌≡◌, refl, sym, ◌∙◌, ap}
-use native.Mathlib.Nat.{le_antisymm}
+use Prim.Native.Nat.{◌≤◌, ◌-◌}
+use mathlib.Core.Path.{◌≡◌}
 use lib.ListN.{length}
 use Rattle.lists.specs.Parts.{part, overlay}
-use Rattle.lists.proofs.PartLaws.{overlay_nil}
-use Rattle.memory.proofs.Runs.{copy_more}
-use borrow.Author.Rules.{rules}
 use Rattle.memory.proofs.copy.Given as goal
 
 abbrev pub invariant-loop-i : goal.invariant-loop-i

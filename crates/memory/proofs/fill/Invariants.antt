@@ -1,14 +1,9 @@
 -- `memory::fill` writes one word again and again. The loop's invariant: the places passed hold it; the measure: the places left.
 -- Rests on the law of one place more.
-use Prim.Native.Nat.{ℕ, ◌≤◌, ◌-◌}
-use mathlib.Core.Path.{◌≡◌, refl, sym, ◌∙◌, ap}
-use native.Mathlib.Nat.{sub_self}
-use native.Mathlib.Omega.{arith}
+use Prim.Native.Nat.{◌≤◌, ◌-◌}
+use mathlib.Core.Path.{◌≡◌}
 use lib.ListN.{length, replicate}
 use Rattle.lists.specs.Parts.{overlay}
-use Rattle.lists.proofs.PartLaws.{overlay_nil}
-use Rattle.memory.proofs.Runs.{fill_more}
-use borrow.Author.Rules.{rules}
 use Rattle.memory.proofs.fill.Given as goal
 
 abbrev pub invariant-loop-i : goal.invariant-loop-i

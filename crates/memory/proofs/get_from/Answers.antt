@@ -5,7 +5,6 @@ use native.Mathlib.Omega.{arith}
 use mathlib.Core.Path.{◌∙◌}
 use lib.ListN.{length, drop}
 use lib.Seq.{get_or-take, get_or-drop}
-use borrow.Author.Rules.{rules}
 use Rattle.memory.proofs.get_from.Goals as goal
 
 pub returns : goal.returns

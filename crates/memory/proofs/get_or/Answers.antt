@@ -2,7 +2,6 @@
 -- Rests on the law that a read past a list's end gives the default.
 use mathlib.Core.Path.{sym}
 use lib.ListN.{get_or-eq_default}
-use borrow.Author.Rules.{rules}
 use Rattle.memory.proofs.get_or.Goals as goal
 
 pub returns-else-i-words : goal.returns-else-i-words

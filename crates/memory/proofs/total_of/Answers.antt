@@ -3,7 +3,6 @@
 use Prim.Native.Nat.{◌-◌, ◌^◌}
 use mathlib.Core.Path.{◌≡◌}
 use native.Mathlib.Omega.{arith}
-use borrow.Author.Rules.{rules}
 use Rattle.memory.proofs.total_of.Goals as goal
 
 pub returns-else-w-lt9223372036854775808 : goal.returns-else-w-lt9223372036854775808

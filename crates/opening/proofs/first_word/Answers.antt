@@ -2,7 +2,6 @@
 -- Rests on nothing.
 use mathlib.Core.Path.{refl}
 use Rattle.layout.specs.Shape.{first_word}
-use borrow.Author.Rules.{rules}
 use Rattle.opening.proofs.first_word.Goals as goal
 
 pub returns : goal.returns

@@ -6,7 +6,6 @@ use lib.Pow.{pow_mono}
 use Rattle.rules.proofs.Bits.{shift_one}
 use Rattle.layout.proofs.Positions.{start_bound}
 use Rattle.opening.proofs.FreshWords.{fresh_parts, fresh_laid}
-use borrow.Author.Rules.{rules}
 use Rattle.opening.proofs.fresh.Goals as goal
 
 pub overflow_add-records : goal.overflow_add-records

@@ -1,7 +1,6 @@
 -- `header` lays the first five words, one behind the other.
 -- Rests on the law of the header.
 use Rattle.opening.proofs.FreshWords.{header_laid}
-use borrow.Author.Rules.{rules}
 use Rattle.opening.proofs.header.Goals as goal
 
 pub returns : goal.returns

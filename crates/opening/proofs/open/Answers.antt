@@ -2,7 +2,6 @@
 -- Rests on the laws of opening.
 use native.Mathlib.Omega.{arith}
 use Rattle.opening.proofs.FreshWords.{ranged, opened_none, opened_short, opened_fresh}
-use borrow.Author.Rules.{rules}
 use Rattle.opening.proofs.open.Goals as goal
 
 pub needed-requires : goal.needed-requires

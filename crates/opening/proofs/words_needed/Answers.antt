@@ -1,7 +1,6 @@
 -- `words_needed` gives the words of settings in range, as `needed_for` says.
 -- Rests on the laws of opening.
 use Rattle.opening.proofs.FreshWords.{ranged, needed_words, needed_none}
-use borrow.Author.Rules.{rules}
 use Rattle.opening.proofs.words_needed.Goals as goal
 
 pub needed-requires : goal.needed-requires

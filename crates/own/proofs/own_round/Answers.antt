@@ -3,7 +3,6 @@
 use Prim.Native.Nat.{ℕ}
 use native.Mathlib.Omega.{arith}
 use mathlib.Core.Path.{◌∙◌, ap}
-use borrow.Author.Rules.{rules}
 use Rattle.fields.specs.Regions.{worker_at}
 use Rattle.memory.specs.Words.{least}
 use Rattle.own.proofs.OwnRound.{Tested, tested, own_held_back, own_required, own_settled, own_carried}

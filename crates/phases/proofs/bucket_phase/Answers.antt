@@ -3,7 +3,6 @@
 use Prim.Native.Nat.{◌+◌, ◌-◌}
 use native.Mathlib.Omega.{arith}
 use mathlib.Core.Path.{sym, ◌∙◌}
-use borrow.Author.Rules.{rules}
 use Rattle.phases.specs.Phases.{planned}
 use Rattle.phases.proofs.Plans.{reduced_below, bucket_state, bucket_toggle, bucket_slot, bucket_swap, bucket_flip, bucket-round}
 use Rattle.phases.proofs.bucket_phase.Goals as goal

@@ -2,7 +2,6 @@
 -- Rests on where the plan's checks stand.
 use native.Mathlib.Omega.{arith}
 use mathlib.Core.Path.{sym}
-use borrow.Author.Rules.{rules}
 use Rattle.machine.proofs.laws.PlanChecks.{before_first, from_first, from_second, from_third, from_fourth}
 use Rattle.phases.proofs.check_number.Goals as goal
 

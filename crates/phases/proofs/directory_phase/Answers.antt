@@ -3,7 +3,6 @@
 use Prim.Native.Nat.{◌+◌, ◌*◌}
 use native.Mathlib.Omega.{arith}
 use mathlib.Core.Path.{sym, ◌∙◌}
-use borrow.Author.Rules.{rules}
 use Rattle.phases.specs.Phases.{planned}
 use Rattle.phases.proofs.Plans.{reduced_below, directory_copy, directory_slot, directory_state, directory_swap, directory-round}
 use Rattle.phases.proofs.directory_phase.Goals as goal

@@ -2,7 +2,6 @@
 -- Rests on the laws of the plan's positions.
 use native.Mathlib.Omega.{arith}
 use mathlib.Core.Path.{sym, ◌∙◌}
-use borrow.Author.Rules.{rules}
 use Rattle.phases.specs.Phases.{planned}
 use Rattle.phases.proofs.Plans.{pass_first, pass_bucket, pass_look, pass_check, pass_directory, pass_look_again, pass_end}
 use Rattle.phases.proofs.pass_phase.Goals as goal

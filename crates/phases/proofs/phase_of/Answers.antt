@@ -2,7 +2,6 @@
 -- Rests on the laws of the plan's positions.
 use native.Mathlib.Omega.{arith}
 use mathlib.Core.Path.{sym, ◌∙◌}
-use borrow.Author.Rules.{rules}
 use Rattle.phases.specs.Phases.{planned}
 use Rattle.phases.proofs.Plans.{plan_announce, plan_pass}
 use Rattle.phases.proofs.phase_of.Goals as goal

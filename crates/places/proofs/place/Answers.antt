@@ -1,7 +1,6 @@
 -- `place` is that of the account's word, which has 32 bits.
 -- Rests on the contract of `place_in`.
 use native.Mathlib.Omega.{arith}
-use borrow.Author.Rules.{rules}
 use Rattle.machine.proofs.laws.Places.{place_below}
 use Rattle.places.proofs.place.Goals as goal
 

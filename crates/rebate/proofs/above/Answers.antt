@@ -1,6 +1,5 @@
 -- `above` gives what is above the limit: the difference, or nothing.
 use native.Mathlib.Omega.{arith}
-use borrow.Author.Rules.{rules}
 use Rattle.rebate.proofs.above.Goals as goal
 
 pub returns-then-limit-amount : goal.returns-then-limit-amount

@@ -1,6 +1,5 @@
 -- `band_at`: the code's table is the definition's.
 use mathlib.Core.Path.{refl}
-use borrow.Author.Rules.{rules}
 use Rattle.rebate.proofs.band_at.Goals as goal
 
 pub returns : goal.returns

@@ -4,8 +4,8 @@ use native.Mathlib.Numerals.{add-one}
 use native.Mathlib.Omega.{arith}
 use mathlib.Core.Path.{◌≡◌, sym, ◌∙◌}
 use Rattle.rebate.specs.Bands.{yearly, band_at}
+use Rattle.rebate.proofs.Ascends.{ascends}
 use Rattle.rebate.proofs.Dues.{starts_ascend, inside_between, inside_last}
-use borrow.Author.Rules.{rules}
 use Rattle.rebate.proofs.inside.Goals as goal
 use Rattle.rebate.proofs.inside.Goals.{After-above, After-above-part}
 
@@ -21,7 +21,7 @@ next c = rw add-one at (rw c.band_at-then-i-lt-BAND_COUNT.ensures at c.above.ens
 
 pub overflow_sub-result : goal.overflow_sub-result
 overflow_sub-result c =
-    let n = starts_ascend yearly.bands yearly.ascends c.args.i (omega arith) in
+    let n = starts_ascend yearly.bands ascends c.args.i (omega arith) in
     omega (arith, first (goal.at.overflow_sub-result c).After-above-part, next c)
 
 pub returns-then-i-lt-BAND_COUNT : goal.returns-then-i-lt-BAND_COUNT

@@ -1,15 +1,10 @@
 -- `on_amount` sums the bands. The loop's invariant: cents, parts and what is due by the bands from i on come to what is due; the measure:
 -- the bands left. Rests on the laws of what is due.
-use Prim.Native.Nat.{ℕ, ◌+◌, ◌*◌, ◌-◌, ◌/◌, ◌%◌, ◌≤◌}
-use native.Mathlib.Numerals.{add-one}
-use native.Mathlib.Omega.{arith}
-use mathlib.Core.Path.{◌≡◌, ap}
+use Prim.Native.Nat.{◌+◌, ◌*◌, ◌-◌, ◌≤◌}
+use mathlib.Core.Path.{◌≡◌}
 use lib.ListN.{drop}
-use Rattle.rebate.specs.declared.Band.{Band}
-use Rattle.rebate.specs.Bands.{yearly, band_at}
-use Rattle.rebate.specs.Rebate.{whole_rate, due_by, rounded}
-use Rattle.rebate.proofs.Dues.{inside_most, rate_most, due_added, cents_most, parts_most}
-use borrow.Author.Rules.{rules}
+use Rattle.rebate.specs.Bands.{yearly}
+use Rattle.rebate.specs.Rebate.{whole_rate, due_by}
 use Rattle.rebate.proofs.on_amount.Given as goal
 
 abbrev pub invariant-loop-i : goal.invariant-loop-i

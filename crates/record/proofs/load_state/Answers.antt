@@ -1,14 +1,14 @@
 -- `load_state` loads two arrays at a time, then three.
-use Prim.Native.Nat.{ℕ, ◌+◌, ◌≤◌, ◌<◌, ◌-◌}
-use mathlib.Core.Path.{◌≡◌, refl}
+use Prim.Native.Nat.{ℕ, ◌+◌, ◌<◌, ◌-◌}
+use mathlib.Core.Path.{refl}
 use native.Mathlib.Nat.{le_antisymm, le_trans}
 use native.Mathlib.Numerals.{add-one}
 use native.Mathlib.Omega.{arith}
-use lib.ListN.{length, get_or}
+use lib.ListN.{length}
 use Rattle.fields.specs.Fields.{record_count, record_applied, accounts_from, totals_from, settled_from, answers_from, posted_from, widest_record}
 use Rattle.record.specs.Loads.{copied}
-use Rattle.record.proofs.WordAddresses.{Room, Addressed, Pair, addressed, begins, nearer, accounts_pair, workers_pair, posted_pair}
-use Rattle.record.proofs.States.{loading, account_loaded, worker_loaded, state_loaded}
+use Rattle.record.proofs.WordAddresses.{Room, Addressed, Pair, addressed, accounts_pair, workers_pair, posted_pair}
+use Rattle.record.proofs.States.{account_loaded, worker_loaded, state_loaded}
 use Rattle.memory.proofs.Lesser.{count_bound}
 use borrow.Author.Rules.{rules}
 use Rattle.record.proofs.load_state.Goals as goal

@@ -1,10 +1,8 @@
 -- `any_has` answers `any_has`.
-use Prim.Native.Nat.{◌≤◌}
-use mathlib.Core.Path.{◌≡◌, refl, sym, ◌∙◌}
+use mathlib.Core.Path.{refl, sym, ◌∙◌}
 use borrow.Author.Rules.{rules}
 use borrow.Author.Tests.{eq-eqb, ne_eqb}
-use Rattle.renumbering.specs.Numbers.{any, any_has}
-use Rattle.renumbering.proofs.Searches.{has, any_hit, any_turn, any_none}
+use Rattle.renumbering.proofs.Searches.{any_hit, any_turn, any_none}
 use Rattle.renumbering.proofs.any_has.Goals as goal
 
 pub loop-j-init : goal.loop-j-init
@@ -15,11 +13,10 @@ returns-then-worker_word-x c =
     sym (any_hit _ _ c.loop-j-test.true (eq-eqb _ _ (sym c.worker_word.ensures ∙ c.if-worker_word-x.true))) ∙ c.loop-j.invariant.1
 
 pub loop-j-preserved : goal.loop-j-preserved
-loop-j-preserved c =
-    (
-      search rules,
-      any_turn _ _ c.loop-j-test.true (ne_eqb _ _ (λ e. c.if-worker_word-x.false (c.worker_word.ensures ∙ e))) ∙ c.loop-j.invariant.1,
-    )
+loop-j-preserved c = (
+  search rules,
+  any_turn _ _ c.loop-j-test.true (ne_eqb _ _ (λ e. c.if-worker_word-x.false (c.worker_word.ensures ∙ e))) ∙ c.loop-j.invariant.1,
+)
 
 pub returns : goal.returns
 returns c = sym (any_none _ _ c.loop-j-test.false) ∙ c.loop-j.invariant.1

@@ -1,11 +1,9 @@
 -- `any_has` answers `any_has`. The loop's invariant: the workers below j decide; the measure: those left.
 -- Rests on the laws of searches.
 use Prim.Native.Nat.{◌≤◌}
-use mathlib.Core.Path.{◌≡◌, refl, sym, ◌∙◌}
-use borrow.Author.Rules.{rules}
-use borrow.Author.Tests.{eq-eqb, ne_eqb}
+use mathlib.Core.Path.{◌≡◌}
 use Rattle.renumbering.specs.Numbers.{any, any_has}
-use Rattle.renumbering.proofs.Searches.{has, any_hit, any_turn, any_none}
+use Rattle.renumbering.proofs.Searches.{has}
 use Rattle.renumbering.proofs.any_has.Given as goal
 
 abbrev pub invariant-loop-j : goal.invariant-loop-j

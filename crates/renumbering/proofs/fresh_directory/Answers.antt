@@ -1,10 +1,9 @@
 -- `fresh_directory` gives the least number that is not taken.
-use Prim.Native.Nat.{◌-◌, ◌≤◌}
+use Prim.Native.Nat.{◌-◌}
 use native.Mathlib.Omega.{arith}
 use mathlib.Core.Path.{◌≡◌, sym, ◌∙◌}
-use borrow.Author.Tests.{not-true, not-false}
 use borrow.Author.Rules.{rules}
-use Rattle.renumbering.specs.Numbers.{least_free, directory_taken, fresh_directory}
+use Rattle.renumbering.specs.Numbers.{directory_taken, fresh_directory}
 use Rattle.renumbering.proofs.Searches.{least_hit, least_turn, least-end}
 use Rattle.renumbering.proofs.fresh_directory.Goals as goal
 
@@ -22,12 +21,11 @@ returns-then-not-any_has c =
 
 pub loop-x-preserved : goal.loop-x-preserved
 unfolding directory_taken
-loop-x-preserved c =
-    (
-      search rules,
-      least_turn _ _ _ c.loop-x-test.true (sym c.any_has.ensures ∙ c.if-not-any_has.false)
-          ∙ c.loop-x.invariant.1,
-    )
+loop-x-preserved c = (
+  search rules,
+  least_turn _ _ _ c.loop-x-test.true (sym c.any_has.ensures ∙ c.if-not-any_has.false)
+      ∙ c.loop-x.invariant.1,
+)
 
 pub returns : goal.returns
 returns c = sym (least-end _ _ _ c.loop-x-test.false) ∙ c.loop-x.invariant.1

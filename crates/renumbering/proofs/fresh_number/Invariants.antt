@@ -1,12 +1,8 @@
 -- `fresh_number` gives the least number that is not taken. The loop's invariant: no number below x is free; the measure: those left.
 -- Rests on the laws of searches.
 use Prim.Native.Nat.{◌-◌, ◌≤◌}
-use native.Mathlib.Omega.{arith}
-use mathlib.Core.Path.{◌≡◌, sym, ◌∙◌}
-use borrow.Author.Tests.{not-true, not-false}
-use borrow.Author.Rules.{rules}
+use mathlib.Core.Path.{◌≡◌}
 use Rattle.renumbering.specs.Numbers.{least_free, number_taken, fresh_number}
-use Rattle.renumbering.proofs.Searches.{least_hit, least_turn, least-end}
 use Rattle.renumbering.proofs.fresh_number.Given as goal
 
 abbrev pub invariant-loop-x : goal.invariant-loop-x

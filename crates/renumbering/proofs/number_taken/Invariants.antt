@@ -1,12 +1,9 @@
 -- `number_taken` answers `number_taken`. The loop's invariant: the workers below j decide; the measure: those left.
 -- Rests on the laws of searches.
 use Prim.Native.Nat.{◌≤◌}
-use mathlib.Core.Path.{◌≡◌, refl, sym, ◌∙◌}
-use borrow.Author.Rules.{rules}
-use borrow.Author.Tests.{eq-eqb, ne_eqb}
-use Rattle.machine.proofs.laws.Base.{and_true, and_left_false, and_no}
+use mathlib.Core.Path.{◌≡◌}
 use Rattle.renumbering.specs.Numbers.{any, number_taken}
-use Rattle.renumbering.proofs.Searches.{read_number, any_hit, any_turn, any_none}
+use Rattle.renumbering.proofs.Searches.{read_number}
 use Rattle.renumbering.proofs.number_taken.Given as goal
 
 abbrev pub invariant-loop-j : goal.invariant-loop-j

@@ -1,6 +1,5 @@
 -- `ended` tells the steps, the total and the check, and gives the number, as `ended_report` and `ended_number` say.
 -- Rests on the law of an answer's number.
-use borrow.Author.Rules.{rules}
 use Prim.Native.Nat.{ℕ, ◌+◌}
 use native.Mathlib.Omega.{arith}
 use mathlib.Core.Path.{◌∙◌, ap}

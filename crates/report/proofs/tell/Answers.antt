@@ -3,7 +3,6 @@
 use native.Mathlib.Omega.{arith}
 use mathlib.Core.Path.{◌∙◌}
 use lib.ListN.{length-set}
-use borrow.Author.Rules.{rules}
 use Rattle.report.proofs.Laws.{three_short, three_told}
 use Rattle.report.proofs.tell.Goals as goal
 

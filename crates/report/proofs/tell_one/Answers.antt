@@ -1,6 +1,5 @@
 -- `tell_one` writes a word where it fits, as `told` says.
 -- Rests on the laws of reports.
-use borrow.Author.Rules.{rules}
 use Rattle.report.proofs.Laws.{told_none, told_one}
 use Rattle.report.proofs.tell_one.Goals as goal
 

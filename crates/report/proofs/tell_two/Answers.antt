@@ -1,6 +1,5 @@
 -- `tell_two` writes two words where both fit, as `told` says.
 -- Rests on the laws of reports.
-use borrow.Author.Rules.{rules}
 use Rattle.report.proofs.Laws.{told_none, told_two}
 use Rattle.report.proofs.tell_two.Goals as goal
 

@@ -1,7 +1,6 @@
 -- `answer`: a listing, or a reply.
 -- Rests on the laws of the two and on the contracts of what is called.
 use Rattle.responses.proofs.Answering.{answered_list, answered_reply}
-use borrow.Author.Rules.{rules}
 use Rattle.responses.proofs.answer.Goals as goal
 
 pub returns-then-is_list : goal.returns-then-is_list

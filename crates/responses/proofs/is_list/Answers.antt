@@ -1,7 +1,6 @@
 -- `is_list`: by the command.
 -- Rests on nothing but the definition.
 use Rattle.responses.specs.Answers.{is_list}
-use borrow.Author.Rules.{rules}
 use Rattle.responses.proofs.is_list.Goals as goal
 
 pub returns-in-Open : goal.returns-in-Open

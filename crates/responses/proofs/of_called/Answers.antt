@@ -1,7 +1,6 @@
 -- `of_called`: by the answer of the call.
 -- Rests on the contracts of what is called.
 use Rattle.responses.specs.Responses.{of_called}
-use borrow.Author.Rules.{rules}
 use Rattle.responses.proofs.of_called.Goals as goal
 
 pub returns-in-Accepted : goal.returns-in-Accepted

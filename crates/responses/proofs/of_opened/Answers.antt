@@ -1,7 +1,6 @@
 -- `of_opened`: by the answer of the call.
 -- Rests on the contracts of what is called.
 use Rattle.responses.specs.Responses.{of_opened}
-use borrow.Author.Rules.{rules}
 use Rattle.responses.proofs.of_opened.Goals as goal
 
 pub returns-in-Opened : goal.returns-in-Opened

@@ -1,7 +1,6 @@
 -- `of_ran`: by the answer of the run.
 -- Rests on the contracts of what is called.
 use Rattle.responses.specs.Responses.{of_ran}
-use borrow.Author.Rules.{rules}
 use Rattle.responses.proofs.of_ran.Goals as goal
 
 pub returns-in-Moved : goal.returns-in-Moved

@@ -1,7 +1,6 @@
 -- `carry` searches once, and settles the ticket as crowded or makes the change at that position, as `carry_of` says.
 -- Rests on the laws of one update.
 use mathlib.Core.Path.{sym, ◌∙◌}
-use borrow.Author.Rules.{rules}
 use Rattle.rounds.proofs.Laws.{carry_crowded, carry_changed}
 use Rattle.rounds.proofs.carry.Goals as goal
 

@@ -1,7 +1,6 @@
 -- `change` changes the state at the position that was found and settles the ticket, as `changed_of` says.
 -- Rests on the laws of one update.
 use mathlib.Core.Path.{◌∙◌}
-use borrow.Author.Rules.{rules}
 use Rattle.rules.specs.Rules.{insert_answer, delete_answer}
 use Rattle.rounds.proofs.Laws.{change_insert, change_delete, change_post}
 use Rattle.rounds.proofs.change.Goals as goal

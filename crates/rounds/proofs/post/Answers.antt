@@ -2,7 +2,6 @@
 -- Rests on the laws of a post.
 use Prim.Native.Nat.{ℕ}
 use mathlib.Core.Path.{sym, ◌∙◌, ap}
-use borrow.Author.Rules.{rules}
 use Rattle.sums.specs.Sums.{sum_of}
 use Rattle.rounds.proofs.Laws.{post_within, post_outside}
 use Rattle.rounds.proofs.post.Goals as goal

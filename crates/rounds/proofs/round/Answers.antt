@@ -1,12 +1,10 @@
 -- `round` makes the state that `round_of` makes.
-use Prim.Native.Nat.{ℕ, ◌≤◌, ◌-◌, ◌*◌}
+use Prim.Native.Nat.{ℕ, ◌-◌, ◌*◌}
 use native.Mathlib.Nat.{le_antisymm}
 use native.Mathlib.Omega.{arith}
-use mathlib.Core.Path.{◌≡◌, refl, sym, ◌∙◌, ap}
-use mathlib.Core.Logic.{⊎_elim}
-use lib.ListN.{length, get_or}
+use mathlib.Core.Path.{refl, sym, ◌∙◌, ap}
+use lib.ListN.{get_or}
 use borrow.Author.Rules.{rules}
-use borrow.Author.Tests.{not-true, not-false}
 use Rattle.fields.specs.Fields.{slot_size}
 use Rattle.bucket.specs.declared.BucketState.{BucketState}
 use Rattle.rules.specs.declared.Descriptor.{Descriptor}
@@ -19,13 +17,12 @@ use Rattle.rounds.proofs.round.Goals.{then-n-m, else-n-m, then-pending+then-not-
 pub loop-j-init : goal.loop-j-init
 unfolding helped_of
 loop-j-init c =
-    let s = c.args in
-    (
+    let s = c.args in (
       search rules,
       elim c.if-n-m.branch [ then-n-m w ↦ omega arith | else-n-m w ↦ omega arith ],
       elim c.if-n-m.branch [
-        then-n-m w ↦ ap (helped_of s.state s.slots.now s.s s.depth s.toggle) (sym w.m-is)
-      | else-n-m w ↦ helped_few s.state s.slots.now s.s s.depth s.toggle s.s.workers c.if-n-m.m (omega arith) w.m-is
+        | then-n-m w ↦ ap (helped_of s.state s.slots.now s.s s.depth s.toggle) (sym w.m-is)
+        | else-n-m w ↦ helped_few s.state s.slots.now s.s s.depth s.toggle s.s.workers c.if-n-m.m (omega arith) w.m-is
       ],
       refl,
     )
@@ -47,14 +44,14 @@ loop-j-preserved c =
       search rules,
       l.invariant.2,
       elim c.if-pending.branch [
-        then-pending+then-not-holds_back w ↦
+        | then-pending+then-not-holds_back w ↦
             w.x-is ∙ turn _ (w.carry-x.ensures ∙ ap (carry_of l.x s.s l.j) w.descriptor_at.ensures
             ∙ sym (help_carried l.x s.s s.depth s.toggle l.j u (pending ∙ w.if-pending.true)
             (sym w.holds_back.ensures ∙ w.if-not-holds_back.true))) l.invariant.3
-      | then-pending+else-not-holds_back w ↦
+        | then-pending+else-not-holds_back w ↦
             w.x-is ∙ turn _ (sym (help_back l.x s.s s.depth s.toggle l.j u
             (sym w.holds_back.ensures ∙ w.if-not-holds_back.false))) l.invariant.3
-      | else-pending w ↦
+        | else-pending w ↦
             w.x-is ∙ turn _ (sym (help_left l.x s.s s.depth s.toggle l.j u (pending ∙ w.if-pending.false))) l.invariant.3
       ],
     )

@@ -1,7 +1,6 @@
 -- `crowded` tests what `crowded_by` tests: where the bucket is full, a new account decides.
 -- Rests on nothing but the contracts of `full` and `creates`.
 use mathlib.Core.Path.{sym, ◌∙◌}
-use borrow.Author.Rules.{rules}
 use Rattle.machine.specs.Choice.{◌and◌}
 use Rattle.rules.specs.Rules.{crowded_by}
 use Rattle.rules.proofs.crowded.Goals as goal

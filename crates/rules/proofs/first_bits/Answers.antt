@@ -3,7 +3,6 @@
 use Prim.Native.Nat.{◌-◌}
 use native.Mathlib.Omega.{arith}
 use mathlib.Core.Path.{◌≡◌}
-use borrow.Author.Rules.{rules}
 use Rattle.machine.specs.Sequential.{first_bits}
 use Rattle.rules.proofs.first_bits.Goals as goal
 use Rattle.rules.proofs.first_bits.Goals.{then-d-lt32, else-d-lt32}
@@ -15,5 +14,5 @@ pub returns : goal.returns
 unfolding first_bits
 returns c =
     let rest : c.if-d-lt32.rest ≡ 32 - c.args.d =
-        elim c.if-d-lt32.branch [ then-d-lt32 w ↦ omega arith | else-d-lt32 w ↦ omega arith ] in
+    elim c.if-d-lt32.branch [ then-d-lt32 w ↦ omega arith | else-d-lt32 w ↦ omega arith ] in
     rw (rest, c.place_in.ensures)

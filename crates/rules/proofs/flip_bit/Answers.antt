@@ -4,7 +4,6 @@ use Prim.Native.Nat.{◌^◌, ◌<◌}
 use native.Mathlib.Omega.{arith}
 use Rattle.rules.specs.Rules.{bit}
 use Rattle.rules.proofs.Bits.{shift_one, bit_room, bit_clear_fits, flip_set, flip_clear}
-use borrow.Author.Rules.{rules}
 use Rattle.rules.proofs.flip_bit.Goals as goal
 
 pub overflow_add-result : goal.overflow_add-result

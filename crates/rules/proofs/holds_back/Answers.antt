@@ -1,6 +1,5 @@
 -- `holds_back` is `splittable`, as `holds_back_by` says.
 -- Rests on nothing but that contract.
-use borrow.Author.Rules.{rules}
 use Rattle.rules.specs.Rules.{holds_back_by}
 use Rattle.rules.proofs.holds_back.Goals as goal
 

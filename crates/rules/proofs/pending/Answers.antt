@@ -3,7 +3,6 @@
 use Prim.Native.Nat.{◌<◌, ◌^◌}
 use native.Mathlib.Omega.{arith}
 use mathlib.Core.Path.{sym, ◌∙◌}
-use borrow.Author.Rules.{rules}
 use Rattle.rules.specs.Rules.{bit}
 use Rattle.rules.proofs.Laws.{bit_past, pending_same, pending_differs}
 use Rattle.rules.proofs.pending.Goals as goal

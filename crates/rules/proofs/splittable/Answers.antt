@@ -1,7 +1,6 @@
 -- `splittable` tests what `splittable_by` tests: where the bucket is full, its depth decides.
 -- Rests on nothing but the contract of `full`.
 use mathlib.Core.Path.{sym, ◌∙◌}
-use borrow.Author.Rules.{rules}
 use Rattle.machine.specs.Choice.{◌and◌}
 use Rattle.rules.specs.Rules.{splittable_by}
 use Rattle.rules.proofs.splittable.Goals as goal

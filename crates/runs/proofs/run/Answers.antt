@@ -2,13 +2,11 @@
 -- Rests on the laws of whole calls.
 use native.Mathlib.Omega.{arith}
 use mathlib.Core.Path.{sym, ◌∙◌}
-use mathlib.Core.Logic.{⊎_elim}
 use Rattle.layout.proofs.Positions.{placed}
 use Rattle.layout.proofs.Checks.{fits_of, fits_read, strange_first, stranger_next}
 use Rattle.runs.proofs.RunLaws.{run_none, run_goes}
 use Rattle.memory.proofs.Lesser.{least_small, least_large}
 use Rattle.runs.specs.Runs.{run_words}
-use borrow.Author.Rules.{rules}
 use Rattle.runs.proofs.run.Goals as goal
 use Rattle.runs.proofs.run.Goals.{else-most-lt-LONGEST_RUN, then-most-lt-LONGEST_RUN}
 
@@ -46,11 +44,10 @@ returns-then-get-eq-KIND_NONE c =
     c.worker_at.ensures c.get.ensures _ c.if-get-eq-KIND_NONE.true
 
 pub run_in-requires : goal.run_in-requires
-run_in-requires c =
-    (
-      fits_of _ (sym c.strange_words.ensures ∙ c.if-strange_words.false),
-      (rw c.settings_of-g.ensures at c.if-g-worker.false, (elim c.if-most-lt-LONGEST_RUN.branch [ then-most-lt-LONGEST_RUN w ↦ omega arith | else-most-lt-LONGEST_RUN w ↦ omega arith ])),
-    )
+run_in-requires c = (
+  fits_of _ (sym c.strange_words.ensures ∙ c.if-strange_words.false),
+  (rw c.settings_of-g.ensures at c.if-g-worker.false, (elim c.if-most-lt-LONGEST_RUN.branch [ then-most-lt-LONGEST_RUN w ↦ omega arith | else-most-lt-LONGEST_RUN w ↦ omega arith ])),
+)
 
 pub returns : goal.returns
 returns c =

@@ -2,8 +2,6 @@
 use Prim.Native.Nat.{ℕ, ◌+◌, ◌-◌, ◌%◌, ◌≤◌, ◌<◌}
 use native.Mathlib.Omega.{arith}
 use mathlib.Core.Path.{◌≡◌, refl, sym, ◌∙◌, ap}
-use mathlib.Core.Logic.{⊎_elim}
-use lib.ListN.{length}
 use Rattle.interface.specs.declared.Settings.{Settings}
 use Rattle.fields.specs.Fields.{steps_range}
 use Rattle.fields.specs.Regions.{worker_at}
@@ -11,7 +9,6 @@ use Rattle.layout.specs.Shape.{settings_of, Fits}
 use Rattle.layout.proofs.Positions.{Placed, placed, fits_kept}
 use Rattle.updates.proofs.UpdateLaws.{operation_lookup, operation_update}
 use Rattle.runs.proofs.RunLaws.{run_start, run_end, run_idle, run_moved, run_answered, run_refused}
-use Rattle.runs.specs.Runs.{run_in}
 use borrow.Author.Rules.{rules}
 use Rattle.runs.proofs.run_in.Goals as goal
 use Rattle.runs.proofs.run_in.Goals.{then-kind-eq-KIND_LOOKUP+in-Moved, else-kind-eq-KIND_LOOKUP+then-k-g, else-kind-eq-KIND_LOOKUP+else-k-g+in-Moved-update_step}
@@ -95,11 +92,10 @@ overflow_add-g c =
     omega (arith, c.requires.0.workers, ap (λ (s : Settings). s.workers) c.settings_of-g.ensures)
 
 pub early_step-requires : goal.early_step-requires
-early_step-requires c =
-    (
-      fits_kept (omega (arith, c.loop-done.invariant.1.0)) c.requires.0,
-      (c.requires.1.0, rw c.settings_of-g.ensures at c.if-k-g.true),
-    )
+early_step-requires c = (
+  fits_kept (omega (arith, c.loop-done.invariant.1.0)) c.requires.0,
+  (c.requires.1.0, rw c.settings_of-g.ensures at c.if-k-g.true),
+)
 
 pub update_step-requires : goal.update_step-requires
 update_step-requires c =
@@ -126,36 +122,36 @@ loop-done-preserved c =
     let place = rw c.settings_of-g.ensures at c.worker_at-p.ensures in
     let steps = ap (λ (x : ℕ). x % steps_range) c.get-k.ensures in
     elim c.if-kind-eq-KIND_LOOKUP.branch [
-      then-kind-eq-KIND_LOOKUP+in-Moved w ↦
-        rw w.words-is (
-          one_more c.loop-done-test.true,
-          (
-            search rules,
-            run_moved _ _ _ _ _ _ _ place c.get-kind.ensures c.loop-done-test.true _ _
-                c.if-kind-eq-KIND_NONE.false (operation_lookup _ _ _ _ _ _ _ _ c.get-kind.ensures steps c.put.ensures w.if-kind-eq-KIND_LOOKUP.true
-                (rw c.settings_of-g.ensures at w.lookup_step.ensures)) w.in-Moved.is ∙ c.loop-done.invariant.1.1,
-          ),
-        )
-    | else-kind-eq-KIND_LOOKUP+then-k-g w ↦
-        rw w.words-is (
-          one_more c.loop-done-test.true,
-          (
-            search rules,
-            run_moved _ _ _ _ _ _ _ place c.get-kind.ensures c.loop-done-test.true _ _
-                c.if-kind-eq-KIND_NONE.false (operation_update _ _ _ _ _ _ _ _ c.get-kind.ensures steps c.put.ensures w.if-kind-eq-KIND_LOOKUP.false
-                (rw (← place) at w.early_step.ensures)) refl ∙ c.loop-done.invariant.1.1,
-          ),
-        )
-    | else-kind-eq-KIND_LOOKUP+else-k-g+in-Moved-update_step w ↦
-        rw w.words-is (
-          one_more c.loop-done-test.true,
-          (
-            search rules,
-            run_moved _ _ _ _ _ _ _ place c.get-kind.ensures c.loop-done-test.true _ _
-                c.if-kind-eq-KIND_NONE.false (operation_update _ _ _ _ _ _ _ _ c.get-kind.ensures steps c.put.ensures w.if-kind-eq-KIND_LOOKUP.false
-                (rw (← place) at w.update_step.ensures)) w.in-Moved-update_step.is ∙ c.loop-done.invariant.1.1,
-          ),
-        )
+      | then-kind-eq-KIND_LOOKUP+in-Moved w ↦
+          rw w.words-is (
+            one_more c.loop-done-test.true,
+            (
+              search rules,
+              run_moved _ _ _ _ _ _ _ place c.get-kind.ensures c.loop-done-test.true _ _
+                  c.if-kind-eq-KIND_NONE.false (operation_lookup _ _ _ _ _ _ _ _ c.get-kind.ensures steps c.put.ensures w.if-kind-eq-KIND_LOOKUP.true
+                  (rw c.settings_of-g.ensures at w.lookup_step.ensures)) w.in-Moved.is ∙ c.loop-done.invariant.1.1,
+            ),
+          )
+      | else-kind-eq-KIND_LOOKUP+then-k-g w ↦
+          rw w.words-is (
+            one_more c.loop-done-test.true,
+            (
+              search rules,
+              run_moved _ _ _ _ _ _ _ place c.get-kind.ensures c.loop-done-test.true _ _
+                  c.if-kind-eq-KIND_NONE.false (operation_update _ _ _ _ _ _ _ _ c.get-kind.ensures steps c.put.ensures w.if-kind-eq-KIND_LOOKUP.false
+                  (rw (← place) at w.early_step.ensures)) refl ∙ c.loop-done.invariant.1.1,
+            ),
+          )
+      | else-kind-eq-KIND_LOOKUP+else-k-g+in-Moved-update_step w ↦
+          rw w.words-is (
+            one_more c.loop-done-test.true,
+            (
+              search rules,
+              run_moved _ _ _ _ _ _ _ place c.get-kind.ensures c.loop-done-test.true _ _
+                  c.if-kind-eq-KIND_NONE.false (operation_update _ _ _ _ _ _ _ _ c.get-kind.ensures steps c.put.ensures w.if-kind-eq-KIND_LOOKUP.false
+                  (rw (← place) at w.update_step.ensures)) w.in-Moved-update_step.is ∙ c.loop-done.invariant.1.1,
+            ),
+          )
     ]
 
 pub returns : goal.returns

@@ -2,7 +2,6 @@
 -- Rests on the bounds of entries.
 use native.Mathlib.Omega.{arith}
 use lib.Pow.{pow_mono}
-use borrow.Author.Rules.{rules}
 use Rattle.spares.specs.Records.{current_at}
 use Rattle.spares.proofs.PoolLaws.{entry_below}
 use Rattle.layout.proofs.Positions.{start_bound}

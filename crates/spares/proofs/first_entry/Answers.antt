@@ -3,9 +3,7 @@
 use Prim.Native.Nat.{◌-◌, ◌^◌}
 use native.Mathlib.Omega.{arith}
 use mathlib.Core.Path.{◌≡◌, ◌∙◌}
-use mathlib.Core.Logic.{⊎_elim}
 use lib.Pow.{pow_pos, pow_mono}
-use borrow.Author.Rules.{rules}
 use Rattle.rules.proofs.Bits.{shift_one}
 use Rattle.spares.proofs.PoolLaws.{entry_is, width_one, entry_product}
 use Rattle.spares.proofs.first_entry.Goals as goal

@@ -3,7 +3,6 @@
 use Prim.Native.Nat.{ℕ, ◌+◌, ◌≤◌}
 use native.Mathlib.Omega.{arith}
 use mathlib.Core.Path.{◌∙◌, ap}
-use borrow.Author.Rules.{rules}
 use Rattle.fields.specs.Fields.{spare_words}
 use Rattle.fields.specs.Regions.{record_start, pool_size, words_needed}
 use Rattle.spares.proofs.PoolLaws.{record_start_bound}

@@ -2,7 +2,6 @@
 -- Rests on the bound of a power of two.
 use native.Mathlib.Omega.{arith}
 use lib.Pow.{pow_mono}
-use borrow.Author.Rules.{rules}
 use Rattle.fields.specs.Regions.{pool_size}
 use Rattle.spares.proofs.pool.Goals as goal
 

@@ -2,7 +2,6 @@
 -- Rests on the bounds of the directory's start and of a record's address.
 use native.Mathlib.Omega.{arith}
 use lib.Pow.{pow_mono}
-use borrow.Author.Rules.{rules}
 use Rattle.rules.proofs.Bits.{shift_one}
 use Rattle.spares.proofs.PoolLaws.{start_is, product_bound}
 use Rattle.layout.proofs.Positions.{start_bound}

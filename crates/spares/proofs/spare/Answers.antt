@@ -2,12 +2,9 @@
 use Prim.Native.Nat.{ℕ, ◌-◌, ◌<◌}
 use native.Mathlib.Nat.{mod-lt}
 use native.Mathlib.Omega.{arith}
-use mathlib.Core.Path.{◌≡◌, sym, ◌∙◌, ap}
-use mathlib.Core.Logic.{⊎_elim}
-use borrow.Author.Rules.{rules}
-use borrow.Author.Tests.{not-false, not-true}
+use mathlib.Core.Path.{sym, ◌∙◌, ap}
 use Rattle.fields.specs.Regions.{pool_size}
-use Rattle.spares.specs.Records.{spare_from, spare_of}
+use Rattle.spares.specs.Records.{spare_from}
 use Rattle.spares.proofs.PoolLaws.{pool_bound, spare_start, spare_found, spare_up, spare_round, spare_end}
 use Rattle.layout.proofs.Positions.{long}
 use Rattle.spares.proofs.spare.Goals as goal
@@ -53,15 +50,18 @@ loop-k-preserved c =
     let full = sym c.used.ensures ∙ c.if-not-used.false in
     let search_from : ℕ → ℕ = λ (r : ℕ). spare_from c.args.words.now
     c.args.g r (c.loop-k.k - 1) in
-    (elim c.if-r-all.branch [ then-r-all w ↦ (
-      omega arith,
-      ap search_from w.r-is ∙ spare_up _ _ _ _ c.loop-k-test.true full (omega (arith, w.if-r-all.true))
-          ∙ c.loop-k.invariant.1,
-    ) | else-r-all w ↦ (
-      omega arith,
-      ap search_from w.r-is ∙ spare_round _ _ _ _ c.loop-k-test.true full (omega (arith, w.if-r-all.false))
-          ∙ c.loop-k.invariant.1,
-    ) ])
+    (elim c.if-r-all.branch [
+      | then-r-all w ↦ (
+        omega arith,
+        ap search_from w.r-is ∙ spare_up _ _ _ _ c.loop-k-test.true full (omega (arith, w.if-r-all.true))
+            ∙ c.loop-k.invariant.1,
+      )
+      | else-r-all w ↦ (
+        omega arith,
+        ap search_from w.r-is ∙ spare_round _ _ _ _ c.loop-k-test.true full (omega (arith, w.if-r-all.false))
+            ∙ c.loop-k.invariant.1,
+      )
+    ])
 
 pub returns : goal.returns
 returns c = sym (spare_end _ _ _ _ c.loop-k-test.false) ∙ c.loop-k.invariant.1

@@ -1,16 +1,9 @@
 -- `spare` gives the next record to use. The loop's invariant: the search from r on, for k records, is the whole search; the measure: k.
 -- Rests on the turns of the search.
-use Prim.Native.Nat.{ℕ, ◌-◌, ◌<◌}
-use native.Mathlib.Nat.{mod-lt}
-use native.Mathlib.Omega.{arith}
-use mathlib.Core.Path.{◌≡◌, sym, ◌∙◌, ap}
-use mathlib.Core.Logic.{⊎_elim}
-use borrow.Author.Rules.{rules}
-use borrow.Author.Tests.{not-false, not-true}
+use Prim.Native.Nat.{◌-◌, ◌<◌}
+use mathlib.Core.Path.{◌≡◌}
 use Rattle.fields.specs.Regions.{pool_size}
 use Rattle.spares.specs.Records.{spare_from, spare_of}
-use Rattle.spares.proofs.PoolLaws.{pool_bound, spare_start, spare_found, spare_up, spare_round, spare_end}
-use Rattle.layout.proofs.Positions.{long}
 use Rattle.spares.proofs.spare.Given as goal
 
 abbrev pub invariant-loop-k : goal.invariant-loop-k

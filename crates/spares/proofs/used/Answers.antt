@@ -1,7 +1,6 @@
 -- `used` tells whether a record is current or held.
 -- Rests on the bounds of records.
 use native.Mathlib.Omega.{arith}
-use borrow.Author.Rules.{rules}
 use Rattle.spares.specs.Records.{held_by_any}
 use Rattle.spares.proofs.PoolLaws.{pool_bound, pool_inside, used_current, used_held}
 use Rattle.spares.proofs.used.Goals as goal

@@ -1,6 +1,5 @@
 -- `deepen` makes the directory's depth at least d.
 -- Rests on both outcomes of the test.
-use borrow.Author.Rules.{rules}
 use Rattle.splits.proofs.Splitting.{deepened_more, deepened_same}
 use Rattle.splits.proofs.deepen.Goals as goal
 

@@ -1,9 +1,7 @@
 -- `half` puts one half of a split into a spare record.
 -- Rests on the bounds of records.
 use native.Mathlib.Omega.{arith}
-use borrow.Author.Rules.{rules}
 use Rattle.spares.proofs.PoolLaws.{pool_bound, pool_inside, spare_below}
-use Rattle.layout.proofs.Positions.{placed}
 use Rattle.splits.proofs.Splitting.{half_is}
 use Rattle.splits.proofs.half.Goals as goal
 

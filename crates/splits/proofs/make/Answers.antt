@@ -1,6 +1,5 @@
 -- `make` writes a new bucket's record.
 -- Rests on the words of a record one after another.
-use borrow.Author.Rules.{rules}
 use Rattle.splits.proofs.Splitting.{made_is}
 use Rattle.splits.proofs.make.Goals as goal
 

@@ -4,13 +4,11 @@ use native.Mathlib.Omega.{arith}
 use mathlib.Core.Path.{◌≡◌, refl, sym, ◌∙◌}
 use lib.ListN.{length}
 use borrow.Author.Rules.{rules}
-use borrow.Author.Tests.{not-true, not-false}
 use Rattle.rules.specs.Rules.{splittable_by}
 use Rattle.record.specs.Bucket.{splittable_at}
 use Rattle.record.proofs.Tests.{both_read}
 use Rattle.fields.specs.Fields.{widest_record}
 use Rattle.layout.specs.Shape.{Whole}
-use Rattle.splits.specs.Splits.{split_while_at}
 use Rattle.spares.proofs.PoolLaws.{whole_kept}
 use Rattle.layout.proofs.Positions.{record_inside}
 use Rattle.splits.proofs.Splitting.{splittable_depth, while_done, while_turn, while_end}
@@ -61,16 +59,15 @@ split-requires c =
     (whole (goal.at.split-requires c).At-loop-f, (splittable_depth c.loop-f.words c.args.g c.record_of-q.result yes, inside (goal.at.split-requires c).After-record_of-q))
 
 pub loop-f-preserved : goal.loop-f-preserved
-loop-f-preserved c =
-    (
-      search rules,
-      (
-        search rules,
-        while_turn _ _ _ _ _ c.record_of-q.ensures (tested (goal.at.loop-f-preserved c).After-splittable) _ _ c.loop-f-test.true c.if-not-splittable.false
-            c.split.ensures
-            ∙ c.loop-f.invariant.1.1,
-      ),
-    )
+loop-f-preserved c = (
+  search rules,
+  (
+    search rules,
+    while_turn _ _ _ _ _ c.record_of-q.ensures (tested (goal.at.loop-f-preserved c).After-splittable) _ _ c.loop-f-test.true c.if-not-splittable.false
+        c.split.ensures
+        ∙ c.loop-f.invariant.1.1,
+  ),
+)
 
 pub returns : goal.returns
 returns c = while_end _ _ _ _ c.loop-f-test.false ∙ c.loop-f.invariant.1.1

@@ -1,16 +1,15 @@
 -- `store_state` stores two arrays at a time, then three.
-use Prim.Native.Nat.{◌+◌, ◌≤◌, ◌-◌}
+use Prim.Native.Nat.{◌+◌, ◌-◌}
 use mathlib.Core.Path.{◌≡◌, sym, ◌∙◌, ap}
 use native.Mathlib.Nat.{le_antisymm, le_trans}
 use native.Mathlib.Numerals.{add-one}
 use native.Mathlib.Omega.{arith}
-use lib.ListN.{length, length-set, length-map}
-use Rattle.fields.specs.Fields.{record_count, accounts_from, totals_from, settled_from, answers_from, posted_from, widest_record}
-use Rattle.memory.specs.Words.{stored}
+use lib.ListN.{length, length-set}
+use Rattle.fields.specs.Fields.{record_count, accounts_from, totals_from, settled_from, answers_from, posted_from}
 use Rattle.storing.specs.Stores.{stored_state}
 use Rattle.memory.proofs.Runs.{stored_none}
 use Rattle.bucket.proofs.Sizes.{Sized}
-use Rattle.record.proofs.WordAddresses.{Room, Addressed, Pair, addressed, begins, nearer, accounts_pair, workers_pair, posted_pair}
+use Rattle.record.proofs.WordAddresses.{Room, Addressed, Pair, addressed, accounts_pair, workers_pair, posted_pair}
 use Rattle.storing.proofs.States.{pair_stored, triple_stored, state_stored}
 use Rattle.memory.proofs.Lesser.{count_bound}
 use Rattle.storing.proofs.Trips.{length_state}

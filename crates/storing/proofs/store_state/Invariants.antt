@@ -1,21 +1,10 @@
 -- `store_state` stores two arrays at a time, then three. The loops' invariants: the items passed are stored; the measures: the items left.
 -- Rests on the laws of one item more, of the whole state, and of the addresses.
 use Prim.Native.Nat.{◌+◌, ◌≤◌, ◌-◌}
-use mathlib.Core.Path.{◌≡◌, sym, ◌∙◌, ap}
-use native.Mathlib.Nat.{le_antisymm, le_trans}
-use native.Mathlib.Numerals.{add-one}
-use native.Mathlib.Omega.{arith}
-use lib.ListN.{length, length-set, length-map}
-use Rattle.fields.specs.Fields.{record_count, accounts_from, totals_from, settled_from, answers_from, posted_from, widest_record}
+use mathlib.Core.Path.{◌≡◌}
+use lib.ListN.{length}
+use Rattle.fields.specs.Fields.{widest_record}
 use Rattle.memory.specs.Words.{stored}
-use Rattle.storing.specs.Stores.{stored_state}
-use Rattle.memory.proofs.Runs.{stored_none}
-use Rattle.bucket.proofs.Sizes.{Sized}
-use Rattle.record.proofs.WordAddresses.{Room, Addressed, Pair, addressed, begins, nearer, accounts_pair, workers_pair, posted_pair}
-use Rattle.storing.proofs.States.{pair_stored, triple_stored, state_stored}
-use Rattle.memory.proofs.Lesser.{count_bound}
-use Rattle.storing.proofs.Trips.{length_state}
-use borrow.Author.Rules.{rules}
 use Rattle.storing.proofs.store_state.Given as goal
 
 abbrev pub invariant-loop-i : goal.invariant-loop-i

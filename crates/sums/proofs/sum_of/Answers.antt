@@ -6,7 +6,6 @@ use lib.IntN.{◌+ℤ◌}
 use mir.Syntax.{w64}
 use mir.Val.{SFits, to_z, of_z}
 use mir.Facts.{to_z-of_z, sfits_to_z}
-use borrow.Author.Rules.{rules}
 use Rattle.machine.specs.Sequential.{is_total}
 use Rattle.machine.proofs.laws.Base.{if_true, if_false}
 use Rattle.sums.specs.Sums.{added, sum_of}

@@ -9,7 +9,6 @@ use Rattle.layout.proofs.Positions.{Placed, placed}
 use Rattle.rules.specs.Rules.{flip_bit}
 use Rattle.inplace.proofs.Rounds.{round_none, round_done}
 use Rattle.lists.proofs.PartLaws.{part_taken}
-use borrow.Author.Rules.{rules}
 use Rattle.swaps.proofs.round.Goals as goal
 use Rattle.swaps.proofs.round.Goals.{After-worker_at-from}
 

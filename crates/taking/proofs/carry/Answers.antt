@@ -2,7 +2,6 @@
 -- Rests on the words of the slot one after another.
 use Rattle.fields.specs.Regions.{worker_at}
 use Rattle.taking.proofs.TakingLaws.{carried_is}
-use borrow.Author.Rules.{rules}
 use Rattle.taking.proofs.carry.Goals as goal
 
 pub store_state-requires : goal.store_state-requires

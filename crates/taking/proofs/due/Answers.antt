@@ -2,7 +2,6 @@
 -- Rests on the outcomes of the three tests.
 use Rattle.fields.specs.Regions.{worker_at}
 use Rattle.taking.proofs.TakingLaws.{due_empty, due_apart, due_here}
-use borrow.Author.Rules.{rules}
 use Rattle.taking.proofs.due.Goals as goal
 
 pub returns-then-slot_word-eq-KIND_NONE : goal.returns-then-slot_word-eq-KIND_NONE

@@ -1,14 +1,13 @@
 -- `dues` gives the workers whose update is due, as bits.
-use Prim.Native.Nat.{◌-◌, ◌≤◌}
+use Prim.Native.Nat.{◌-◌}
 use native.Mathlib.Omega.{arith}
 use mathlib.Core.Path.{◌≡◌, ◌∙◌, ap}
-use mathlib.Core.Logic.{⊎_elim}
 use borrow.Author.Rules.{rules}
 use Rattle.fields.specs.Regions.{worker_at}
 use Rattle.taking.specs.Taking.{dues_at}
 use lib.Pow.{pow_mono}
 use Rattle.rules.proofs.Bits.{shift_one}
-use Rattle.taking.proofs.TakingLaws.{Dues, dues_start, dues_more, dues_same}
+use Rattle.taking.proofs.TakingLaws.{dues_start, dues_more, dues_same}
 use Rattle.taking.proofs.dues.Goals as goal
 use Rattle.taking.proofs.dues.Goals.{else-due, then-due}
 

@@ -1,8 +1,7 @@
 -- `take_all` takes the updates of some workers.
-use Prim.Native.Nat.{◌-◌, ◌≤◌}
+use Prim.Native.Nat.{◌-◌}
 use native.Mathlib.Omega.{arith}
 use mathlib.Core.Path.{◌≡◌, refl, sym, ◌∙◌, ap}
-use mathlib.Core.Logic.{⊎_elim}
 use lib.ListN.{length}
 use borrow.Author.Rules.{rules}
 use Rattle.fields.specs.Regions.{worker_at}
@@ -25,14 +24,17 @@ take-requires c =
 
 pub loop-i-preserved : goal.loop-i-preserved
 loop-i-preserved c =
-    (elim c.if-bits-i-eq1.branch [ then-bits-i-eq1 w ↦ (
-      search rules,
-      (
-        ap length w.words-is ∙ search rules,
-        w.words-is
-            ∙ all_more _ _ _ _ _ _ c.loop-i.invariant.1.1 _ w.if-bits-i-eq1.true w.take.ensures,
-      ),
-    ) | else-bits-i-eq1 w ↦ (search rules, (ap length w.words-is ∙ c.loop-i.invariant.1.0, w.words-is ∙ all_same _ _ _ _ _ _ c.loop-i.invariant.1.1 w.if-bits-i-eq1.false)) ])
+    (elim c.if-bits-i-eq1.branch [
+      | then-bits-i-eq1 w ↦ (
+        search rules,
+        (
+          ap length w.words-is ∙ search rules,
+          w.words-is
+              ∙ all_more _ _ _ _ _ _ c.loop-i.invariant.1.1 _ w.if-bits-i-eq1.true w.take.ensures,
+        ),
+      )
+      | else-bits-i-eq1 w ↦ (search rules, (ap length w.words-is ∙ c.loop-i.invariant.1.0, w.words-is ∙ all_same _ _ _ _ _ _ c.loop-i.invariant.1.1 w.if-bits-i-eq1.false))
+    ])
 
 pub returns : goal.returns
 returns c =

@@ -22,7 +22,7 @@ taken_in g c =
     let block = c.args.block.now in
     let test = c.loop-from-test.true in
     let size : length (take (length block - l.from) (drop l.from block)) ≡ length block - l.from =
-        length-take-le _ _ (rw length-drop (omega arith)) in
+    length-take-le _ _ (rw length-drop (omega arith)) in
     let most = most_after _ _ _ c.feed-fed.ensures in
     let first = first_after _ _ _ c.feed-fed.ensures (omega arith) (omega arith) in
     (omega arith, omega arith)

@@ -6,7 +6,6 @@ use Rattle.layout.proofs.Positions.{placed}
 use Rattle.layout.proofs.Checks.{fits_of, fits_read, strange_first, stranger_next}
 use Rattle.turns.proofs.TurnLaws.{step_idle, step_goes}
 use Rattle.turns.specs.Turns.{step_words}
-use borrow.Author.Rules.{rules}
 use Rattle.turns.proofs.step.Goals as goal
 
 pub returns-then-strange_words : goal.returns-then-strange_words

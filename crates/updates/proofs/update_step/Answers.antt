@@ -35,11 +35,10 @@ read_toggle-requires c =
     rw c.settings_of-g.ensures (c.requires.0, c.requires.1.0)
 
 pub read_slot-requires : goal.read_slot-requires
-read_slot-requires c =
-    (
-      rw c.settings_of-g.ensures c.requires.0,
-      (rw c.settings_of-g.ensures c.requires.1.0, slot_below _ _ _ _ c.in-ReadSlot.is c.phase_of.ensures),
-    )
+read_slot-requires c = (
+  rw c.settings_of-g.ensures c.requires.0,
+  (rw c.settings_of-g.ensures c.requires.1.0, slot_below _ _ _ _ c.in-ReadSlot.is c.phase_of.ensures),
+)
 
 pub swap-requires : goal.swap-requires
 swap-requires c =
@@ -60,11 +59,10 @@ copy_directory-requires c =
     rw c.settings_of-g.ensures (c.requires.0, c.requires.1.0)
 
 pub state_step-requires : goal.state_step-requires
-state_step-requires c =
-    (
-      rw c.settings_of-g.ensures c.requires.0,
-      (rw c.settings_of-g.ensures c.requires.1.0, state_below _ _ _ _ c.in-StateStep.is c.phase_of.ensures),
-    )
+state_step-requires c = (
+  rw c.settings_of-g.ensures c.requires.0,
+  (rw c.settings_of-g.ensures c.requires.1.0, state_below _ _ _ _ c.in-StateStep.is c.phase_of.ensures),
+)
 
 pub swap_directory-requires : goal.swap_directory-requires
 swap_directory-requires c =

@@ -2,7 +2,6 @@
 -- Rests on the laws of a slice that is written.
 use Prim.Native.Nat.{◌+◌, ◌-◌}
 use native.Mathlib.Omega.{arith}
-use borrow.Author.Rules.{rules}
 use Rattle.lists.specs.Parts.{part}
 use Rattle.writes.proofs.Slices.{slice_raised}
 use Rattle.writes.proofs.raise_in.Goals as goal

@@ -2,7 +2,6 @@
 -- Rests on the law of a removal.
 use native.Mathlib.Omega.{arith}
 use mathlib.Core.Path.{sym, ◌∙◌, ap}
-use borrow.Author.Rules.{rules}
 use Rattle.bucket.specs.State.{remove_of}
 use Rattle.bucket.proofs.Laws.{removed_at}
 use Rattle.bucket.proofs.BucketState.remove.Goals as goal

@@ -29,4 +29,3 @@ returns c =
       greatest-capacity = omega (arith, ltb-false);
       greatest-depth = omega (arith, ltb-false);
     }))
-

@@ -1,7 +1,6 @@
 -- `held_by` gives the record that a worker holds.
 -- Rests on nothing but the definition.
 use mathlib.Core.Path.{◌∙◌, ap}
-use borrow.Author.Rules.{rules}
 use Rattle.layout.specs.Addresses.{record_in, held_by}
 use Rattle.layout.proofs.addresses.held_by.Goals as goal
 

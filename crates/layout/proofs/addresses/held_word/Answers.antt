@@ -1,7 +1,6 @@
 -- `held_word` reads a word of the record that a worker holds.
 -- Rests on the address of a held record.
 use native.Mathlib.Omega.{arith}
-use borrow.Author.Rules.{rules}
 use Rattle.fields.specs.Regions.{worker_at}
 use Rattle.layout.proofs.Positions.{held_inside}
 use Rattle.layout.proofs.addresses.held_word.Goals as goal

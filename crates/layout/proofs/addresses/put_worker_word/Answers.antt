@@ -4,7 +4,6 @@ use Prim.Native.Nat.{ℕ, ◌+◌}
 use native.Mathlib.Omega.{arith}
 use mathlib.Core.Path.{◌∙◌, ap}
 use lib.ListN.{set}
-use borrow.Author.Rules.{rules}
 use Rattle.layout.proofs.Positions.{placed}
 use Rattle.layout.proofs.addresses.put_worker_word.Goals as goal
 

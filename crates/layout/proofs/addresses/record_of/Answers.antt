@@ -4,7 +4,6 @@ use Prim.Native.Nat.{ℕ, ◌+◌}
 use native.Mathlib.Omega.{arith}
 use mathlib.Core.Path.{◌∙◌, ap}
 use lib.ListN.{get_or}
-use borrow.Author.Rules.{rules}
 use Rattle.fields.specs.Regions.{directory_start}
 use Rattle.layout.specs.Addresses.{record_in, record_of}
 use Rattle.layout.proofs.Positions.{start_bound, bits_small}

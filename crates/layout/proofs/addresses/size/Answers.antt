@@ -1,6 +1,5 @@
 -- `size` is the definition `least` of the record's first word.
 -- Rests on nothing but the definition.
-use borrow.Author.Rules.{rules}
 use Rattle.memory.specs.Words.{least}
 use Rattle.layout.proofs.addresses.size.Goals as goal
 

@@ -1,7 +1,6 @@
 -- `slot-read` reads a slot, as a worker has read it.
 -- Rests on the bounds of a worker's words.
 use native.Mathlib.Omega.{arith}
-use borrow.Author.Rules.{rules}
 use Rattle.layout.proofs.Positions.{placed}
 use Rattle.layout.proofs.addresses.slot_read.Goals as goal
 

@@ -2,7 +2,6 @@
 -- Rests on the bound of the workers' records.
 use native.Mathlib.Omega.{arith}
 use mathlib.Core.Path.{refl}
-use borrow.Author.Rules.{rules}
 use Rattle.fields.specs.Regions.{worker_at}
 use Rattle.layout.proofs.Positions.{workers_bound}
 use Rattle.layout.proofs.addresses.worker_at.Goals as goal

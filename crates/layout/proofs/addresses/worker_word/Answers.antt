@@ -1,7 +1,6 @@
 -- `worker_word` reads a word of a worker's record.
 -- Rests on the address of a worker's words.
 use native.Mathlib.Omega.{arith}
-use borrow.Author.Rules.{rules}
 use Rattle.layout.proofs.Positions.{placed}
 use Rattle.layout.proofs.addresses.worker_word.Goals as goal
 

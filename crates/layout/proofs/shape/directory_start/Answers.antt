@@ -1,6 +1,5 @@
 -- `directory_start` gives where the directory begins.
 -- Rests on nothing but the definitions.
-use borrow.Author.Rules.{rules}
 use Rattle.fields.specs.Regions.{worker_at, directory_start}
 use Rattle.layout.proofs.shape.directory_start.Goals as goal
 
