@@ -114,8 +114,8 @@ apply() {
   [ "$pairs" -gt 0 ] || { echo "no pair of old and new" && return 1; }
 }
 
-# refusal LOG: the file and the lemma of the first error, a fact that does not hold and no name that is missing. rt names
-# a file from its crate's folder, and a crate below `simulation` where it was not built.
+# refusal LOG: the file and the lemma of the first error, a fact that does not hold and no name that is missing. rt
+# names a file from its crate's folder, and a crate below `simulation` where it was not built.
 refusal() {
   local crate
   crate=$(sed -nE 's/^rt: the library ([a-z0-9_]+) did not build.*/\1/p' "$1" | head -n 1)

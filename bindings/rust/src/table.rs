@@ -233,7 +233,7 @@ impl<'a> Table<'a> {
     /// ```
     pub fn listing(&self) -> Result<Vec<(u32, i64)>, Refusal> {
         // never `Narrow`: also words from elsewhere, where they are not strange, list no more rows than this, by the
-        // theorem `rows-few` of crates/rows/proofs/RowLaws
+        // theorem `rows_few` of crates/rows/proofs/RowLaws
         let (mut accounts, mut totals) = (vec![0; Self::GREATEST_COUNT], vec![0; Self::GREATEST_COUNT]);
         let count = self.listing_into(&mut accounts, &mut totals)?;
         Ok(accounts.into_iter().zip(totals).take(count).collect())
@@ -350,7 +350,7 @@ impl<'a> Table<'a> {
     /// ```
     pub fn export(&self) -> Result<Vec<u8>, Refusal> {
         // never `Narrow`: also words from elsewhere, where they are not strange, have no longer file than this, by the
-        // theorem `long-enough` of crates/export/specs/Export
+        // theorem `long_enough` of crates/export/specs/Export
         let mut file = vec![0; Self::GREATEST_EXPORT];
         let size = self.export_into(&mut file)?;
         file.truncate(size);

@@ -1,4 +1,4 @@
-//! The functions that `crates/capi` exports, `include/totals.h` declares and `src/raw.rs` declares are the same ones,
+//! The functions that `crates/capi_c` exports, `include/totals.h` declares and `src/raw.rs` declares are the same ones,
 //! in the same order: names, results, and every argument's name and kind. A slice of the source is a pointer and a
 //! length.
 
@@ -51,7 +51,8 @@ fn functions(text: &str, start: &str, end: &[char]) -> Vec<Function> {
 
 /// The functions of the source, each slice as a pointer and a length.
 fn exported() -> Vec<Function> {
-    let mut functions = functions(&text("crates/capi/src/lib.rt"), "#[no_mangle]\npub extern \"C\" fn ", &['\n', '{']);
+    let mut functions =
+        functions(&text("crates/capi_c/src/lib.rt"), "#[unsafe(no_mangle)]\npub extern \"C\" fn ", &['\n', '{']);
     for function in &mut functions {
         function.arguments = function.arguments.drain(..).flat_map(flat).collect();
     }

@@ -123,6 +123,7 @@ member_back x (z ∷ xs) ys h = member_back x xs (z ∷ ys) (inr h)
 
 member_front : {A : Type 0} (x : A) (xs ys : List A) → Member x xs → Member x (onto xs ys)
 unfolding onto
+member_front x [] ys m = elim m [ ]
 member_front x (z ∷ xs) ys (inl e) = member_back x xs (z ∷ ys) (inl e)
 member_front x (z ∷ xs) ys (inr h) = member_front x xs (z ∷ ys) h
 

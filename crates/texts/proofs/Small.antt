@@ -118,12 +118,12 @@ small_last l k Stepped.Moved later h s r = r
 small_last l k (Stepped.Answered c) later h s r = s
 small_last l k (Stepped.Refused x) later h s r = h
 
-small_run : (l : List ℕ) (s : Settings) (w k f : ℕ) → k + f < 2 ^ 64 → small_reply (of_ran (run_in l s w k f).1)
+small_run : (s : Settings) (w f : ℕ) (l : List ℕ) (k : ℕ) → k + f < 2 ^ 64 → small_reply (of_ran (run_in l s w k f).1)
 unfolding run_in of_ran small_reply
-small_run l s w k zero h = omega arith
-small_run l s w k (suc f) h =
+small_run s w zero l k h = omega arith
+small_run s w (suc f) l k h =
     if_elim (λ (x : List ℕ × Ran). small_reply (of_ran x.1)) _ _ _ (λ e. omega arith)
-    (λ e. small_last _ k _ _ (omega arith) (small_operation l s _ w _ (mod-lt _ (omega arith))) (small_run _ s w (suc k) f (omega arith)))
+    (λ e. small_last _ k _ _ (omega arith) (small_operation l s _ w _ (mod-lt _ (omega arith))) (small_run s w f _ (suc k) (omega arith)))
 
 least_within : (most : ℕ) → least most longest_run ≤ longest_run
 least_within most = least_bound most longest_run
@@ -134,7 +134,7 @@ small_ran l w most =
     if_elim small _ _ _ (λ e. small_number Refusal.Strange)
     (λ e.
     if_elim small _ _ _ (λ e. small_number Refusal.Stranger)
-    (λ e. if_elim small _ _ _ (λ e. small_number Refusal.Idle) (λ e. small_run l _ w 0 _ (omega (arith, least_within most)))))
+    (λ e. if_elim small _ _ _ (λ e. small_number Refusal.Idle) (λ e. small_run _ w _ l 0 (omega (arith, least_within most)))))
   where
     small : List ℕ × Ran → Type 0
     small x = small_reply (of_ran x.1)

@@ -6,4 +6,4 @@ use Rattle.capi.proofs.Laws.{flat_is}
 use Rattle.capi.proofs.totals_open.Goals as goal
 
 pub returns : goal.returns
-returns c = flat_is opened_number _ _ _ _ c.«open».ensures c.opened_number.ensures
+returns c = flat_is opened_number _ _ _ _ c.open-answer.ensures c.opened_number.ensures

@@ -7,6 +7,7 @@ use borrow.Author.Rules.{rules}
 use Rattle.driver.specs.Feeding.{Feeding, fed}
 use Rattle.driver.proofs.Bytes.{same_feeding, fed_end, fed_full, fed_next, took_line, took_byte}
 use Rattle.driver.proofs.feed.Goals as goal
+use Rattle.driver.proofs.feed.Goals.{else-byte-eq10, then-byte-eq10}
 
 pub loop-i-init : goal.loop-i-init
 loop-i-init c = (search rules, ((refl, (refl, (refl, refl))), refl))
@@ -17,29 +18,26 @@ loop-i-preserved c =
       search rules,
       let next = fed_next _ _ _ _ _ c.loop-i-test.true c.roomy.ensures
           c.if-roomy.true in
-          ⊎_elim
-          (λ w.
-          let kept = w.6.kept in (
+          (elim c.if-byte-eq10.branch [ then-byte-eq10 w ↦
+          let kept = w.answer-used.auto in (
             (
-              ap length w.15 ∙ kept.0 ∙ lengths.0,
+              ap length w.words-is ∙ kept.words ∙ lengths.0,
               (
-                ap length w.16 ∙ kept.1.0 ∙ lengths.1.0,
-                (ap length w.17 ∙ kept.1.1.0 ∙ lengths.1.1.0, ap length w.18 ∙ kept.1.1.1.0 ∙ lengths.1.1.1),
+                ap length w.accounts-is ∙ kept.accounts ∙ lengths.1.0,
+                (ap length w.totals-is ∙ kept.totals ∙ lengths.1.1.0, ap length w.out-is ∙ kept.out ∙ lengths.1.1.1),
               ),
             ),
-            next (same_feeding _ w.15 w.16 w.17 w.18 w.19 w.20
-                ∙ took_line _ _ _ _ _ w.0.taken w.5.ensures w.6.ensures w.14.ensures)
+            next (same_feeding _ w.words-is w.accounts-is w.totals-is w.out-is w.reader-is w.used-is
+                ∙ took_line _ _ _ _ _ w.if-byte-eq10.true w.command.ensures w.answer-used.ensures w.new-reader.ensures)
                 ∙ c.loop-i.invariant.1.1,
-          ))
-          (λ w. (
+          ) | else-byte-eq10 w ↦ (
             (
-              ap length w.2 ∙ lengths.0,
-              (ap length w.3 ∙ lengths.1.0, (ap length w.4 ∙ lengths.1.1.0, ap length w.5 ∙ lengths.1.1.1)),
+              ap length w.words-is ∙ lengths.0,
+              (ap length w.accounts-is ∙ lengths.1.0, (ap length w.totals-is ∙ lengths.1.1.0, ap length w.out-is ∙ lengths.1.1.1)),
             ),
-            next (same_feeding _ w.2 w.3 w.4 w.5 w.6 w.7 ∙ took_byte _ _ _ w.0.left w.1.ensures)
+            next (same_feeding _ w.words-is w.accounts-is w.totals-is w.out-is w.reader-is w.used-is ∙ took_byte _ _ _ w.if-byte-eq10.false w.push-reader.ensures)
                 ∙ c.loop-i.invariant.1.1,
-          ))
-          c.if-byte-eq10.either,
+          ) ]),
     )
 
 pub returns-else-roomy : goal.returns-else-roomy

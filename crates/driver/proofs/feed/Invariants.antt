@@ -16,22 +16,22 @@ invariant-loop-i l =
     × ((length l.totals ≡ length l.initial.totals) × (length l.out ≡ length l.initial.out))))
     × (◌≡◌ {A = Feeding} (fed (record {
       state = record {
-        l.words = l.words;
-        l.accounts = l.accounts;
-        l.totals = l.totals;
-        output = record { bytes = l.out; l.used = l.used };
+        words = l.words;
+        accounts = l.accounts;
+        totals = l.totals;
+        output = record { bytes = l.out; used = l.used };
       };
-      l.reader = l.reader;
+      reader = l.reader;
       taken = l.i;
     }) (drop l.i l.input))
     (fed (record {
       state = record {
-        l.words = l.initial.words;
-        l.accounts = l.initial.accounts;
-        l.totals = l.initial.totals;
-        output = record { bytes = l.initial.out; l.used = 0 };
+        words = l.initial.words;
+        accounts = l.initial.accounts;
+        totals = l.initial.totals;
+        output = record { bytes = l.initial.out; used = 0 };
       };
-      l.reader = l.initial.reader;
+      reader = l.initial.reader;
       taken = 0;
     }) l.input)))
 

@@ -6,6 +6,8 @@ use Rattle.interface.specs.Numbers.{kind_insert, kind_post}
 use Rattle.calls.specs.Calls.{call_words}
 use Rattle.responses.specs.Responses.{responded, of_opened, of_called, of_ran}
 use Rattle.responses.proofs.Responding.{replied}
+use mir.Syntax.{w64}
+use mir.Val.{SFits}
 use borrow.Author.Rules.{rules}
 use Rattle.responses.proofs.respond.Goals as goal
 
@@ -17,9 +19,9 @@ returns-in-Open c = rw c.in-Open.is
 pub returns-in-Insert : goal.returns-in-Insert
 unfolding responded
 returns-in-Insert c =
-    let given = c.c2.given in
-    let kept = to_z-of_z (record { sfits = c.known-told2.given.1.1.0.1 }) in
-    rw given.1 (replied of_called _ _ _ _ (c.call.ensures ∙ ap (call_words _ _ kind_insert _) kept)
+    let fits : SFits w64 c.in-Insert.total = search rules in
+    let kept = to_z-of_z fits in
+    rw c.in-Insert.is (replied of_called _ _ _ _ (c.call.ensures ∙ ap (call_words _ _ kind_insert _) kept)
     c.of_called.ensures)
 
 pub returns-in-Delete : goal.returns-in-Delete
@@ -37,9 +39,9 @@ returns-in-Lookup c =
 pub returns-in-Post : goal.returns-in-Post
 unfolding responded
 returns-in-Post c =
-    let given = c.c5.given in
-    let kept = to_z-of_z (record { sfits = c.known-told5.given.1.1.0.1 }) in
-    rw given.1 (replied of_called _ _ _ _ (c.call-in-Post.ensures ∙ ap (call_words _ _ kind_post _) kept)
+    let fits : SFits w64 c.in-Post.amount = search rules in
+    let kept = to_z-of_z fits in
+    rw c.in-Post.is (replied of_called _ _ _ _ (c.call-in-Post.ensures ∙ ap (call_words _ _ kind_post _) kept)
     c.of_called-in-Post.ensures)
 
 pub returns-in-Steps : goal.returns-in-Steps

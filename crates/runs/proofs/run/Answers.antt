@@ -10,6 +10,7 @@ use Rattle.memory.proofs.Lesser.{least_small, least_large}
 use Rattle.runs.specs.Runs.{run_words}
 use borrow.Author.Rules.{rules}
 use Rattle.runs.proofs.run.Goals as goal
+use Rattle.runs.proofs.run.Goals.{else-most-lt-LONGEST_RUN, then-most-lt-LONGEST_RUN}
 
 pub returns-then-strange_words : goal.returns-then-strange_words
 unfolding run_words
@@ -48,12 +49,12 @@ pub run_in-requires : goal.run_in-requires
 run_in-requires c =
     (
       fits_of _ (sym c.strange_words.ensures ∙ c.if-strange_words.false),
-      (rw c.settings_of-g.ensures at c.if-g-worker.false, ⊎_elim (λ w. omega arith) (λ w. omega arith) c.if-most-lt-LONGEST_RUN.either),
+      (rw c.settings_of-g.ensures at c.if-g-worker.false, (elim c.if-most-lt-LONGEST_RUN.branch [ then-most-lt-LONGEST_RUN w ↦ omega arith | else-most-lt-LONGEST_RUN w ↦ omega arith ])),
     )
 
 pub returns : goal.returns
 returns c =
     run_goes _ _ _ _ c.strange_words.ensures c.if-strange_words.false c.settings_of-g.ensures c.if-g-worker.false _ _
     c.worker_at.ensures c.get.ensures _ _ _ c.if-get-eq-KIND_NONE.false
-    (⊎_elim (λ w. w.1 ∙ least_small _ _ w.0.taken) (λ w. w.1 ∙ least_large _ _ w.0.left) c.if-most-lt-LONGEST_RUN.either)
+    (elim c.if-most-lt-LONGEST_RUN.branch [ then-most-lt-LONGEST_RUN w ↦ w.run_in-is ∙ least_small _ _ w.if-most-lt-LONGEST_RUN.true | else-most-lt-LONGEST_RUN w ↦ w.run_in-is ∙ least_large _ _ w.if-most-lt-LONGEST_RUN.false ])
     c.run_in.ensures

@@ -14,6 +14,7 @@ use Rattle.runs.proofs.RunLaws.{run_start, run_end, run_idle, run_moved, run_ans
 use Rattle.runs.specs.Runs.{run_in}
 use borrow.Author.Rules.{rules}
 use Rattle.runs.proofs.run_in.Goals as goal
+use Rattle.runs.proofs.run_in.Goals.{then-kind-eq-KIND_LOOKUP+in-Moved, else-kind-eq-KIND_LOOKUP+then-k-g, else-kind-eq-KIND_LOOKUP+else-k-g+in-Moved-update_step}
 use Rattle.runs.proofs.run_in.Goals.{After-worker_at-p, At-loop-done}
 
 one_more : {k n : ℕ} → k < n → k + 1 ≤ n
@@ -124,37 +125,38 @@ pub loop-done-preserved : goal.loop-done-preserved
 loop-done-preserved c =
     let place = rw c.settings_of-g.ensures at c.worker_at-p.ensures in
     let steps = ap (λ (x : ℕ). x % steps_range) c.get-k.ensures in
-    ⊎_elim
-    (λ o. rw o.7 (
-      one_more c.loop-done-test.true,
-      (
-        search rules,
-        run_moved _ _ _ _ _ _ _ place c.get-kind.ensures c.loop-done-test.true _ _
-            c.if-kind-eq-KIND_NONE.false (operation_lookup _ _ _ _ _ _ _ _ c.get-kind.ensures steps c.put.ensures o.0.taken
-            (rw c.settings_of-g.ensures at o.2.ensures)) o.6.given.1 ∙ c.loop-done.invariant.1.1,
-      ),
-    ))
-    (λ u. ⊎_elim
-    (λ o. rw o.7 (
-      one_more c.loop-done-test.true,
-      (
-        search rules,
-        run_moved _ _ _ _ _ _ _ place c.get-kind.ensures c.loop-done-test.true _ _
-            c.if-kind-eq-KIND_NONE.false (operation_update _ _ _ _ _ _ _ _ c.get-kind.ensures steps c.put.ensures o.0.left
-            (rw (← place) at o.4.ensures)) refl ∙ c.loop-done.invariant.1.1,
-      ),
-    ))
-    (λ o. rw o.9 (
-      one_more c.loop-done-test.true,
-      (
-        search rules,
-        run_moved _ _ _ _ _ _ _ place c.get-kind.ensures c.loop-done-test.true _ _
-            c.if-kind-eq-KIND_NONE.false (operation_update _ _ _ _ _ _ _ _ c.get-kind.ensures steps c.put.ensures o.0.left
-            (rw (← place) at o.4.ensures)) o.8.given.1 ∙ c.loop-done.invariant.1.1,
-      ),
-    ))
-    u)
-    c.if-kind-eq-KIND_LOOKUP.either
+    elim c.if-kind-eq-KIND_LOOKUP.branch [
+      then-kind-eq-KIND_LOOKUP+in-Moved w ↦
+        rw w.words-is (
+          one_more c.loop-done-test.true,
+          (
+            search rules,
+            run_moved _ _ _ _ _ _ _ place c.get-kind.ensures c.loop-done-test.true _ _
+                c.if-kind-eq-KIND_NONE.false (operation_lookup _ _ _ _ _ _ _ _ c.get-kind.ensures steps c.put.ensures w.if-kind-eq-KIND_LOOKUP.true
+                (rw c.settings_of-g.ensures at w.lookup_step.ensures)) w.in-Moved.is ∙ c.loop-done.invariant.1.1,
+          ),
+        )
+    | else-kind-eq-KIND_LOOKUP+then-k-g w ↦
+        rw w.words-is (
+          one_more c.loop-done-test.true,
+          (
+            search rules,
+            run_moved _ _ _ _ _ _ _ place c.get-kind.ensures c.loop-done-test.true _ _
+                c.if-kind-eq-KIND_NONE.false (operation_update _ _ _ _ _ _ _ _ c.get-kind.ensures steps c.put.ensures w.if-kind-eq-KIND_LOOKUP.false
+                (rw (← place) at w.early_step.ensures)) refl ∙ c.loop-done.invariant.1.1,
+          ),
+        )
+    | else-kind-eq-KIND_LOOKUP+else-k-g+in-Moved-update_step w ↦
+        rw w.words-is (
+          one_more c.loop-done-test.true,
+          (
+            search rules,
+            run_moved _ _ _ _ _ _ _ place c.get-kind.ensures c.loop-done-test.true _ _
+                c.if-kind-eq-KIND_NONE.false (operation_update _ _ _ _ _ _ _ _ c.get-kind.ensures steps c.put.ensures w.if-kind-eq-KIND_LOOKUP.false
+                (rw (← place) at w.update_step.ensures)) w.in-Moved-update_step.is ∙ c.loop-done.invariant.1.1,
+          ),
+        )
+    ]
 
 pub returns : goal.returns
 returns c = run_end _ _ _ _ _ c.loop-done-test.false ∙ c.loop-done.invariant.1.1

@@ -98,6 +98,7 @@ state_bounded :
 state_bounded s c j k (in_b p r read_t) h o = o.seen.bounded
 state_bounded s c j k (in_b p r swap) h o = o.seen.bounded
 state_bounded s c j k (in_b p r (slot_b i)) h o = o.seen.bounded
+state_bounded s c j k _ h o = elim h [ ]
 
 -- ---- the steps
 

@@ -166,6 +166,7 @@ module _ (s : Settings) (l l' : List ℕ) where
 
 pub state_holds : (pc : PC) → HasState pc → HoldsBucket pc
 state_holds (in_b p r x) h = tt
+state_holds _ h = elim h [ ]
 
 pub live_within : {s : Settings} {l : List ℕ} {m : Machine} (r : ℕ) → Live s l m r → r < pool_size s
 live_within r (current a d) = d.in_pool

@@ -102,6 +102,7 @@ nowhere = ((λ x. x), (λ x. x), (λ x. x))
 pub work_directory : (pc : PC) → HasWork pc → HasDirectory pc
 work_directory (in_d p r swap_d) h = tt
 work_directory (in_d p r (state i)) h = tt
+work_directory _ h = elim h [ ]
 
 -- what is made inside a bucket is made
 pub made_in : (x : Name) (y : Leaf) → MadeIn x y → IsMade y

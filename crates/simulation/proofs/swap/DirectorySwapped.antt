@@ -55,6 +55,7 @@ directory_bounded :
 directory_bounded s c j k (in_d p r swap_d) h f = f.read.0.bounded
 directory_bounded s c j k (in_d p r (slot_d i)) h f = f.read.0.bounded
 directory_bounded s c j k (in_d p r (state i)) h f = f.read.0.bounded
+directory_bounded s c j k _ h f = elim h [ ]
 
 -- worker w is about to swap the directory that it has read, which is the current one
 module _ {s : Settings} {l : List ℕ} {m : Machine} {w : ℕ} (ready : Ready s l m w) (p r : Two)
