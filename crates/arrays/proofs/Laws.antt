@@ -10,7 +10,7 @@ use lib.Dec.{ltb, leb, eqb}
 use lib.ListN.{length, get_or, set, take, drop, length-append, length-take, length-drop, take-append-drop, get_or-append}
 use lib.Seq.{append_snoc, drop-cons, get_or-append-add, get_or-drop, get_or-take, length-take-le, set_at, take-suc}
 use borrow.Author.Tests.{ltb-true, leb-true, lt-ltb, le-ltb, le-leb, lt-leb, eq-eqb, ne_eqb}
-use Rattle.machine.specs.Choice.{if◌then◌else◌, ◌and◌}
+use Rattle.machine.specs.Choice.{when◌then◌else◌, ◌and◌}
 use Rattle.machine.proofs.laws.Base.{if_elim, and_parts}
 use Rattle.arrays.specs.Arrays.{inserted_in, removed_from, scan}
 use Rattle.arrays.specs.declared.Position.{Position}
@@ -49,18 +49,18 @@ raised_turn l c k p h f =
     rw e at (raised_step l c (k - 1) (omega arith) f)
 
 pub raised_end : (l : List ℕ) (c i v : ℕ) → i ≤ c → c < length l → set (raised l c i) i v ≡ inserted_in l c i v
-unfolding inserted_in if◌then◌else◌ ◌and◌ raised
+unfolding inserted_in when◌then◌else◌ ◌and◌ raised
 raised_end l c i v h f =
     rw (lt-ltb c (length l) f, le-leb i c h, append_assoc)
     (set_end l _ i v (omega arith) ∙ sym (append_assoc (take i l) (v ∷ take (c - i) (drop i l)) (drop (suc c) l)))
 
 -- no room, or a position past the first c
 pub inserted_none : (l : List ℕ) (c i v : ℕ) → length l ≤ c → inserted_in l c i v ≡ l
-unfolding inserted_in if◌then◌else◌ ◌and◌
+unfolding inserted_in when◌then◌else◌ ◌and◌
 inserted_none l c i v h = rw (le-ltb c (length l) h)
 
 pub inserted_past : (l : List ℕ) (c i v : ℕ) → c < length l → c < i → inserted_in l c i v ≡ l
-unfolding inserted_in if◌then◌else◌ ◌and◌
+unfolding inserted_in when◌then◌else◌ ◌and◌
 inserted_past l c i v f h = rw (lt-ltb c (length l) f, lt-leb i c h)
 
 pub length_inserted : (l : List ℕ) (c i v : ℕ) → length (inserted_in l c i v) ≡ length l
@@ -103,18 +103,18 @@ lowered_turn l i k h f =
     ∙ rw (more, take-suc tail (k - i) 0 (omega arith), last, add-one, ← append_assoc (take i l), append_snoc))
 
 pub lowered_end : (l : List ℕ) (c i k : ℕ) → i < c → c ≤ length l → k < c → c ≤ k + 1 → lowered l i k ≡ removed_from l c i
-unfolding removed_from if◌then◌else◌ ◌and◌ lowered
+unfolding removed_from when◌then◌else◌ ◌and◌ lowered
 lowered_end l c i k h f m n =
     let e : k ≡ c - 1 = omega arith in
     let d : k - i ≡ c - suc i = omega arith in
     rw (le-leb c (length l) f, lt-ltb i c h, d, e)
 
 pub removed_none : (l : List ℕ) (c i : ℕ) → length l < c → removed_from l c i ≡ l
-unfolding removed_from if◌then◌else◌ ◌and◌
+unfolding removed_from when◌then◌else◌ ◌and◌
 removed_none l c i h = rw (lt-leb c (length l) h)
 
 pub removed_past : (l : List ℕ) (c i : ℕ) → c ≤ length l → c ≤ i → removed_from l c i ≡ l
-unfolding removed_from if◌then◌else◌ ◌and◌
+unfolding removed_from when◌then◌else◌ ◌and◌
 removed_past l c i f h = rw (le-leb c (length l) f, le-ltb i c h)
 
 pub length_removed : (l : List ℕ) (c i : ℕ) → length (removed_from l c i) ≡ length l
@@ -138,15 +138,15 @@ drop_past (x ∷ l) (suc i) h = drop_past l i (omega arith)
 
 module _ (l : List ℕ) (a i : ℕ) where
   pub scan_hit : i < length l → a ≡ get_or l i 0 → scan (drop i l) a i ≡ At i
-  unfolding scan if◌then◌else◌
+  unfolding scan when◌then◌else◌
   scan_hit h e = rw (drop-cons l i 0 h, le-leb a (get_or l i 0) (omega arith), eq-eqb a (get_or l i 0) e)
 
   pub scan_before : i < length l → a < get_or l i 0 → scan (drop i l) a i ≡ Before i
-  unfolding scan if◌then◌else◌
+  unfolding scan when◌then◌else◌
   scan_before h e = rw (drop-cons l i 0 h, le-leb a (get_or l i 0) (omega arith), ne_eqb a (get_or l i 0) (omega arith))
 
   pub scan_turn : i < length l → get_or l i 0 < a → scan (drop i l) a i ≡ scan (drop (i + 1) l) a (i + 1)
-  unfolding scan if◌then◌else◌
+  unfolding scan when◌then◌else◌
   scan_turn h e = rw (drop-cons l i 0 h, lt-leb a (get_or l i 0) e, add-one)
 
   pub scan_end : length l ≤ i → scan (drop i l) a i ≡ Before i

@@ -8,7 +8,7 @@ use lib.Dec.{ltb}
 use lib.ListN.{length}
 use lib.Seq.{set_out}
 use borrow.Author.Tests.{ltb-true, ltb-false, lt-ltb, le-ltb}
-use Rattle.machine.specs.Choice.{if◌then◌else◌}
+use Rattle.machine.specs.Choice.{when◌then◌else◌}
 use Rattle.machine.proofs.laws.Base.{if_elim, if_false}
 use Rattle.bucket.specs.State.{array_size, size_of, put_of, remove_of}
 use Rattle.arrays.specs.Arrays.{inserted_in, removed_from}
@@ -48,11 +48,11 @@ module _ (x : BucketState) (n i : ℕ) (e : n ≡ size_of x) where
         applied = x.applied;
       }
       ≡ put_of x (Before i) a v
-  unfolding put_of if◌then◌else◌
+  unfolding put_of when◌then◌else◌
   put_new a v ks vs h p q = let room : ltb (size_of x) array_size ≡ true = rw e at (lt-ltb n array_size h) in rw (room, p, q, e)
 
   pub put_none : (a v : ℕ) → array_size ≤ n → x ≡ put_of x (Before i) a v
-  unfolding put_of if◌then◌else◌
+  unfolding put_of when◌then◌else◌
   put_none a v h = let room : ltb (size_of x) array_size ≡ false = rw e at (le-ltb n array_size h) in rw room
 
   pub removed_at :

@@ -2,7 +2,7 @@
 -- Rests on the types that src declares and on arrays.
 use Rattle.std.specs.Prelude.{ℕ, ◌+◌, ◌-◌, ltb, get_or, set, take}
 use Rattle.interface.specs.Limits.{greatest_capacity}
-use Rattle.machine.specs.Choice.{if◌then◌else◌}
+use Rattle.machine.specs.Choice.{when◌then◌else◌}
 use Rattle.bucket.specs.declared.BucketState.{BucketState}
 use Rattle.arrays.specs.declared.Position.{Position}
 use Rattle.arrays.specs.declared.Position.TheVariants.{At, Before}
@@ -18,7 +18,7 @@ array_size = greatest_capacity
 
 -- how many accounts there are: a count above the arrays' size is read as their size
 unfoldable pub size_of : BucketState → ℕ
-size_of x = if ltb x.count array_size then x.count else array_size
+size_of x = when ltb x.count array_size then x.count else array_size
 
 unfoldable pub search_of : BucketState → ℕ → Position
 search_of x a = scan (take (size_of x) x.accounts) a 0
@@ -41,7 +41,7 @@ put_of x (At i) a v =
       applied = x.applied;
     }
 put_of x (Before i) a v =
-    if ltb (size_of x) array_size
+    when ltb (size_of x) array_size
     then record {
       accounts = inserted_in x.accounts (size_of x) i a;
       totals = inserted_in x.totals (size_of x) i v;

@@ -16,7 +16,7 @@ use Rattle.interface.specs.declared.Refusal.{Refusal}
 use Rattle.interface.specs.declared.Called.{Called}
 use Rattle.fields.specs.Fields.{worker_kind, worker_ticket}
 use Rattle.fields.specs.Regions.{worker_at}
-use Rattle.machine.specs.Choice.{if◌then◌else◌}
+use Rattle.machine.specs.Choice.{when◌then◌else◌}
 use Rattle.layout.specs.Shape.{word, strange, shape_of}
 use Rattle.calls.specs.Calls.{begun_at, call_in, call_words}
 use Rattle.layout.proofs.Checks.{both_passed}
@@ -25,7 +25,7 @@ use Rattle.layout.proofs.Checks.{both_passed}
 
 module _ (l : List ℕ) (p kind a : ℕ) (v : ℤ) (x : ℕ) (read : x ≡ word l (p + worker_kind)) where
   pub call_busy : x ≢ kind_none → (l, Called.Refused Refusal.Busy) ≡ call_in l p kind a v
-  unfolding call_in if◌then◌else◌
+  unfolding call_in when◌then◌else◌
   call_busy h = rw (ne_eqb (word l (p + worker_kind)) kind_none (λ z. h (read ∙ z)))
 
   module _ (idle : x ≡ kind_none) where
@@ -33,19 +33,19 @@ module _ (l : List ℕ) (p kind a : ℕ) (v : ℤ) (x : ℕ) (read : x ≡ word 
     free = eq-eqb (word l (p + worker_kind)) kind_none (sym read ∙ idle)
 
     pub call_kind : (kind < kind_insert) ⊎ (greatest_kind < kind) → (l, Called.Refused Refusal.Kind) ≡ call_in l p kind a v
-    unfolding call_in if◌then◌else◌
+    unfolding call_in when◌then◌else◌
     call_kind h = ⊎_elim (λ n. rw (free, lt-ltb kind kind_insert n)) (λ n. rw (free, lt-ltb greatest_kind kind n, or-true)) h
 
     module _ (low : kind_insert ≤ kind) (high : kind ≤ greatest_kind) (t : ℕ) (ticket : t ≡ word l (p + worker_ticket)) where
       pub call_lookup :
           (m : List ℕ) → kind ≡ kind_lookup → m ≡ begun_at l p (record { kind = kind; account = a; total = 0; ticket = t })
           → (m, Called.Accepted) ≡ call_in l p kind a v
-      unfolding call_in if◌then◌else◌
+      unfolding call_in when◌then◌else◌
       call_lookup m e h = rw (free, h, ticket, e)
 
       module _ (other : kind ≢ kind_lookup) where
         pub call_spent : greatest_ticket ≤ t → (l, Called.Refused Refusal.Spent) ≡ call_in l p kind a v
-        unfolding call_in if◌then◌else◌
+        unfolding call_in when◌then◌else◌
         call_spent n =
             rw (
               free,
@@ -57,9 +57,9 @@ module _ (l : List ℕ) (p kind a : ℕ) (v : ℤ) (x : ℕ) (read : x ≡ word 
             )
 
         pub call_update :
-            (m : List ℕ) (y : ℕ) → t < greatest_ticket → y ≡ if eqb kind kind_delete then 0 else of_z w64 v
+            (m : List ℕ) (y : ℕ) → t < greatest_ticket → y ≡ when eqb kind kind_delete then 0 else of_z w64 v
             → m ≡ begun_at l p (record { kind = kind; account = a; total = y; ticket = t + 1 }) → (m, Called.Accepted) ≡ call_in l p kind a v
-        unfolding call_in if◌then◌else◌
+        unfolding call_in when◌then◌else◌
         call_update m y n e h =
             rw (
               free,

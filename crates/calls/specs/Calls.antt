@@ -7,7 +7,7 @@ use Rattle.interface.specs.Limits.{greatest_ticket}
 use Rattle.interface.specs.Numbers.{kind_none, kind_insert, kind_delete, kind_lookup, greatest_kind}
 use Rattle.interface.specs.declared.Refusal.{Refusal}
 use Rattle.interface.specs.declared.Called.{Called}
-use Rattle.machine.specs.Choice.{if◌then◌else◌}
+use Rattle.machine.specs.Choice.{when◌then◌else◌}
 use Rattle.fields.specs.Fields.{worker_kind, worker_account, worker_total, worker_ticket, worker_steps}
 use Rattle.fields.specs.Regions.{worker_at}
 use Rattle.rules.specs.declared.Descriptor.{Descriptor}
@@ -27,7 +27,7 @@ begun_at l p u =
 -- amount
 abbrev pub update_called : ℕ → ℕ → ℤ → ℕ → Descriptor
 update_called kind a v last =
-    record { kind = kind; account = a; total = if eqb kind kind_delete then 0 else of_z w64 v; ticket = last + 1 }
+    record { kind = kind; account = a; total = when eqb kind kind_delete then 0 else of_z w64 v; ticket = last + 1 }
 
 -- a lookup takes no ticket
 abbrev pub lookup_called : ℕ → ℕ → Descriptor
@@ -36,17 +36,17 @@ lookup_called a last = record { kind = kind_lookup; account = a; total = 0; tick
 unfoldable pub call_in : List ℕ → ℕ → ℕ → ℕ → ℤ → List ℕ × Called
 call_in l p kind a v =
     let last : ℕ = word l (p + worker_ticket) in
-    if not (eqb (word l (p + worker_kind)) kind_none) then (l, Called.Refused Refusal.Busy)
-    else if ltb kind kind_insert || ltb greatest_kind kind then (l, Called.Refused Refusal.Kind)
-    else if eqb kind kind_lookup then (begun_at l p (lookup_called a last), Called.Accepted)
-    else if leb greatest_ticket last then (l, Called.Refused Refusal.Spent)
+    when not (eqb (word l (p + worker_kind)) kind_none) then (l, Called.Refused Refusal.Busy)
+    else when ltb kind kind_insert || ltb greatest_kind kind then (l, Called.Refused Refusal.Kind)
+    else when eqb kind kind_lookup then (begun_at l p (lookup_called a last), Called.Accepted)
+    else when leb greatest_ticket last then (l, Called.Refused Refusal.Spent)
     else (begun_at l p (update_called kind a v last), Called.Accepted)
 
 -- "A call checks 8, 3, 4, 6, 7."
 unfoldable pub call_words : List ℕ → ℕ → ℕ → ℕ → ℤ → List ℕ × Called
 call_words l w kind a v =
-    if strange l then (l, Called.Refused Refusal.Strange)
-    else if leb (shape_of l).workers w then (l, Called.Refused Refusal.Stranger)
+    when strange l then (l, Called.Refused Refusal.Strange)
+    else when leb (shape_of l).workers w then (l, Called.Refused Refusal.Stranger)
     else call_in l (worker_at (shape_of l).workers w) kind a v
 
 -- ---- the end of an operation

@@ -7,7 +7,7 @@ use mathlib.Core.Option.{Option, none, some}
 use native.Mathlib.Omega.{arith}
 use lib.Dec.{eqb}
 use Rattle.interface.specs.Numbers.{kind_delete, kind_lookup, kind_post}
-use Rattle.machine.specs.Choice.{if◌then◌else◌}
+use Rattle.machine.specs.Choice.{when◌then◌else◌}
 use Rattle.machine.proofs.laws.Base.{if_elim}
 use Rattle.commands.specs.declared.Command.{Command}
 use Rattle.commands.specs.declared.Command.TheVariants.{Insert, Delete, Lookup, Post, Unread}
@@ -54,7 +54,7 @@ no_third f (some c) (some d) = refl
 -- an operation with a third field, which is not read
 pub no_total : (kind : ℕ) (x y z : List ℕ) → eqb kind kind_delete ≡ false → eqb kind kind_lookup ≡ false → total_of z ≡ none
     → Unread ≡ operation_command kind x y z
-unfolding operation_command if◌then◌else◌
+unfolding operation_command when◌then◌else◌
 no_total kind x y z d l e =
     rw (d, l, e)
     (if_elim (λ c. Unread ≡ c) (eqb kind kind_post) _ _ (λ _. no_third Post (small_of x) (account_of y))

@@ -5,7 +5,7 @@
 use Rattle.std.specs.Prelude.{ℕ, List, eqb, ℤ}
 use Rattle.std.proofs.Math.Option.{Option, none, some}
 use Rattle.interface.specs.Numbers.{kind_delete, kind_lookup, kind_post}
-use Rattle.machine.specs.Choice.{if◌then◌else◌}
+use Rattle.machine.specs.Choice.{when◌then◌else◌}
 use Rattle.machine.specs.Script.{Line, O, I, D, L, P, S, T}
 use Rattle.commands.specs.declared.Command.{Command}
 use Rattle.commands.specs.declared.Command.TheVariants.{Open, Insert, Delete, Lookup, Post, Steps, List as Listing, Unread}
@@ -83,7 +83,7 @@ with3 f (some a) (some b) (some c) = f a b c
 
 -- `T`
 unfoldable pub one_field : ℕ → Command
-one_field letter = if eqb letter list_letter then Listing else Unread
+one_field letter = when eqb letter list_letter then Listing else Unread
 
 -- `O n b M`, `I w account total`, `D w account`, `L w account`, `P w account amount`, `S w k`
 abbrev pub open_command : List ℕ → List ℕ → List ℕ → Command
@@ -107,23 +107,23 @@ steps_command x y = with2 Steps (small_of x) (steps_of y)
 -- an operation by its kind; z counts for a post and an insert alone
 unfoldable pub operation_command : ℕ → List ℕ → List ℕ → List ℕ → Command
 operation_command kind x y z =
-    if eqb kind kind_delete then delete_command x y
-    else if eqb kind kind_lookup then lookup_command x y
-    else if eqb kind kind_post then post_command x y z
+    when eqb kind kind_delete then delete_command x y
+    else when eqb kind kind_lookup then lookup_command x y
+    else when eqb kind kind_post then post_command x y z
     else insert_command x y z
 
 unfoldable pub three_fields : ℕ → List ℕ → List ℕ → Command
 three_fields letter x y =
-    if eqb letter delete_letter then delete_command x y
-    else if eqb letter lookup_letter then lookup_command x y
-    else if eqb letter steps_letter then steps_command x y
+    when eqb letter delete_letter then delete_command x y
+    else when eqb letter lookup_letter then lookup_command x y
+    else when eqb letter steps_letter then steps_command x y
     else Unread
 
 unfoldable pub four_fields : ℕ → List ℕ → List ℕ → List ℕ → Command
 four_fields letter x y z =
-    if eqb letter open_letter then open_command x y z
-    else if eqb letter insert_letter then insert_command x y z
-    else if eqb letter post_letter then post_command x y z
+    when eqb letter open_letter then open_command x y z
+    else when eqb letter insert_letter then insert_command x y z
+    else when eqb letter post_letter then post_command x y z
     else Unread
 
 -- the line of the machine's script that a command is; none for one that is unread

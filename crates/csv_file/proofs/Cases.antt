@@ -6,7 +6,7 @@ use mathlib.Core.List.{List, [], ◌∷◌, map}
 use mathlib.Core.Option.{none, some}
 use lib.IntN.{ℤ, pos, negsuc}
 use Rattle.interface.specs.Numbers.{bytes}
-use Rattle.machine.specs.Choice.{if◌then◌else◌, ◌and◌}
+use Rattle.machine.specs.Choice.{when◌then◌else◌, ◌and◌}
 use Rattle.decimals.specs.Decimals.{digit, digits, digit_count_up_to, digit_count, decimal}
 use Rattle.numerals.specs.Numerals.{is_digit, digits_after, zero_then, numeral, plus, minus}
 use Rattle.numerals.specs.Cut.{before, parts_at}
@@ -52,7 +52,7 @@ whole_file = refl
 
 reading : Unit {0}
 unfolding read_file behind_header read_rows read_lines behind read_line read_ended read_fields row_of read_total read_units cents_of in_cents two_digits
-    numeral zero_then digits_after is_digit plus minus parts_at before bytes if◌then◌else◌ ◌and◌
+    numeral zero_then digits_after is_digit plus minus parts_at before bytes when◌then◌else◌ ◌and◌
 reading = tt
 
 pub two_rows : read_file (bytes "account,total\r\n5,-0.07\r\n0,12.05\r\n") ≡ some ((5, negsuc 6) ∷ (0, pos 1205) ∷ [])

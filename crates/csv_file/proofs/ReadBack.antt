@@ -10,7 +10,7 @@ use borrow.Author.Tests.{ne_eqb}
 use Rattle.interface.specs.Numbers.{bytes}
 use Rattle.lists.specs.Every.{Every}
 use Rattle.lists.proofs.EveryLaws.{every_append}
-use Rattle.machine.specs.Choice.{if◌then◌else◌}
+use Rattle.machine.specs.Choice.{when◌then◌else◌}
 use Rattle.decimals.specs.Ascii.{line_feed, carriage_return, comma, minus_sign, point, zero_digit}
 use Rattle.decimals.specs.Decimals.{digits, decimal}
 use Rattle.numerals.specs.Numerals.{plus, minus}
@@ -46,12 +46,12 @@ units_read n = rw (units_cut n, numeral_decimal (n / 100), two-digits n) (ap som
 
 -- what does not start with a minus
 unsigned_read : (xs : List ℕ) (n : ℕ) → From point xs → read_units xs ≡ some n → read_total xs ≡ some (pos n)
-unfolding read_total read_units parts_at cents_of plus if◌then◌else◌ Every
+unfolding read_total read_units parts_at cents_of plus when◌then◌else◌ Every
 unsigned_read [] n e f = absurd (some_none (sym f))
 unsigned_read (b ∷ xs) n e f = rw (ne_eqb b minus_sign (λ q. omega (arith, e.0)), f)
 
 total_read : (t : ℤ) → read_total (total_field t) ≡ some t
-unfolding total_field read_total minus if◌then◌else◌
+unfolding total_field read_total minus when◌then◌else◌
 total_read (pos n) = unsigned_read (in_units n) n (units_from point n (omega arith)) (units_read n)
 total_read (negsuc n) = rw (units_read (suc n))
 
@@ -109,5 +109,5 @@ unfolding csv_rows
 row_read a t = rw append-nil at (rows_read ((a, t) ∷ []))
 
 pub file_read : (rs : List (ℕ × ℤ)) → read_file (csv_file rs) ≡ some rs
-unfolding read_file csv_file behind_header header csv_record bytes parts_at before if◌then◌else◌ read_rows
+unfolding read_file csv_file behind_header header csv_record bytes parts_at before when◌then◌else◌ read_rows
 file_read rs = rows_read rs

@@ -7,7 +7,7 @@ use native.Mathlib.Omega.{arith}
 use lib.IntN.{ℤ, pos, negsuc}
 use lib.ListN.{length, set, length-append}
 use lib.Seq.{append_snoc}
-use Rattle.machine.specs.Choice.{if◌then◌else◌}
+use Rattle.machine.specs.Choice.{when◌then◌else◌}
 use Rattle.lists.specs.Parts.{overlay}
 use Rattle.decimals.specs.declared.Decimal.{Decimal}
 use Rattle.decimals.specs.Ascii.{line_feed, carriage_return, comma, point}
@@ -22,7 +22,7 @@ use Rattle.csv_file.proofs.Sizes.{row_length}
 -- ---- the source's cents
 
 units_field : (t : ℤ) → units_text (sign_of t) ≡ total_field t
-unfolding units_text units_of sign_of decimal_text total_field in_units if◌then◌else◌
+unfolding units_text units_of sign_of decimal_text total_field in_units when◌then◌else◌
 units_field (pos n) = refl
 units_field (negsuc n) = refl
 

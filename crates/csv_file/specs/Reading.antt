@@ -2,7 +2,7 @@
 -- total." Rests on the numerals and on texts cut at a byte.
 use Rattle.std.specs.Prelude.{ℕ, ◌+◌, ◌*◌, List, [], ◌∷◌, eqb, ℤ}
 use Rattle.std.proofs.Math.Option.{Option, none, some}
-use Rattle.machine.specs.Choice.{if◌then◌else◌}
+use Rattle.machine.specs.Choice.{when◌then◌else◌}
 use Rattle.decimals.specs.Ascii.{line_feed, carriage_return, comma, minus_sign, point}
 use Rattle.numerals.specs.Numerals.{digits_after, numeral, plus, minus}
 use Rattle.numerals.specs.Cut.{parts_at}
@@ -33,7 +33,7 @@ read_units field = cents_of (parts_at point ([] ∷ []) field)
 
 unfoldable pub read_total : List ℕ → Option ℤ
 read_total [] = none
-read_total (b ∷ bs) = if eqb b minus_sign then minus (read_units bs) else plus (read_units (b ∷ bs))
+read_total (b ∷ bs) = when eqb b minus_sign then minus (read_units bs) else plus (read_units (b ∷ bs))
 
 -- ---- lines
 

@@ -11,7 +11,7 @@ use mir.Syntax.{w64}
 use mir.Val.{SFits, to_z, of_z}
 use mir.Facts.{to_z-of_z, to_z_pos}
 use borrow.Author.Tests.{ltb-true}
-use Rattle.machine.specs.Choice.{if◌then◌else◌}
+use Rattle.machine.specs.Choice.{when◌then◌else◌}
 use Rattle.machine.proofs.laws.Base.{no_both}
 use Rattle.decimals.specs.declared.Decimal.{Decimal}
 use Rattle.decimals.specs.Ascii.{minus_sign}
@@ -19,7 +19,7 @@ use Rattle.decimals.specs.Decimals.{decimal, signed_decimal}
 use Rattle.decimals.specs.Signs.{sign_of, decimal_text}
 
 pub signed_text : (x : ℤ) → decimal_text (sign_of x) ≡ signed_decimal x
-unfolding decimal_text sign_of signed_decimal if◌then◌else◌
+unfolding decimal_text sign_of signed_decimal when◌then◌else◌
 signed_text (pos n) = refl
 signed_text (negsuc n) = refl
 
@@ -60,9 +60,9 @@ above x f e = above_of x f (rw (to_z-of_z f) at e)
 -- ---- the text of a number
 
 pub text_minus : (d : Decimal) → d.minus ≡ true → decimal_text d ≡ minus_sign ∷ decimal d.size
-unfolding decimal_text if◌then◌else◌
+unfolding decimal_text when◌then◌else◌
 text_minus d e = rw e
 
 pub text_plain : (d : Decimal) → d.minus ≡ false → decimal_text d ≡ decimal d.size
-unfolding decimal_text if◌then◌else◌
+unfolding decimal_text when◌then◌else◌
 text_plain d e = rw e

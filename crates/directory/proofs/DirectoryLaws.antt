@@ -9,7 +9,7 @@ use lib.Dec.{ltb, eqb}
 use lib.ListN.{length, set}
 use borrow.Author.Tests.{ltb-false, eq-eqb, ne_eqb}
 use Rattle.interface.specs.declared.Settings.{Settings}
-use Rattle.machine.specs.Choice.{if◌then◌else◌}
+use Rattle.machine.specs.Choice.{when◌then◌else◌}
 use Rattle.fields.specs.Fields.{header_number, slot_account, worker_directory, worker_marks}
 use Rattle.fields.specs.Regions.{read_at, words_needed}
 use Rattle.machine.proofs.laws.Base.{if_true}
@@ -26,13 +26,13 @@ use Rattle.taking.specs.Taking.{dues_at, taken_all}
 module _ (l m : List ℕ) (s : Settings) (p j x : ℕ) (e : m ≡ resolved_at l s p j) (f : x ≡ word m (p + worker_marks)) where
   pub resolved_more : (z : List ℕ) (a q b : ℕ) → x / 2 ^ j % 2 ≡ 1 → a ≡ word m (read_at p j + slot_account) → q ≡ record_of m s a
       → b ≡ dues_at m s p q s.workers → z ≡ taken_all m s p b s.workers → z ≡ resolved_at l s p (j + 1)
-  unfolding resolved_at if◌then◌else◌ bit
+  unfolding resolved_at when◌then◌else◌ bit
   resolved_more z a q b h g k n o =
       let t : eqb (word m (p + worker_marks) / 2 ^ j % 2) 1 ≡ true = eq-eqb _ 1 (rw f at h) in
       rw (add-one, ← e, t) (rw (o, n, k, g))
 
   pub resolved_same : (x / 2 ^ j % 2 ≡ 1 → ⊥) → m ≡ resolved_at l s p (j + 1)
-  unfolding resolved_at if◌then◌else◌ bit
+  unfolding resolved_at when◌then◌else◌ bit
   resolved_same h =
       let t : eqb (word m (p + worker_marks) / 2 ^ j % 2) 1 ≡ false = ne_eqb _ 1 (rw f at h) in
       rw (add-one, ← e, t)
@@ -57,12 +57,12 @@ whole_else l s p h f =
 
 module _ (l : List ℕ) (s : Settings) (p x y : ℕ) (e : x ≡ word l (p + worker_directory)) (f : y ≡ word l header_number) where
   pub redirected_not : (x ≡ y → ⊥) → l ≡ redirected_at l s p
-  unfolding redirected_at if◌then◌else◌
+  unfolding redirected_at when◌then◌else◌
   redirected_not h = rw (ne_eqb (word l (p + worker_directory)) (word l header_number) (λ z. h (e ∙ z ∙ sym f)))
 
   module _ (m z : List ℕ) (v : ℕ) (t : Bool) (h : x ≡ y) (g : v ≡ fresh_directory l s.workers) (k : t ≡ nothing_to_split l s p)
       (n : z ≡ set m header_number v) where
-    pub redirected_done : m ≡ (if t then l else resolved_at l s p s.workers) → z ≡ redirected_at l s p
+    pub redirected_done : m ≡ (when t then l else resolved_at l s p s.workers) → z ≡ redirected_at l s p
     unfolding redirected_at
     redirected_done d =
         n ∙ sym (if_true _ l (eq-eqb (word l (p + worker_directory)) (word l header_number) (sym e ∙ h ∙ f)) ∙ rw (← k, ← d, ← g))

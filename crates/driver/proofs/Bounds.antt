@@ -6,7 +6,7 @@ use mathlib.Core.List.{List, [], ◌∷◌}
 use native.Mathlib.Omega.{arith}
 use lib.ListN.{length}
 use borrow.Author.Tests.{le-leb}
-use Rattle.machine.specs.Choice.{if◌then◌else◌}
+use Rattle.machine.specs.Choice.{when◌then◌else◌}
 use Rattle.machine.proofs.laws.Base.{if_elim}
 use Rattle.lines.specs.Reading.{command_in}
 use Rattle.outputs.specs.Room.{longest, room_for}
@@ -49,7 +49,7 @@ fed_taken f (b ∷ bs) =
 -- a first byte is taken where the longest text has room
 pub fed_first : (f : Feeding) (bs : List ℕ) → 0 < length bs → f.state.output.used + longest ≤ length f.state.output.bytes
     → f.taken < (fed f bs).taken
-unfolding fed room_for if◌then◌else◌
+unfolding fed room_for when◌then◌else◌
 fed_first f [] h k = absurd (omega arith)
 fed_first f (b ∷ bs) h k =
     let m = (fed_taken (took f b) bs).least in

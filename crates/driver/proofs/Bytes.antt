@@ -9,7 +9,7 @@ use lib.IntN.{ℤ}
 use lib.ListN.{length, drop, get_or}
 use lib.Seq.{drop-cons, drop-nil}
 use borrow.Author.Tests.{eq-eqb, ne_eqb}
-use Rattle.machine.specs.Choice.{if◌then◌else◌}
+use Rattle.machine.specs.Choice.{when◌then◌else◌}
 use Rattle.commands.specs.declared.Command.{Command}
 use Rattle.lines.specs.declared.reader.Reader.{Reader}
 use Rattle.lines.specs.Reading.{fresh, pushed, command_in}
@@ -28,12 +28,12 @@ same_feeding i e f g h k m = rw (e, f, g, h, k, m)
 module _ (f : Feeding) (b : ℕ) where
   pub took_line : (s : DriverState) (c : Command) (r : Reader) → b ≡ 10 → c ≡ command_in f.reader → s ≡ answered f.state c → r ≡ fresh
       → ◌≡◌ {A = Feeding} (record { state = s; reader = r; taken = f.taken + 1 }) (took f b)
-  unfolding took if◌then◌else◌
+  unfolding took when◌then◌else◌
   took_line s c r e g h k = rw (eq-eqb b 10 e, h, g, k)
 
   pub took_byte : (r : Reader) → (b ≡ 10 → ⊥) → r ≡ pushed f.reader b
       → ◌≡◌ {A = Feeding} (record { state = f.state; reader = r; taken = f.taken + 1 }) (took f b)
-  unfolding took if◌then◌else◌
+  unfolding took when◌then◌else◌
   took_byte r e k = rw (ne_eqb b 10 e, k)
 
 drop_past : (i : ℕ) (l : List ℕ) → length l ≤ i → drop i l ≡ []
@@ -48,12 +48,12 @@ module _ (f : Feeding) (input : List ℕ) (i : ℕ) where
 
   pub fed_full : (t : Bool) → i < length input → t ≡ room_for longest (length f.state.output.bytes) f.state.output.used → t ≡ false
       → f ≡ fed f (drop i input)
-  unfolding fed if◌then◌else◌
+  unfolding fed when◌then◌else◌
   fed_full t h e g = rw (drop-cons input i 0 h, ← e, g)
 
   pub fed_next : (t : Bool) (g : Feeding) → i < length input
       → t ≡ room_for longest (length f.state.output.bytes) f.state.output.used
       → t ≡ true
       → g ≡ took f (get_or input i 0) → fed g (drop (i + 1) input) ≡ fed f (drop i input)
-  unfolding fed if◌then◌else◌
+  unfolding fed when◌then◌else◌
   fed_next t g h e k m = rw (drop-cons input i 0 h, ← e, k, add-one, m)

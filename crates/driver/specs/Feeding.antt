@@ -2,7 +2,7 @@
 -- the lines' reader.
 use Rattle.std.specs.Prelude.{ℕ, ◌+◌, List, [], ◌∷◌, eqb, length}
 use Rattle.decimals.specs.Ascii.{line_feed}
-use Rattle.machine.specs.Choice.{if◌then◌else◌}
+use Rattle.machine.specs.Choice.{when◌then◌else◌}
 use Rattle.lines.specs.declared.reader.Reader.{Reader}
 use Rattle.lines.specs.Reading.{fresh, pushed, command_in}
 use Rattle.outputs.specs.Outputs.{DriverState}
@@ -21,7 +21,7 @@ feeding_of s r k = record { state = s; reader = r; taken = k }
 -- the next byte; 10 is the line feed
 unfoldable pub took : Feeding → ℕ → Feeding
 took f b =
-    if eqb b line_feed then record {
+    when eqb b line_feed then record {
       state = answered f.state (command_in f.reader);
       reader = fresh;
       taken = f.taken + 1;
@@ -32,4 +32,4 @@ took f b =
 unfoldable pub fed : Feeding → List ℕ → Feeding
 fed f [] = f
 fed f (b ∷ bs) =
-    if room_for longest (length f.state.output.bytes) f.state.output.used then fed (took f b) bs else f
+    when room_for longest (length f.state.output.bytes) f.state.output.used then fed (took f b) bs else f

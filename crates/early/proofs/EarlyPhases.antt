@@ -5,7 +5,7 @@ use mathlib.Core.Path.{◌≡◌, refl, sym, ◌∙◌}
 use lib.Dec.{leb}
 use lib.ListN.{get_or}
 use borrow.Author.Tests.{lt-leb}
-use Rattle.machine.specs.Choice.{if◌then◌else◌}
+use Rattle.machine.specs.Choice.{when◌then◌else◌}
 use Rattle.machine.specs.Plan.{read_directory, flip_toggle, check_state, bucket_round, bucket_pass, pass, plan, phase}
 use Rattle.machine.proofs.laws.Base.{if_false}
 use Rattle.phases.proofs.Plans.{bucket-round, pass_bucket, plan_pass}
@@ -20,7 +20,7 @@ module _ (n : ℕ) where
   early_flip = refl
 
   pub early_round :
-      (k i : ℕ) → 3 ≤ k → k < 2 * n + 9 → i ≡ (if leb (n + 3) (k - 3) then k - 3 - (n + 3) else k - 3)
+      (k i : ℕ) → 3 ≤ k → k < 2 * n + 9 → i ≡ (when leb (n + 3) (k - 3) then k - 3 - (n + 3) else k - 3)
       → phase n k ≡ get_or (bucket_round n) i check_state
   early_round k i h m e =
       let z : k - 1 - 1 - 1 ≡ k - 3 = omega arith in

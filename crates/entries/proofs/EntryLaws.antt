@@ -15,7 +15,7 @@ use lib.IntN.{ℤ}
 use borrow.Author.Tests.{eq-eqb, ne_eqb}
 use Rattle.interface.specs.declared.Settings.{Settings}
 use Rattle.fields.specs.Fields.{record_count, accounts_from, widest_record}
-use Rattle.machine.specs.Choice.{if◌then◌else◌}
+use Rattle.machine.specs.Choice.{when◌then◌else◌}
 use Rattle.machine.proofs.laws.Base.{if_elim, if_true, if_false}
 use Rattle.lists.specs.Parts.{overlay}
 use Rattle.memory.specs.Words.{least}
@@ -30,10 +30,10 @@ use Rattle.lists.proofs.PartLaws.{overlay_nil, overlay_more}
 module _ (l : List ℕ) (s : Settings) (e q : ℕ) where
   -- the row of position i, if it is the entry's
   next : ℕ → List (ℕ × ℤ)
-  next i = if eqb (first_bits s.depth (word l (accounts_from q + i))) e then row_at l s q i ∷ [] else []
+  next i = when eqb (first_bits s.depth (word l (accounts_from q + i))) e then row_at l s q i ∷ [] else []
 
-  behind : (b : Bool) (r : ℕ × ℤ) (x n : List (ℕ × ℤ)) → if b then r ∷ (x ++ n) else x ++ n ≡ (if b then r ∷ x else x) ++ n
-  unfolding if◌then◌else◌
+  behind : (b : Bool) (r : ℕ × ℤ) (x n : List (ℕ × ℤ)) → when b then r ∷ (x ++ n) else x ++ n ≡ (when b then r ∷ x else x) ++ n
+  unfolding when◌then◌else◌
   behind true r x n = refl
   behind false r x n = refl
 
@@ -43,9 +43,9 @@ module _ (l : List ℕ) (s : Settings) (e q : ℕ) where
   rows_last i (suc c) =
       let t : Bool = eqb (first_bits s.depth (word l (accounts_from q + i))) e in
       let k : suc i + c ≡ i + suc c = omega arith in
-      ap (λ (r : List (ℕ × ℤ)). if t then row_at l s q i ∷ r else r) (rows_last (suc i) c)
+      ap (λ (r : List (ℕ × ℤ)). when t then row_at l s q i ∷ r else r) (rows_last (suc i) c)
       ∙ behind t (row_at l s q i) (rows_in l s e q (suc i) c) (next (suc i + c))
-      ∙ ap (λ (n : ℕ). (if t then row_at l s q i ∷ rows_in l s e q (suc i) c else rows_in l s e q (suc i) c) ++ next n) k
+      ∙ ap (λ (n : ℕ). (when t then row_at l s q i ∷ rows_in l s e q (suc i) c else rows_in l s e q (suc i) c) ++ next n) k
 
   rows_next : (i : ℕ) → rows_in l s e q 0 (i + 1) ≡ rows_in l s e q 0 i ++ next i
   rows_next i =

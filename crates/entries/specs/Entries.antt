@@ -5,7 +5,7 @@ use Rattle.std.proofs.Common.{to_z}
 use Rattle.interface.specs.declared.Settings.{Settings}
 use Rattle.fields.specs.Fields.{record_count, accounts_from, totals_from}
 use Rattle.fields.specs.Regions.{directory_start}
-use Rattle.machine.specs.Choice.{if◌then◌else◌}
+use Rattle.machine.specs.Choice.{when◌then◌else◌}
 use Rattle.machine.specs.Sequential.{first_bits}
 use Rattle.memory.specs.Words.{least}
 use Rattle.layout.specs.Shape.{word}
@@ -23,7 +23,7 @@ row_at l s q i = (word l (accounts_from q + i) % 2 ^ 32, to_z w64 (word l (total
 unfoldable pub rows_in : List ℕ → Settings → ℕ → ℕ → ℕ → ℕ → List (ℕ × ℤ)
 rows_in l s e q i zero = []
 rows_in l s e q i (suc c) =
-    if eqb (first_bits s.depth (word l (accounts_from q + i))) e
+    when eqb (first_bits s.depth (word l (accounts_from q + i))) e
     then row_at l s q i ∷ rows_in l s e q (suc i) c
     else rows_in l s e q (suc i) c
 

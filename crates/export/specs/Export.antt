@@ -6,7 +6,7 @@ use Rattle.interface.specs.declared.Refusal.{Refusal}
 use Rattle.interface.specs.declared.Listed.{Listed}
 use Rattle.interface.specs.declared.Exported.{Exported}
 use Rattle.lists.specs.Parts.{overlay}
-use Rattle.machine.specs.Choice.{if◌then◌else◌}
+use Rattle.machine.specs.Choice.{when◌then◌else◌}
 use Rattle.layout.specs.Shape.{strange, shape_of}
 use Rattle.sorting.specs.RowLists.{rows_at}
 use Rattle.rows.specs.Rows.{rows, greatest_count, listing_words}
@@ -16,13 +16,13 @@ use Rattle.csv_file.specs.Reading.{read_file}
 -- a file at the start of the output, nothing past it; where the output is too short for it, nothing at all
 unfoldable pub written : List ℕ → List ℕ → List ℕ × Exported
 written out file =
-    if ltb (length out) (length file) then (out, Exported.Refused Refusal.Narrow)
+    when ltb (length out) (length file) then (out, Exported.Refused Refusal.Narrow)
     else (overlay out 0 file, Exported.Bytes (length file))
 
 -- "Write the listing as RFC 4180 records": checks 8, 10
 unfoldable pub export_words : List ℕ → List ℕ → List ℕ × Exported
 export_words l out =
-    if strange l then (out, Exported.Refused Refusal.Strange) else written out (csv_file (rows l (shape_of l)))
+    when strange l then (out, Exported.Refused Refusal.Strange) else written out (csv_file (rows l (shape_of l)))
 
 -- ---- what holds of it
 

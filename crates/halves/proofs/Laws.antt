@@ -9,7 +9,7 @@ use native.Mathlib.Omega.{arith}
 use lib.ListN.{length, get_or, set, replicate, length-append, length-map, length-replicate}
 use lib.Seq.{append_snoc, set_at}
 use borrow.Author.Tests.{eq-eqb, ne_eqb}
-use Rattle.machine.specs.Choice.{if◌then◌else◌}
+use Rattle.machine.specs.Choice.{when◌then◌else◌}
 use Rattle.machine.specs.Sequential.{first_bits}
 use Rattle.machine.proofs.laws.Base.{eq_elim}
 use Rattle.bucket.specs.State.{array_size, size_of}
@@ -19,11 +19,11 @@ use Rattle.bucket.proofs.Laws.{size_limit}
 use Rattle.bucket.proofs.Sizes.{Sized}
 
 keeps_more : (l : List ℕ) (d q k : ℕ) → first_bits d (get_or l k 0) ≡ q → keeps l d q (k + 1) ≡ keeps l d q k ++ k ∷ []
-unfolding keeps if◌then◌else◌
+unfolding keeps when◌then◌else◌
 keeps_more l d q k e = rw (add-one, eq-eqb (first_bits d (get_or l k 0)) q e)
 
 keeps_same : (l : List ℕ) (d q k : ℕ) → first_bits d (get_or l k 0) ≢ q → keeps l d q (k + 1) ≡ keeps l d q k
-unfolding keeps if◌then◌else◌
+unfolding keeps when◌then◌else◌
 keeps_same l d q k e = rw (add-one, ne_eqb (first_bits d (get_or l k 0)) q e)
 
 pub length_keeps : (l : List ℕ) (d q k : ℕ) → length (keeps l d q k) ≤ k

@@ -1,6 +1,6 @@
 -- What a split's half takes of a bucket's state, for any field values. Rests on the definitions on a state.
 use Rattle.std.specs.Prelude.{ℕ, zero, suc, ◌-◌, List, [], ◌∷◌, ◌++◌, map, eqb, length, get_or, replicate}
-use Rattle.machine.specs.Choice.{if◌then◌else◌}
+use Rattle.machine.specs.Choice.{when◌then◌else◌}
 use Rattle.machine.specs.Sequential.{first_bits}
 use Rattle.bucket.specs.declared.BucketState.{BucketState}
 use Rattle.bucket.specs.State.{array_size, size_of}
@@ -9,7 +9,7 @@ use Rattle.bucket.specs.State.{array_size, size_of}
 unfoldable pub keeps : List ℕ → ℕ → ℕ → ℕ → List ℕ
 keeps accounts d q zero = []
 keeps accounts d q (suc k) =
-    if eqb (first_bits d (get_or accounts k 0)) q then keeps accounts d q k ++ k ∷ [] else keeps accounts d q k
+    when eqb (first_bits d (get_or accounts k 0)) q then keeps accounts d q k ++ k ∷ [] else keeps accounts d q k
 
 -- the items at these positions, and zeros after them, as many as an array has
 unfoldable pub gathered : List ℕ → List ℕ → List ℕ

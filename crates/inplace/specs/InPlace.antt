@@ -3,7 +3,7 @@
 use Rattle.std.specs.Prelude.{ℕ, ◌+◌, ◌*◌, ◌≤◌, ◌<◌, ◌≡◌, List, eqb, length}
 use Rattle.interface.specs.declared.Settings.{Settings}
 use Rattle.fields.specs.Fields.{slot_size, worker_toggle, worker_slots, record_count, record_applied, record_depth, widest_record}
-use Rattle.machine.specs.Choice.{if◌then◌else◌}
+use Rattle.machine.specs.Choice.{when◌then◌else◌}
 use Rattle.rounds.specs.Rounds.{changed_of, carry_of, with_applied, round_of}
 use Rattle.rules.specs.declared.Descriptor.{Descriptor}
 use Rattle.arrays.specs.declared.Position.{Position}
@@ -22,7 +22,7 @@ unfoldable pub round_at : List ℕ → Settings → ℕ → ℕ → List ℕ
 round_at l s p q =
     let toggle : ℕ = word l (p + worker_toggle) in
     let slots : List ℕ = part l (p + worker_slots) (slot_size * s.workers) in
-    if eqb toggle (word l (q + record_applied))
+    when eqb toggle (word l (q + record_applied))
     then l
     else with_bucket_at l s q (round_of (bucket_at l s q) slots s (word l (q + record_depth)) toggle)
 

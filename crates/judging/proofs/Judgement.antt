@@ -14,7 +14,7 @@ use Rattle.interface.specs.declared.Built.{Built}
 use Rattle.interface.specs.declared.Refusal.{Refusal}
 use Rattle.interface.specs.declared.Verdict.{Verdict}
 use Rattle.interface.proofs.Laws.{wrong_settings as outside_range, right_settings}
-use Rattle.machine.specs.Choice.{if◌then◌else◌}
+use Rattle.machine.specs.Choice.{when◌then◌else◌}
 use Rattle.machine.specs.Sequential.{Table}
 use Rattle.machine.proofs.laws.Base.{if_true, if_false}
 use Rattle.logs.specs.Log.{are_log, count_of, log_of}
@@ -111,11 +111,11 @@ module _ (l : List ℕ) (b M : ℕ) where
           unrefused l b M before (no_refusal (length before) range good room)
           ∙ ap (verdict_on before) (sym (rw all (judged_by_search (few l good))))
 
-      by_order : (f : Option (List ℕ)) → (written_in before f, if is_found f then Verdict.Accepted else Verdict.No) ≡ verdict_on before f
-      unfolding written_in is_found if◌then◌else◌ verdict_on
+      by_order : (f : Option (List ℕ)) → (written_in before f, when is_found f then Verdict.Accepted else Verdict.No) ≡ verdict_on before f
+      unfolding written_in is_found when◌then◌else◌ verdict_on
       by_order none = refl
       by_order (some o) = refl
 
       pub answered : after ≡ written_in before found → (r : Bool) → r ≡ is_found found
-          → (after, if r then Verdict.Accepted else Verdict.No) ≡ check_log_words l b M before
+          → (after, when r then Verdict.Accepted else Verdict.No) ≡ check_log_words l b M before
       answered w r e = rw (w, e) (by_order found ∙ sym by_search)

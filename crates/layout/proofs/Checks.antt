@@ -13,7 +13,7 @@ use Rattle.interface.specs.declared.Settings.{Settings}
 use Rattle.interface.proofs.Laws.{within_of}
 use Rattle.fields.specs.Fields.{header_settings, header_needed, least_first, greatest_first, widest_record}
 use Rattle.fields.specs.Regions.{directory_start, least_words}
-use Rattle.machine.specs.Choice.{if◌then◌else◌}
+use Rattle.machine.specs.Choice.{when◌then◌else◌}
 use Rattle.machine.proofs.laws.Base.{no_both, if_true, if_false}
 use Rattle.layout.specs.Shape.{word, settings_of, strange, shape_of, Fits}
 
@@ -69,7 +69,7 @@ zeros_strange (suc k) = zero_strange (replicate (suc k) 0) refl
 
 -- ---- the first two checks of a step, a run and a call
 
-pub strange_first : {A : Type 0} (l : List ℕ) (x : Bool) (a b : A) → x ≡ strange l → x ≡ true → a ≡ if strange l then a else b
+pub strange_first : {A : Type 0} (l : List ℕ) (x : Bool) (a b : A) → x ≡ strange l → x ≡ true → a ≡ when strange l then a else b
 strange_first l x a b tested e = sym (if_true a b (sym tested ∙ e))
 
 module _ (l : List ℕ) (x : Bool) (g : Settings) (tested : x ≡ strange l) where
@@ -78,10 +78,10 @@ module _ (l : List ℕ) (x : Bool) (g : Settings) (tested : x ≡ strange l) whe
 
   pub stranger_next :
       {A : Type 0} (a b c : A) (w : ℕ) → x ≡ false → g ≡ shape_of l → g.workers ≤ w
-      → b ≡ if strange l then a else if leb (shape_of l).workers w then b else c
+      → b ≡ when strange l then a else when leb (shape_of l).workers w then b else c
   stranger_next a b c w e h n = sym (if_false a _ (sym tested ∙ e) ∙ rw (← h) (if_true b c (le-leb g.workers w n)))
 
   pub both_passed :
       {A : Type 0} (a b c : A) (w : ℕ) → x ≡ false → g ≡ shape_of l → w < g.workers
-      → c ≡ if strange l then a else if leb (shape_of l).workers w then b else c
+      → c ≡ when strange l then a else when leb (shape_of l).workers w then b else c
   both_passed a b c w e h n = sym (if_false a _ (sym tested ∙ e) ∙ rw (← h) (if_false b c (lt-leb g.workers w n)))

@@ -4,14 +4,14 @@ use Rattle.std.specs.Prelude.{ℕ, ◌+◌, List, leb, eqb, length, set, Bool}
 use Rattle.interface.specs.declared.Settings.{Settings}
 use Rattle.fields.specs.Fields.{worker_held, widest_record, slot_account, worker_marks, worker_account}
 use Rattle.fields.specs.Regions.{directory_start, read_at}
-use Rattle.machine.specs.Choice.{if◌then◌else◌}
+use Rattle.machine.specs.Choice.{when◌then◌else◌}
 use Rattle.machine.specs.Sequential.{first_bits}
 use Rattle.layout.specs.Shape.{word}
 use Rattle.rules.specs.Rules.{bit}
 
 -- a word that is to be a record's address, if a whole record fits there; else 0
 unfoldable pub record_in : List ℕ → ℕ → ℕ
-record_in l q = if leb (q + widest_record) (length l) then q else 0
+record_in l q = when leb (q + widest_record) (length l) then q else 0
 
 -- the record of an account's bucket, by the directory
 unfoldable pub record_of : List ℕ → Settings → ℕ → ℕ

@@ -13,7 +13,7 @@ use borrow.Author.Tests.{eq-eqb, ne_eqb}
 use Rattle.interface.specs.declared.Settings.{Settings}
 use Rattle.interface.specs.declared.Answer.{Answer}
 use Rattle.interface.specs.declared.Answer.TheVariants.{Added, Replaced, Removed, Absent, Posted, Crowded, Overrun}
-use Rattle.machine.specs.Choice.{if◌then◌else◌, ◌and◌}
+use Rattle.machine.specs.Choice.{when◌then◌else◌, ◌and◌}
 use Rattle.machine.specs.Sequential.{Table, Update, insert, delete, post, account, Operation, update, lookup, find, put, remove, present, total_or0, is_total, sum, result, changed, crowds, serve, Ascending}
 use Rattle.machine.specs.Calls.{lists, listing_of}
 use Rattle.machine.specs.Systems.{Entry, System, asked}
@@ -36,22 +36,22 @@ absent_sums (closes ∷ bs) e = (refl, refl)
 absent_sums (nothing ∷ bs) e = absent_sums bs e
 
 balance_adds : (v : ℤ) (bs : List Booking) → balance (adds v ∷ bs) ≡ some (total_or0 (balance bs) +ℤ v)
-unfolding balance is_there last_inserted posted_since if◌then◌else◌ total_or0
+unfolding balance is_there last_inserted posted_since when◌then◌else◌ total_or0
 balance_adds v bs = go (is_there bs) refl
   where
     go : (t : Bool) → is_there bs ≡ t
         → some (last_inserted bs +ℤ (posted_since bs +ℤ v))
-        ≡ some (total_or0 (if t then some (last_inserted bs +ℤ posted_since bs) else none) +ℤ v)
+        ≡ some (total_or0 (when t then some (last_inserted bs +ℤ posted_since bs) else none) +ℤ v)
     go true e = ap some (sym (+ℤ_assoc (last_inserted bs) (posted_since bs) v))
     go false e = let h = absent_sums bs e in ap some (rw (h.0, h.1) (+ℤ_idl _))
 
 -- the booking of an update that was carried out, or of one that changed nothing
 abbrev booked_if : Answer → Update → Booking
-booked_if r u = if carried_out r then booking_of u else nothing
+booked_if r u = when carried_out r then booking_of u else nothing
 
 booking_own : (a : ℕ) (u : Update) (r : Answer) → account u ≡ a → booking a (some (update u)) r ≡ booked_if r u
 unfolding booking ◌and◌
-booking_own a u r e = rw (eq-eqb (account u) a e) (ap (λ (b : Bool). if b then booking_of u else nothing) (and_same (carried_out r)))
+booking_own a u r e = rw (eq-eqb (account u) a e) (ap (λ (b : Bool). when b then booking_of u else nothing) (and_same (carried_out r)))
   where
     and_same : (b : Bool) → (b and true) ≡ b
     and_same true = refl
@@ -70,19 +70,19 @@ balance_nothing bs = refl
 -- what an update that is not crowded leaves at its account is what its booking leaves
 module _ (t : Table) (a : ℕ) (bs : List Booking) (asc : Ascending t) (same : find t a ≡ balance bs) where
   inserted : (v : ℤ) (o : Option ℤ) → find (put t a v) a ≡ balance (booked_if (present o Replaced Added) (insert a v) ∷ bs)
-  unfolding present carried_out booking_of balance is_there last_inserted posted_since if◌then◌else◌
+  unfolding present carried_out booking_of balance is_there last_inserted posted_since when◌then◌else◌
   inserted v (some w) = find_put_at t a v ∙ ap some (sym (+ℤ_idr v))
   inserted v none = find_put_at t a v ∙ ap some (sym (+ℤ_idr v))
 
   removed : (o : Option ℤ) → balance bs ≡ o → find (remove t a) a ≡ balance (booked_if (present o Removed Absent) (delete a) ∷ bs)
-  unfolding present carried_out booking_of balance is_there if◌then◌else◌
+  unfolding present carried_out booking_of balance is_there when◌then◌else◌
   removed (some w) e = find_remove_at t a asc
   removed none e = find_remove_at t a asc ∙ sym e ∙ sym (balance_nothing bs)
 
   posted :
       (v : ℤ) (b : Bool)
-      → find (if b then put t a (sum t a v) else t) a ≡ balance (booked_if (if b then Posted (sum t a v) else Overrun) (post a v) ∷ bs)
-  unfolding carried_out booking_of if◌then◌else◌ sum
+      → find (when b then put t a (sum t a v) else t) a ≡ balance (booked_if (when b then Posted (sum t a v) else Overrun) (post a v) ∷ bs)
+  unfolding carried_out booking_of when◌then◌else◌ sum
   posted v true = find_put_at t a _ ∙ ap (λ (o : Option ℤ). some (total_or0 o +ℤ v)) same ∙ sym (balance_adds v bs)
   posted v false = same ∙ sym (balance_nothing bs)
 
@@ -103,7 +103,7 @@ module _ (t : Table) (a : ℕ) (bs : List Booking) (asc : Ascending t) (same : f
   Right o r = Ascending r.1 × (find r.1 a ≡ balance (booking a o r.0 ∷ bs))
 
   served_right : (s : Settings) (o : Option Operation) → Right o (serve_if s o t)
-  unfolding serve_if serve booking if◌then◌else◌ ◌and◌ carried_out
+  unfolding serve_if serve booking when◌then◌else◌ ◌and◌ carried_out
   served_right s none = (asc, same ∙ sym (balance_nothing bs))
   served_right s (some (lookup c)) = (asc, same ∙ sym (balance_nothing bs))
   served_right s (some (update u)) =
@@ -175,7 +175,7 @@ module _ (s : Settings) (es : List Entry) where
     table_before = table_at s es [] moments
 
     all_right : (p a : ℕ) → Ascending (table_before p) × (find (table_before p) a ≡ balance (bookings s es moments p a))
-    unfolding table_at served bookings balance is_there find if◌then◌else◌
+    unfolding table_at served bookings balance is_there find when◌then◌else◌
     all_right zero a = (tt, refl)
     all_right (suc p) a = let h = all_right p a in index_right a (moments p) (table_before p) (served s es moments p) h.0 h.1
 

@@ -6,7 +6,7 @@ use Rattle.interface.specs.declared.Settings.{Settings}
 use Rattle.interface.specs.declared.Answer.{Answer}
 use Rattle.interface.specs.declared.Answer.TheVariants.{Added, Replaced, Removed, Absent, Found, None, Posted, Crowded, Overrun}
 use Rattle.interface.specs.declared.Completion.{Completion}
-use Rattle.machine.specs.Choice.{if◌then◌else◌, ◌and◌}
+use Rattle.machine.specs.Choice.{when◌then◌else◌, ◌and◌}
 use Rattle.machine.specs.Sequential.{Table, Update, insert, delete, post, account, Operation, update, lookup, find}
 use Rattle.machine.specs.Records.{Machine}
 use Rattle.machine.specs.Calls.{settings, opens, opening, lists}
@@ -46,7 +46,7 @@ booking_of (post a v) = adds v
 unfoldable pub booking : ℕ → Option Operation → Answer → Booking
 booking a none r = nothing
 booking a (some (lookup c)) r = nothing
-booking a (some (update u)) r = if carried_out r and eqb (account u) a then booking_of u else nothing
+booking a (some (update u)) r = when carried_out r and eqb (account u) a then booking_of u else nothing
 
 -- ---- an account's total by its bookings, the latest first
 
@@ -76,7 +76,7 @@ posted_since (nothing ∷ older) = posted_since older
 
 -- the account's total, if it is there
 unfoldable pub balance : List Booking → Option ℤ
-balance bs = if is_there bs then some (last_inserted bs +ℤ posted_since bs) else none
+balance bs = when is_there bs then some (last_inserted bs +ℤ posted_since bs) else none
 
 -- ---- the operations that have taken effect
 

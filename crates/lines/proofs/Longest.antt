@@ -12,7 +12,7 @@ use lib.Dec.{leb, eqb, lit<}
 use lib.IntN.{ℤ, pos, negsuc}
 use lib.ListN.{length}
 use borrow.Author.Tests.{leb-true, leb-false, eqb-false}
-use Rattle.machine.specs.Choice.{if◌then◌else◌}
+use Rattle.machine.specs.Choice.{when◌then◌else◌}
 use Rattle.machine.proofs.laws.Base.{and_parts, if_elim}
 use Rattle.decimals.specs.Ascii.{space, minus_sign, zero_digit, nine_digit}
 use Rattle.commands.specs.declared.Command.{Command}
@@ -63,11 +63,11 @@ first_digit k b f v e z h =
 
 -- a number below a power of ten has no more digits than the power says
 numeral_length : (k : ℕ) (f : List ℕ) (v : ℕ) → numeral f ≡ some v → v < 10 ^ suc k → length f ≤ suc k
-unfolding numeral if◌then◌else◌
+unfolding numeral when◌then◌else◌
 numeral_length k [] v e h = absurd (some_none (sym e))
 numeral_length k (b ∷ f) v e h = by (eqb b zero_digit) refl e
   where
-    by : (t : Bool) → eqb b zero_digit ≡ t → if t then zero_then f else digits_after 0 (b ∷ f) ≡ some v → suc (length f) ≤ suc k
+    by : (t : Bool) → eqb b zero_digit ≡ t → when t then zero_then f else digits_after 0 (b ∷ f) ≡ some v → suc (length f) ≤ suc k
     by true q p = lone_zero k f v p
     by false q p = first_digit k b f v p (eqb-false b zero_digit q) h
 
@@ -134,11 +134,11 @@ negative_length f (some (suc n)) z q p =
     numeral_length 18 f (suc n) q (omega arith)
 
 pub total-length : (f : List ℕ) (z : ℤ) → total_of f ≡ some z → length f ≤ total_length
-unfolding total_of signed_numeral if◌then◌else◌
+unfolding total_of signed_numeral when◌then◌else◌
 total-length [] z e = omega arith
 total-length (b ∷ f) z e = by (eqb b minus_sign) e
   where
-    by : (t : Bool) → in64 (if t then minus (numeral f) else plus (numeral (b ∷ f))) ≡ some z → suc (length f) ≤ total_length
+    by : (t : Bool) → in64 (when t then minus (numeral f) else plus (numeral (b ∷ f))) ≡ some z → suc (length f) ≤ total_length
     by true p = let h = negative_length f (numeral f) z refl p in omega arith
     by false p = let h = unsigned_length (b ∷ f) (numeral (b ∷ f)) z refl p in omega arith
 
@@ -162,7 +162,7 @@ long3 f (some u) (some v) none x y z a b c i j k h = refl
 long3 f (some u) (some v) (some w) x y z a b c i j k h = let l = i u refl in let m = j v refl in let n = k w refl in absurd (omega arith)
 
 -- a choice between commands that are all unread
-none_of : (t : Bool) {x y : Command} → x ≡ Unread → y ≡ Unread → if t then x else y ≡ Unread
+none_of : (t : Bool) {x y : Command} → x ≡ Unread → y ≡ Unread → when t then x else y ≡ Unread
 none_of t {x} {y} e f = if_elim (λ c. c ≡ Unread) t x y (λ _. e) (λ _. f)
 
 long_three : (letter : ℕ) (x y : List ℕ) → small_length + account_length < length x + length y → three_fields letter x y ≡ Unread
@@ -195,8 +195,8 @@ abbrev pub span : List (List ℕ) → ℕ
 span [] = 0
 span (f ∷ fs) = suc (length f) + span fs
 
-span_step : (t : Bool) (b n : ℕ) (ps : List (List ℕ)) → suc n ≡ span ps → suc (suc n) ≡ span (if t then [] ∷ ps else before b ps)
-unfolding if◌then◌else◌ before
+span_step : (t : Bool) (b n : ℕ) (ps : List (List ℕ)) → suc n ≡ span ps → suc (suc n) ≡ span (when t then [] ∷ ps else before b ps)
+unfolding when◌then◌else◌ before
 span_step true b n ps e = omega arith
 span_step false b n [] e = absurd (omega arith)
 span_step false b n (p ∷ ps) e = omega arith
@@ -208,7 +208,7 @@ span_of (b ∷ bs) = span_step (eqb b space) b (length bs) (fields_of bs) (span_
 
 -- a first field of one byte, or none that counts
 long_fields : (fs : List (List ℕ)) → suc longest_line < span fs → of_fields fs ≡ Unread
-unfolding of_fields letter_of one_field if◌then◌else◌ three_fields four_fields
+unfolding of_fields letter_of one_field when◌then◌else◌ three_fields four_fields
 long_fields [] h = refl
 long_fields ([] ∷ []) h = refl
 long_fields ((b ∷ []) ∷ []) h = absurd (omega arith)

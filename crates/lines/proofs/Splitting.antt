@@ -9,7 +9,7 @@ use lib.Dec.{eqb}
 use lib.ListN.{length, take, drop, get_or, drop_of_length-le}
 use lib.Seq.{drop-cons}
 use borrow.Author.Tests.{eq-eqb, ne_eqb}
-use Rattle.machine.specs.Choice.{if◌then◌else◌}
+use Rattle.machine.specs.Choice.{when◌then◌else◌}
 use Rattle.decimals.specs.Ascii.{space}
 use Rattle.commands.specs.declared.Command.TheVariants.{Unread}
 use Rattle.commands.specs.Commands.{one_field}
@@ -20,11 +20,11 @@ use Rattle.lines.specs.Grammar.{fields_of, first_field, letter_of, of_fields, co
 
 module _ (l : List ℕ) (i : ℕ) (h : i < length l) where
   pub field_ends : get_or l i 0 ≡ space → first_field (drop i l) ≡ 0
-  unfolding first_field if◌then◌else◌
+  unfolding first_field when◌then◌else◌
   field_ends e = rw (drop-cons l i 0 h, eq-eqb (get_or l i 0) space e)
 
   pub field_goes_on : (get_or l i 0 ≡ space → ⊥) → first_field (drop i l) ≡ suc (first_field (drop (i + 1) l))
-  unfolding first_field if◌then◌else◌
+  unfolding first_field when◌then◌else◌
   field_goes_on e = rw (drop-cons l i 0 h, ne_eqb (get_or l i 0) space e, add-one)
 
 pub field_at_end : (l : List ℕ) (i : ℕ) → length l ≤ i → first_field (drop i l) ≡ 0
@@ -33,9 +33,9 @@ field_at_end l i h = rw (drop_of_length-le l h)
 
 -- ---- the fields, one by one
 
-one_step : (t : Bool) (b : ℕ) (bs : List ℕ) → suc (length bs) ≤ (if t then 0 else suc (first_field bs))
-    → (length bs ≤ first_field bs → fields_of bs ≡ bs ∷ []) → if t then [] ∷ fields_of bs else before b (fields_of bs) ≡ (b ∷ bs) ∷ []
-unfolding if◌then◌else◌ before
+one_step : (t : Bool) (b : ℕ) (bs : List ℕ) → suc (length bs) ≤ (when t then 0 else suc (first_field bs))
+    → (length bs ≤ first_field bs → fields_of bs ≡ bs ∷ []) → when t then [] ∷ fields_of bs else before b (fields_of bs) ≡ (b ∷ bs) ∷ []
+unfolding when◌then◌else◌ before
 one_step true b bs h ih = absurd (omega arith)
 one_step false b bs h ih = rw (ih (omega arith))
 
@@ -45,11 +45,11 @@ unfolding fields_of parts_at first_field
 one-field [] h = refl
 one-field (b ∷ bs) h = one_step (eqb b space) b bs h (one-field bs)
 
-more_step : (t : Bool) (b : ℕ) (bs : List ℕ) → (if t then 0 else suc (first_field bs)) < suc (length bs)
+more_step : (t : Bool) (b : ℕ) (bs : List ℕ) → (when t then 0 else suc (first_field bs)) < suc (length bs)
     → (first_field bs < length bs → fields_of bs ≡ take (first_field bs) bs ∷ fields_of (drop (suc (first_field bs)) bs))
-    → if t then [] ∷ fields_of bs else before b (fields_of bs)
-    ≡ take (if t then 0 else suc (first_field bs)) (b ∷ bs) ∷ fields_of (drop (suc (if t then 0 else suc (first_field bs))) (b ∷ bs))
-unfolding if◌then◌else◌ before
+    → when t then [] ∷ fields_of bs else before b (fields_of bs)
+    ≡ take (when t then 0 else suc (first_field bs)) (b ∷ bs) ∷ fields_of (drop (suc (when t then 0 else suc (first_field bs))) (b ∷ bs))
+unfolding when◌then◌else◌ before
 more_step true b bs h ih = refl
 more_step false b bs h ih = rw (ih (omega arith))
 
@@ -69,8 +69,8 @@ module _ (b : ℕ) where
   starts [] = (b ∷ [], [], refl)
   starts (p ∷ ps) = (b ∷ p, ps, refl)
 
-  begins : (t : Bool) (ps : List (List ℕ)) → (p : List ℕ) × (qs : List (List ℕ)) × (if t then [] ∷ ps else before b ps ≡ p ∷ qs)
-  unfolding if◌then◌else◌
+  begins : (t : Bool) (ps : List (List ℕ)) → (p : List ℕ) × (qs : List (List ℕ)) × (when t then [] ∷ ps else before b ps ≡ p ∷ qs)
+  unfolding when◌then◌else◌
   begins true ps = ([], ps, refl)
   begins false ps = starts ps
 

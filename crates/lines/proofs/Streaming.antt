@@ -10,7 +10,7 @@ use lib.Dec.{leb, ltb, eqb, eqb-suc-zero}
 use lib.ListN.{length, take, length-append, length-set}
 use lib.Seq.{take-suc-set}
 use borrow.Author.Tests.{le-leb, lt-ltb, le-ltb, leb-true, leb-false, ltb-true, ltb-false, ne_eqb}
-use Rattle.machine.specs.Choice.{if◌then◌else◌}
+use Rattle.machine.specs.Choice.{when◌then◌else◌}
 use Rattle.decimals.specs.Ascii.{line_feed}
 use Rattle.commands.specs.declared.Command.TheVariants.{Unread}
 use Rattle.numerals.specs.Cut.{before, parts_at}
@@ -45,7 +45,7 @@ module _ (r : Reader) (xs : List ℕ) (b : ℕ) (h : HoldsBytes r xs) where
   more = length-append xs (b ∷ []) ∙ add-one (length xs)
 
   kept : length xs < line_room → HoldsBytes (pushed r b) (xs ++ b ∷ [])
-  unfolding pushed if◌then◌else◌
+  unfolding pushed when◌then◌else◌
   kept k =
       let s = h.short (omega arith) in
       let e = s.len in
@@ -63,7 +63,7 @@ module _ (r : Reader) (xs : List ℕ) (b : ℕ) (h : HoldsBytes r xs) where
       })
 
   lost : line_room ≤ length xs → r.len ≡ line_room → HoldsBytes (pushed r b) (xs ++ b ∷ [])
-  unfolding pushed if◌then◌else◌
+  unfolding pushed when◌then◌else◌
   lost k e =
       let m = more in
       rw (le-ltb r.len line_room (omega arith)) (record {
@@ -91,11 +91,11 @@ module _ (r : Reader) (xs : List ℕ) (b : ℕ) (h : HoldsBytes r xs) where
 
 module _ (r : Reader) (xs : List ℕ) (h : HoldsBytes r xs) where
   pub means : command_in r ≡ command_of xs
-  unfolding command_in if◌then◌else◌
+  unfolding command_in when◌then◌else◌
   means = by (leb (length xs) line_room) refl
     where
       by : (t : Bool) → leb (length xs) line_room ≡ t
-          → if r.long then Unread else if leb r.len (length r.line) then command_of (take r.len r.line) else Unread ≡ command_of
+          → when r.long then Unread else when leb r.len (length r.line) then command_of (take r.len r.line) else Unread ≡ command_of
           xs
       by true e =
           let k = leb-true (length xs) line_room e in
@@ -136,17 +136,17 @@ front_nil x [] = refl
 front_nil x (y ∷ xs) = rw (front_nil y xs)
 
 -- at the end of the input: the line read so far, if it has a byte
-front_last : (xs : List ℕ) → map command_of (front xs []) ≡ if eqb (length xs) 0 then [] else command_of xs ∷ []
-unfolding front if◌then◌else◌
+front_last : (xs : List ℕ) → map command_of (front xs []) ≡ when eqb (length xs) 0 then [] else command_of xs ∷ []
+unfolding front when◌then◌else◌
 front_last [] = refl
 front_last (x ∷ xs) = rw (eqb-suc-zero (length xs)) (ap (map command_of) (front_nil x xs))
 
 module _ (r : Reader) (xs : List ℕ) (h : HoldsBytes r xs) where
   read_byte : (t : Bool) (b : ℕ) (bs : List ℕ) → commands_read fresh bs ≡ map command_of (lines_of bs)
       → commands_read (pushed r b) bs ≡ map command_of (front (xs ++ b ∷ []) (lines_of bs))
-      → if t then command_in r ∷ commands_read fresh bs else commands_read (pushed r b) bs ≡ map command_of
-      (front xs (if t then [] ∷ lines_of bs else before b (lines_of bs)))
-  unfolding if◌then◌else◌
+      → when t then command_in r ∷ commands_read fresh bs else commands_read (pushed r b) bs ≡ map command_of
+      (front xs (when t then [] ∷ lines_of bs else before b (lines_of bs)))
+  unfolding when◌then◌else◌
   read_byte true b bs e f = rw (front_line xs (lines_of bs), means r xs h, e)
   read_byte false b bs e f = f ∙ ap (map command_of) (front_end xs b (lines_of bs))
 

@@ -3,7 +3,7 @@
 -- decimal." 02, No. 1: "the line is `P w account amount`". Rests on the commands of a letter and fields, specs/Commands
 -- of crate commands.
 use Rattle.std.specs.Prelude.{ℕ, suc, List, [], ◌∷◌, eqb}
-use Rattle.machine.specs.Choice.{if◌then◌else◌}
+use Rattle.machine.specs.Choice.{when◌then◌else◌}
 use Rattle.decimals.specs.Ascii.{line_feed, space}
 use Rattle.numerals.specs.Cut.{parts_at}
 use Rattle.commands.specs.declared.Command.{Command}
@@ -23,7 +23,7 @@ fields_of line = parts_at space ([] ∷ []) line
 -- how long the first field is
 unfoldable pub first_field : List ℕ → ℕ
 first_field [] = 0
-first_field (b ∷ bs) = if eqb b space then 0 else suc (first_field bs)
+first_field (b ∷ bs) = when eqb b space then 0 else suc (first_field bs)
 
 -- the letter that a field is, or 0, which is none
 unfoldable pub letter_of : List ℕ → ℕ

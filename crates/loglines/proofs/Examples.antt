@@ -2,7 +2,7 @@
 use mathlib.Core.Path.{◌≡◌, refl}
 use mathlib.Core.List.{[], ◌∷◌}
 use Rattle.interface.specs.Numbers.{bytes, answer_word}
-use Rattle.machine.specs.Choice.{if◌then◌else◌, ◌and◌}
+use Rattle.machine.specs.Choice.{when◌then◌else◌, ◌and◌}
 use Rattle.decimals.specs.Decimals.{digit, digits, digit_count_up_to, digit_count, decimal}
 use Rattle.numerals.specs.Numerals.{is_digit, digits_after, zero_then, numeral, plus, minus, signed_numeral, up_to, in64, as_pair}
 use Rattle.numerals.specs.Cut.{before, parts_at}
@@ -28,7 +28,7 @@ unfolding Lines.settings_of Lines.settings_line Lines.word_then Lines.each_word 
 lines = tt
 
 unfoldable reading : Unit {0}
-unfolding numbers fields lines if◌then◌else◌ ◌and◌ or_unread read_operations after_settings read_lines
+unfolding numbers fields lines when◌then◌else◌ ◌and◌ or_unread read_operations after_settings read_lines
 reading = tt
 
 -- an insert and a lookup that finds a total below 0, as words of two's complement

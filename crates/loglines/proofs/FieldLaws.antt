@@ -5,7 +5,7 @@ use mathlib.Core.List.{List, ◌∷◌}
 use mathlib.Core.Option.{some}
 use Rattle.interface.specs.Numbers.{answer_word, answer_number}
 use Rattle.interface.specs.declared.Answer.{Answer}
-use Rattle.machine.specs.Choice.{if◌then◌else◌}
+use Rattle.machine.specs.Choice.{when◌then◌else◌}
 use Rattle.machine.proofs.laws.Base.{if_ap}
 use Rattle.numerals.specs.declared.Number.{Number}
 use Rattle.numerals.specs.declared.Number.TheVariants.{Value}
@@ -16,7 +16,7 @@ use Rattle.loglines.specs.Fields.{number_among}
 
 -- an answer's word before those of others
 pub answer_first : (f : List ℕ) (a : Answer) (answers : List Answer) {rest r : Number}
-    → r ≡ if same_numbers f (answer_word a) then Value (answer_base + answer_number a) else rest → rest ≡ as_number (number_among f answers)
+    → r ≡ when same_numbers f (answer_word a) then Value (answer_base + answer_number a) else rest → rest ≡ as_number (number_among f answers)
     → r ≡ as_number (number_among f (a ∷ answers))
 unfolding number_among as_number
 answer_first f a answers e g =

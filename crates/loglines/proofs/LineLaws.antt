@@ -10,7 +10,7 @@ use lib.Dec.{eqb}
 use lib.ListN.{length, take, drop}
 use lib.Seq.{append_snoc, drop-drop}
 use borrow.Author.Tests.{ne_eqb}
-use Rattle.machine.specs.Choice.{if◌then◌else◌}
+use Rattle.machine.specs.Choice.{when◌then◌else◌}
 use Rattle.machine.proofs.laws.Base.{if_same}
 use Rattle.numerals.specs.Numerals.{as_pair}
 use Rattle.numerals.specs.declared.Pair.TheVariants.{Nothing}
@@ -51,12 +51,12 @@ no_word_yet l = rw (zero-add (length (fields_of l)), ← behind_nothing (each_wo
 
 -- the last field before the eighth
 pub too_few : (ws : List ℕ) (k : ℕ) (l : List ℕ) → k < 7 → length l ≤ first_field l → none ≡ operation_from ws k (fields_of l)
-unfolding operation_from if◌then◌else◌
+unfolding operation_from when◌then◌else◌
 too_few ws k l h j = rw (one-field l j, ne_eqb (k + 1) 8 (λ e. omega arith))
 
 -- a space behind the eighth
 pub too_many : (ws l : List ℕ) → first_field l < length l → none ≡ operation_from ws 7 (fields_of l)
-unfolding operation_from if◌then◌else◌
+unfolding operation_from when◌then◌else◌
 too_many ws l h =
     let rest = some_field (drop (first_field l + 1) l) in
     rw (more_fields l (first_field l) refl h, rest.2, ne_eqb (7 + suc (suc (length rest.1))) 8 (λ e. omega arith))
@@ -96,7 +96,7 @@ module _ (ws l : List ℕ) (from k n : ℕ) (e : n ≡ first_field (drop from l)
 -- the eighth
 pub last_read : (ws l : List ℕ) (w : ℕ) → length l ≤ first_field l → field_word 7 l ≡ some w
     → some (ws ++ w ∷ []) ≡ operation_from ws 7 (fields_of l)
-unfolding operation_from each_word word_then behind if◌then◌else◌
+unfolding operation_from each_word word_then behind when◌then◌else◌
 last_read ws l w h e = rw (one-field l h, e)
 
 pub last_unread : (ws l : List ℕ) → length l ≤ first_field l → field_word 7 l ≡ none → none ≡ operation_from ws 7 (fields_of l)

@@ -11,7 +11,7 @@ use lib.Dec.{leb}
 use lib.ListN.{length, take, drop, length-append}
 use lib.Seq.{length-take-le, take_all, take_at, take-append-le}
 use borrow.Author.Tests.{eq-eqb, ne_eqb, lt-ltb, le-ltb, leb-true, leb-false}
-use Rattle.machine.specs.Choice.{if◌then◌else◌}
+use Rattle.machine.specs.Choice.{when◌then◌else◌}
 use Rattle.lists.specs.Parts.{overlay}
 use Rattle.lists.proofs.PartLaws.{length_overlay}
 use Rattle.numerals.specs.declared.Pair.{Pair}
@@ -27,26 +27,26 @@ use Rattle.loglines.proofs.Streaming.{all_lines}
 
 module _ (p : Progress) (l : List ℕ) where
   pub past_bad : p.bad ≡ true → p ≡ with_line p l
-  unfolding with_line if◌then◌else◌
+  unfolding with_line when◌then◌else◌
   past_bad e = rw e
 
   pub first_line : p.bad ≡ false → p.lines ≡ 0 → with_settings p (settings_line l) ≡ with_line p l
-  unfolding with_line if◌then◌else◌
+  unfolding with_line when◌then◌else◌
   first_line e f = rw (e, eq-eqb p.lines 0 f)
 
   pub later_line : p.bad ≡ false → (p.lines ≡ 0 → ⊥) → with_operation p (operation_line l) ≡ with_line p l
-  unfolding with_line if◌then◌else◌
+  unfolding with_line when◌then◌else◌
   later_line e f = rw (e, ne_eqb p.lines 0 f)
 
 -- ---- what was read
 
 module _ (p : Progress) where
   pub some_unread : (n : ℕ) → n ≡ first_unread p → 0 < n → read_so_far p ≡ unread n
-  unfolding read_so_far if◌then◌else◌
+  unfolding read_so_far when◌then◌else◌
   some_unread n e h = rw (← e, lt-ltb 0 n h)
 
   pub none_unread : (n : ℕ) → n ≡ first_unread p → n ≤ 0 → read_so_far p ≡ kept_log p
-  unfolding read_so_far if◌then◌else◌
+  unfolding read_so_far when◌then◌else◌
   none_unread n e h = rw (← e, le-ltb 0 n h)
 
 -- ---- operations kept
@@ -98,11 +98,11 @@ module _ (k : Kept) (ws xs : List ℕ) (h : Keeps k ws) (e : length xs ≡ opera
       by false f = let m = leb-false (length ws) kept_words f in omega arith
 
   keeps_next : Keeps (kept_with k xs) (ws ++ xs)
-  unfolding kept_with if◌then◌else◌
+  unfolding kept_with when◌then◌else◌
   keeps_next = by (leb (k.filled + operation_words) kept_words) refl
     where
       by : (t : Bool) → leb (k.filled + operation_words) kept_words ≡ t
-          → Keeps (if t then record { filled = k.filled + operation_words; words = overlay k.words k.filled xs } else k) (ws ++ xs)
+          → Keeps (when t then record { filled = k.filled + operation_words; words = overlay k.words k.filled xs } else k) (ws ++ xs)
       by true f =
           let j = leb-true (k.filled + operation_words) kept_words f in
           let a = all_kept j in
@@ -139,13 +139,13 @@ bad_stays p [] e = refl
 bad_stays p (l ∷ ls) e = ap (λ (q : Progress). all_lines q ls) (sym (past_bad p l e)) ∙ bad_stays p ls e
 
 bad_read : (p : Progress) (ls : List (List ℕ)) (n : ℕ) → p.bad ≡ true → p.lines ≡ suc n → read_so_far (all_lines p ls) ≡ unread (suc n)
-unfolding first_unread if◌then◌else◌
+unfolding first_unread when◌then◌else◌
 bad_read p ls n e f =
     ap read_so_far (bad_stays p ls e)
     ∙ some_unread p (suc n) (sym (rw (ne_eqb p.lines 0 (λ z. omega arith), e) f)) (omega arith)
 
 line_after : (n : ℕ) → n < greatest_word → next_line n ≡ suc n
-unfolding next_line if◌then◌else◌
+unfolding next_line when◌then◌else◌
 line_after n h = rw (lt-ltb n greatest_word h) (add-one n)
 
 -- so many good lines were read, and the operations' words are ws
@@ -155,7 +155,7 @@ record Reads (p : Progress) (n : ℕ) (ws : List ℕ) : Type 0 where
   keeps : Keeps p.kept ws
 
 all_read : (p : Progress) (n : ℕ) (ws : List ℕ) → Reads p n ws → read_so_far p ≡ kept_of (log p.capacity p.depth ws)
-unfolding first_unread kept_log kept_of if◌then◌else◌
+unfolding first_unread kept_log kept_of when◌then◌else◌
 all_read p n ws r =
     none_unread p 0 (sym (rw (ne_eqb p.lines 0 (λ z. omega (arith, r.lines)), r.good))) (omega arith)
     ∙ ap (log p.capacity p.depth) r.keeps.kept
@@ -182,7 +182,7 @@ operations_read p n ws (l ∷ ls) r h =
         (record { good = refl; lines = line; keeps = keeps_next p.kept ws xs r.keeps (eight_words l xs e) })
 
 pub lines_kept : (ls : List (List ℕ)) → length ls ≤ greatest_word → read_so_far (all_lines start ls) ≡ kept_of (read_lines ls)
-unfolding read_lines after_settings all_lines start with_settings first_unread kept_of if◌then◌else◌
+unfolding read_lines after_settings all_lines start with_settings first_unread kept_of when◌then◌else◌
 lines_kept [] h = some_unread start 1 refl (omega arith)
 lines_kept (l ∷ ls) h =
     ap (λ (q : Progress). read_so_far (all_lines q ls)) (sym (first_line start l refl refl)) ∙ by (settings_line l)

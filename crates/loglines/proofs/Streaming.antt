@@ -10,7 +10,7 @@ use lib.Dec.{leb, ltb, eqb, eqb-suc-zero}
 use lib.ListN.{length, take, drop, get_or, set, drop_of_length-le, length-append, length-set}
 use lib.Seq.{drop-cons, length-take-le, take_all, take-suc-set, take-append-le}
 use borrow.Author.Tests.{lt-ltb, le-ltb, leb-true, leb-false, ltb-true, ltb-false, ne_eqb}
-use Rattle.machine.specs.Choice.{if◌then◌else◌}
+use Rattle.machine.specs.Choice.{when◌then◌else◌}
 use Rattle.decimals.specs.Ascii.{line_feed}
 use Rattle.numerals.specs.Cut.{before, parts_at}
 use Rattle.lines.specs.Grammar.{lines_of}
@@ -68,14 +68,14 @@ module _ (l : Line) (xs : List ℕ) (h : HoldsBytes l xs) where
       omega (arith, length-take-le l.len l.bytes (omega (arith, h.room, h.len)))
 
   holds_pushed : (b : ℕ) → HoldsBytes (pushed l b) (xs ++ b ∷ [])
-  unfolding pushed if◌then◌else◌
+  unfolding pushed when◌then◌else◌
   holds_pushed b = by (ltb (length xs) line_room) refl
     where
       more : length (xs ++ b ∷ []) ≡ suc (length xs)
       more = length-append xs (b ∷ []) ∙ add-one (length xs)
 
       by : (t : Bool) → ltb (length xs) line_room ≡ t
-          → HoldsBytes (if ltb l.len line_room then record { bytes = set l.bytes l.len b; len = l.len + 1 } else l) (xs ++ b ∷ [])
+          → HoldsBytes (when ltb l.len line_room then record { bytes = set l.bytes l.len b; len = l.len + 1 } else l) (xs ++ b ∷ [])
       by true e =
           let k = ltb-true (length xs) line_room e in
           let n = all_kept (omega arith) in
@@ -127,8 +127,8 @@ all_lines p [] = p
 all_lines p (l ∷ ls) = all_lines (with_line p l) ls
 
 -- the line read so far, if it has a byte
-at_end : (p : Progress) (xs : List ℕ) → if eqb (length xs) 0 then p else with_line p xs ≡ all_lines p (front xs [])
-unfolding front all_lines if◌then◌else◌
+at_end : (p : Progress) (xs : List ℕ) → when eqb (length xs) 0 then p else with_line p xs ≡ all_lines p (front xs [])
+unfolding front all_lines when◌then◌else◌
 at_end p [] = refl
 at_end p (x ∷ xs) = rw (eqb-suc-zero (length xs)) (ap (all_lines p) (sym (front_nil x xs)))
 
@@ -141,9 +141,9 @@ module _ (l : Line) (xs : List ℕ) (h : HoldsBytes l xs) (p : Progress) where
       → ended (fed (record { line = no_line; progress = with_line p (line_in l) }) bs) ≡ all_lines (with_line p (line_in l)) (lines_of bs)
       → ended (fed (record { line = pushed l b; progress = p }) bs) ≡ all_lines p (front (xs ++ b ∷ []) (lines_of bs))
       → ended
-      (fed (if t then record { line = no_line; progress = with_line p (line_in l) } else record { line = pushed l b; progress = p }) bs)
-      ≡ all_lines p (front xs (if t then [] ∷ lines_of bs else before b (lines_of bs)))
-  unfolding if◌then◌else◌ all_lines
+      (fed (when t then record { line = no_line; progress = with_line p (line_in l) } else record { line = pushed l b; progress = p }) bs)
+      ≡ all_lines p (front xs (when t then [] ∷ lines_of bs else before b (lines_of bs)))
+  unfolding when◌then◌else◌ all_lines
   read_byte true b bs e f =
       e ∙ ap (λ (q : Progress). all_lines q (lines_of bs)) (means l xs h p) ∙ ap (all_lines p) (sym (front_line xs (lines_of bs)))
   read_byte false b bs e f = f ∙ ap (all_lines p) (front_end xs b (lines_of bs))
@@ -163,8 +163,8 @@ lines_read parts = ap ended (fed_parts begin parts) ∙ read_on no_line [] (join
 
 -- ---- how many lines there are
 
-one_more : (t : Bool) (b : ℕ) (ls : List (List ℕ)) → length (if t then [] ∷ ls else before b ls) ≤ suc (length ls)
-unfolding if◌then◌else◌ before
+one_more : (t : Bool) (b : ℕ) (ls : List (List ℕ)) → length (when t then [] ∷ ls else before b ls) ≤ suc (length ls)
+unfolding when◌then◌else◌ before
 one_more true b ls = omega arith
 one_more false b [] = omega arith
 one_more false b (l ∷ ls) = omega arith

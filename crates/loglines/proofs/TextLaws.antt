@@ -11,7 +11,7 @@ use borrow.Author.Tests.{le-leb, lt-ltb, le-ltb}
 use Rattle.interface.specs.Numbers.{bytes, number_of}
 use Rattle.interface.specs.declared.Refusal.{Refusal}
 use Rattle.interface.specs.declared.Refusal.TheVariants.{Settings, Short, Stranger, Busy, Idle, Kind, Spent, Strange, Narrow, BadLog}
-use Rattle.machine.specs.Choice.{if◌then◌else◌}
+use Rattle.machine.specs.Choice.{when◌then◌else◌}
 use Rattle.machine.proofs.laws.Base.{if_true, if_false}
 use Rattle.lists.specs.Parts.{overlay}
 use Rattle.lists.proofs.PartLaws.{length_overlay}
@@ -30,11 +30,11 @@ use Rattle.loglines.specs.Feeding.{text_room, printed, concluded}
 
 module _ {l xs after : List ℕ} {at r : ℕ} (w : Wrote l at xs r after) (h : at + length xs ≤ length l) where
   pub wrote_count : r ≡ length xs
-  unfolding fits if◌then◌else◌
+  unfolding fits when◌then◌else◌
   wrote_count = rw (le-leb (at + length xs) (length l) h) at w.count
 
   pub wrote_text : after ≡ overlay l at xs
-  unfolding fits if◌then◌else◌
+  unfolding fits when◌then◌else◌
   wrote_text = rw (le-leb (at + length xs) (length l) h) at w.buffer
 
 module _ (l xs : List ℕ) {after : List ℕ} {r : ℕ} where

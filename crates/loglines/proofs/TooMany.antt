@@ -14,7 +14,7 @@ use Rattle.interface.specs.Limits.{least_workers, in_range}
 use Rattle.interface.specs.declared.Refusal.{Refusal}
 use Rattle.interface.specs.declared.Refusal.TheVariants.{Settings, BadLog}
 use Rattle.interface.specs.declared.Verdict.TheVariants.{Accepted, Refused}
-use Rattle.machine.specs.Choice.{if◌then◌else◌}
+use Rattle.machine.specs.Choice.{when◌then◌else◌}
 use Rattle.machine.proofs.laws.Base.{if_ap}
 use Rattle.logs.specs.Log.{operation_words, greatest_operations, count_of}
 use Rattle.logs.specs.Judging.{refusal, check_log_words}
@@ -31,10 +31,10 @@ count_taken l n h = rw (length-take-le n l h)
 
 -- what more than 12 are refused by: the settings, where they are out of range, or bad log
 abbrev many_refusal : ℕ → ℕ → Refusal
-many_refusal b M = if not (in_range least_workers b M) then Settings else BadLog
+many_refusal b M = when not (in_range least_workers b M) then Settings else BadLog
 
 many_refused : (l : List ℕ) (b M places : ℕ) → greatest_operations < count_of l → refusal l b M places ≡ some (many_refusal b M)
-unfolding refusal if◌then◌else◌
+unfolding refusal when◌then◌else◌
 many_refused l b M places h = rw (no_log l h) (sym (if_ap some (not (in_range least_workers b M)) Settings BadLog))
 
 -- an accepted log has no more than 12

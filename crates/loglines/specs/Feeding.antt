@@ -2,7 +2,7 @@
 -- asks for. Rests on specs/Inputs and specs/Holding.
 use Rattle.std.specs.Prelude.{ℕ, ◌^◌, ◌≤◌, ◌<◌, ◌≡◌, List, [], ◌∷◌, ◌++◌, ltb, length}
 use Rattle.lists.specs.Parts.{overlay}
-use Rattle.machine.specs.Choice.{if◌then◌else◌}
+use Rattle.machine.specs.Choice.{when◌then◌else◌}
 use Rattle.loglines.specs.declared.progress.Feeding.{Feeding}
 use Rattle.loglines.specs.Inputs.{input_text, judge_text}
 use Rattle.loglines.specs.Holding.{read_so_far, begin, fed, ended}
@@ -18,7 +18,7 @@ printed out text = (overlay out 0 text, length text)
 -- what the end of the input leaves of the output, and how many bytes are printed: none where any text might lack room
 unfoldable pub concluded : Feeding → List ℕ → List ℕ × ℕ
 concluded f out =
-    if ltb (length out) text_room then (out, 0) else printed out (input_text (read_so_far (ended f)))
+    when ltb (length out) text_room then (out, 0) else printed out (input_text (read_so_far (ended f)))
 
 -- the parts one after the other
 unfoldable pub joined : List (List ℕ) → List ℕ

@@ -8,7 +8,7 @@ use Rattle.std.proofs.Common.{of_z}
 use Rattle.interface.specs.Numbers.{answer_word, answer_number}
 use Rattle.interface.specs.declared.Answer.{Answer}
 use Rattle.interface.specs.declared.Answer.TheVariants.{Added, Replaced, Removed, Absent, Found, None, Posted, Crowded, Overrun}
-use Rattle.machine.specs.Choice.{if◌then◌else◌}
+use Rattle.machine.specs.Choice.{when◌then◌else◌}
 use Rattle.numerals.specs.Numerals.{numeral, up_to}
 use Rattle.commands.specs.Commands.{account_of, total_of}
 use Rattle.report.specs.Report.{answer_base}
@@ -30,7 +30,7 @@ as_word (some t) = some (of_z w64 t)
 unfoldable pub number_among : List ℕ → List Answer → Option ℕ
 number_among f [] = none
 number_among f (a ∷ answers) =
-    if same_numbers f (answer_word a) then some (answer_base + answer_number a) else number_among f answers
+    when same_numbers f (answer_word a) then some (answer_base + answer_number a) else number_among f answers
 
 -- each answer once; neither word nor number depends on a total
 unfoldable pub all_answers : List Answer
@@ -46,8 +46,8 @@ answer_named f = number_among f all_answers
 -- the word of the field at k, counted from 0
 unfoldable pub field_word : ℕ → List ℕ → Option ℕ
 field_word k f =
-    if eqb k logged_account then account_of f
-    else if eqb k logged_total then as_word (total_of f)
-    else if eqb k logged_answer then answer_named f
-    else if eqb k logged_answer_total then as_word (total_of f)
+    when eqb k logged_account then account_of f
+    else when eqb k logged_total then as_word (total_of f)
+    else when eqb k logged_answer then answer_named f
+    else when eqb k logged_answer_total then as_word (total_of f)
     else number64 f

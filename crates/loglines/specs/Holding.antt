@@ -1,7 +1,7 @@
 -- What is held of an input so far, after each byte. Rests on specs/Lines, specs/Inputs and the structs of the source.
 use Rattle.std.specs.Prelude.{ℕ, ◌+◌, true, false, List, [], ◌∷◌, leb, ltb, eqb, take, set, replicate}
 use Rattle.std.proofs.Math.Option.{Option, none, some}
-use Rattle.machine.specs.Choice.{if◌then◌else◌}
+use Rattle.machine.specs.Choice.{when◌then◌else◌}
 use Rattle.lists.specs.Parts.{overlay}
 use Rattle.numerals.specs.declared.Pair.{Pair}
 use Rattle.numerals.specs.declared.Pair.TheVariants.{Values, Nothing}
@@ -28,7 +28,7 @@ unfoldable pub no_line : Line
 no_line = record { bytes = replicate line_room 0; len = 0 }
 
 unfoldable pub pushed : Line → ℕ → Line
-pushed l b = if ltb l.len line_room then record { bytes = set l.bytes l.len b; len = l.len + 1 } else l
+pushed l b = when ltb l.len line_room then record { bytes = set l.bytes l.len b; len = l.len + 1 } else l
 
 unfoldable pub line_in : Line → List ℕ
 line_in l = take l.len l.bytes
@@ -44,7 +44,7 @@ none_kept = record { filled = 0; words = replicate kept_words 0 }
 
 unfoldable pub kept_with : Kept → List ℕ → Kept
 kept_with k ws =
-    if leb (k.filled + operation_words) kept_words then record {
+    when leb (k.filled + operation_words) kept_words then record {
       filled = k.filled + operation_words;
       words = overlay k.words k.filled ws;
     }
@@ -54,7 +54,7 @@ kept_with k ws =
 
 -- counted up to the greatest word
 unfoldable pub next_line : ℕ → ℕ
-next_line n = if ltb n greatest_word then n + 1 else n
+next_line n = when ltb n greatest_word then n + 1 else n
 
 unfoldable pub start : Progress
 start = record { lines = 0; bad = false; capacity = 0; depth = 0; kept = none_kept }
@@ -79,13 +79,13 @@ with_operation p (some ws) =
 -- one line more; nothing counts past the first that is bad
 unfoldable pub with_line : Progress → List ℕ → Progress
 with_line p l =
-    if p.bad then p
-    else if eqb p.lines 0 then with_settings p (settings_line l)
+    when p.bad then p
+    else when eqb p.lines 0 then with_settings p (settings_line l)
     else with_operation p (operation_line l)
 
 -- the first line that is none of a log; 0 where each is one
 unfoldable pub first_unread : Progress → ℕ
-first_unread p = if eqb p.lines 0 then 1 else if p.bad then p.lines else 0
+first_unread p = when eqb p.lines 0 then 1 else when p.bad then p.lines else 0
 
 -- the settings and at most kept_words of the operations' words
 unfoldable pub kept_log : Progress → Input
@@ -93,7 +93,7 @@ kept_log p = log p.capacity p.depth (take p.kept.filled p.kept.words)
 
 -- what was read
 unfoldable pub read_so_far : Progress → Input
-read_so_far p = if ltb 0 (first_unread p) then unread (first_unread p) else kept_log p
+read_so_far p = when ltb 0 (first_unread p) then unread (first_unread p) else kept_log p
 
 -- ---- bytes
 
@@ -102,7 +102,7 @@ begin = record { line = no_line; progress = start }
 
 unfoldable pub took : Feeding → ℕ → Feeding
 took f b =
-    if eqb b line_feed then record { line = no_line; progress = with_line f.progress (line_in f.line) }
+    when eqb b line_feed then record { line = no_line; progress = with_line f.progress (line_in f.line) }
     else record { line = pushed f.line b; progress = f.progress }
 
 unfoldable pub fed : Feeding → List ℕ → Feeding
@@ -111,4 +111,4 @@ fed f (b ∷ bs) = fed (took f b) bs
 
 -- at the end of the input, which ends a line that has a byte
 unfoldable pub ended : Feeding → Progress
-ended f = if eqb f.line.len 0 then f.progress else with_line f.progress (line_in f.line)
+ended f = when eqb f.line.len 0 then f.progress else with_line f.progress (line_in f.line)

@@ -2,7 +2,7 @@
 -- one space apart. Rests on specs/Fields and on crate lines' fields.
 use Rattle.std.specs.Prelude.{ℕ, suc, ◌+◌, List, [], ◌∷◌, ◌++◌, eqb, length}
 use Rattle.std.proofs.Math.Option.{Option, none, some}
-use Rattle.machine.specs.Choice.{if◌then◌else◌}
+use Rattle.machine.specs.Choice.{when◌then◌else◌}
 use Rattle.numerals.specs.Numerals.{as_pair}
 use Rattle.numerals.specs.declared.Pair.{Pair}
 use Rattle.numerals.specs.declared.Pair.TheVariants.{Nothing}
@@ -38,7 +38,7 @@ each_word k [] = some []
 each_word k (f ∷ fs) = word_then (field_word k f) (each_word (suc k) fs)
 
 unfoldable pub operation_in : List (List ℕ) → Option (List ℕ)
-operation_in fs = if eqb (length fs) operation_words then each_word 0 fs else none
+operation_in fs = when eqb (length fs) operation_words then each_word 0 fs else none
 
 -- `worker kind account total answer answer-total call end`: the eight words
 unfoldable pub operation_line : List ℕ → Option (List ℕ)
@@ -53,7 +53,7 @@ behind ws (some xs) = some (ws ++ xs)
 
 -- an operation of the words of k fields and of the fields that are left
 unfoldable pub operation_from : List ℕ → ℕ → List (List ℕ) → Option (List ℕ)
-operation_from ws k fs = if eqb (k + length fs) operation_words then behind ws (each_word k fs) else none
+operation_from ws k fs = when eqb (k + length fs) operation_words then behind ws (each_word k fs) else none
 
 unfoldable pub row_of : Row → Option (List ℕ)
-row_of r = if r.read then some r.words else none
+row_of r = when r.read then some r.words else none

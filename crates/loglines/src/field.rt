@@ -2,7 +2,7 @@
 ghost use Rattle.std.specs.Prelude.{◌+◌, ◌≤◌, ◌≡◌};
 ghost use Rattle.interface.specs.Numbers.{answer_number};
 ghost use Rattle.interface.specs.declared.Answer.TheVariants.{Overrun};
-ghost use Rattle.machine.specs.Choice.{if◌then◌else◌};
+ghost use Rattle.machine.specs.Choice.{when◌then◌else◌};
 ghost use Rattle.numerals.specs.declared.Number.TheVariants.{Value};
 ghost use Rattle.numerals.specs.Numerals.{as_number};
 ghost use Rattle.commands.specs.Commands.{total_of};
@@ -71,7 +71,7 @@ fn read_answer(field: &[u8]) -> Number
 // The number of an answer, where the field is its word, or else the rest.
 fn answer_or(field: &[u8], word: &[u8], answer: u64, rest: Number) -> Number
     requires { answer ≤ answer_number Overrun }
-    ensures { result ≡ if same_numbers field.now word.now then Value (answer_base + answer)
+    ensures { result ≡ when same_numbers field.now word.now then Value (answer_base + answer)
         else rest }
 {
     if same(field, word) {

@@ -12,7 +12,7 @@ use Rattle.interface.specs.Limits.{least_workers, in_range}
 use Rattle.interface.specs.declared.Refusal.{Refusal}
 use Rattle.interface.specs.declared.Verdict.{Verdict}
 use Rattle.interface.specs.declared.Verdict.TheVariants.{Accepted, No, Refused}
-use Rattle.machine.specs.Choice.{if◌then◌else◌}
+use Rattle.machine.specs.Choice.{when◌then◌else◌}
 use Rattle.machine.proofs.laws.Base.{none_some, is_false, and_parts}
 use Rattle.logs.specs.Log.{are_log, count_of, is_log, log_of, operation_words, greatest_operations}
 use Rattle.logs.specs.Judging.{order_of, refusal, verdict_on, refused_or, check_log_words, Judged, AllJudged}
@@ -41,12 +41,12 @@ module _ (l : List ℕ) where
 module _ (l : List ℕ) (b M : ℕ) where
   -- a log that passes the checks is one, and its places have room
   pub passes : (places : ℕ) → refusal l b M places ≡ none → (are_log l ≡ true) × (ltb places (count_of l) ≡ false)
-  unfolding refusal if◌then◌else◌
+  unfolding refusal when◌then◌else◌
   passes places = go (in_range least_workers b M) (are_log l) (ltb places (count_of l))
     where
       go :
           (r a w : Bool)
-          → (if not r then some Refusal.Settings else if not a then some Refusal.BadLog else if w then some Refusal.Narrow else none)
+          → (when not r then some Refusal.Settings else when not a then some Refusal.BadLog else when w then some Refusal.Narrow else none)
           ≡ none → (a ≡ true) × (w ≡ false)
       go false a w e = absurd (none_some e refl)
       go true false w e = absurd (none_some e refl)

@@ -6,7 +6,7 @@ use mathlib.Core.Path.{◌≡◌, refl, sym, ap, ◌∙◌, fun_ext}
 use mathlib.Core.Logic.{◌≢◌, by_cases}
 use mathlib.Core.Bool.{Bool, true, false}
 use lib.Dec.{eqb}
-use Rattle.machine.specs.Choice.{if◌then◌else◌, assign}
+use Rattle.machine.specs.Choice.{when◌then◌else◌, assign}
 use Rattle.machine.proofs.laws.Base.{no_both, is_false, below_suc, and_true, and_parts, assign_at, assign_other, assign_elim}
 use Rattle.logs.specs.Log.{all}
 use Rattle.logs.specs.Search.{count_left}
@@ -38,10 +38,10 @@ module _ (left : ℕ → Bool) (i : ℕ) where
 
 -- two taken out in either order
 pub taken_both : (left : ℕ → Bool) (i j : ℕ) → assign (assign left i false) j false ≡ assign (assign left j false) i false
-unfolding assign if◌then◌else◌
+unfolding assign when◌then◌else◌
 taken_both left i j = fun_ext (λ k. same k (eqb k i) (eqb k j))
   where
-    same : (k : ℕ) (x y : Bool) → if y then false else (if x then false else left k) ≡ if x then false else (if y then false else left k)
+    same : (k : ℕ) (x y : Bool) → when y then false else (when x then false else left k) ≡ when x then false else (when y then false else left k)
     same k true true = refl
     same k true false = refl
     same k false true = refl
@@ -56,7 +56,7 @@ left_same (suc n) f g h = rw (h n (omega arith), left_same n f g (λ i l. h i (o
 
 -- one less where one that is left is taken out
 pub left_less : (n : ℕ) (left : ℕ → Bool) (i : ℕ) → i < n → left i ≡ true → count_left n left ≡ suc (count_left n (assign left i false))
-unfolding count_left if◌then◌else◌
+unfolding count_left when◌then◌else◌
 left_less zero left i l e = absurd (omega arith)
 left_less (suc n) left i l e = by_cases (ℕ_discrete i n) here (λ z. there z (left n) refl (left_less n left i (omega arith) e))
   where
@@ -75,14 +75,14 @@ pub none_left : (n : ℕ) (left : ℕ → Bool) → count_left n left ≡ 0 → 
 none_left n left z i l = is_false (left i) (λ e. let k = left_less n left i l e in omega arith)
 
 pub all_taken : (n : ℕ) (left : ℕ → Bool) → ((i : ℕ) → i < n → left i ≡ false) → count_left n left ≡ 0
-unfolding count_left if◌then◌else◌
+unfolding count_left when◌then◌else◌
 all_taken zero left h = refl
 all_taken (suc n) left h = rw (h n (omega arith)) (all_taken n left (λ i l. h i (omega arith)))
 
 -- exactly the first c of n
 pub left_below : (n c : ℕ) (left : ℕ → Bool) → c ≤ n → ((i : ℕ) → i < c → left i ≡ true) → ((i : ℕ) → c ≤ i → i < n → left i ≡ false)
     → count_left n left ≡ c
-unfolding count_left if◌then◌else◌
+unfolding count_left when◌then◌else◌
 left_below zero c left l h k = omega arith
 left_below (suc n) c left l h k =
     by_cases (dec_lt n c)

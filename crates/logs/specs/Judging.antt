@@ -8,7 +8,7 @@ use Rattle.interface.specs.declared.Refusal.{Refusal}
 use Rattle.interface.specs.declared.Verdict.{Verdict}
 use Rattle.interface.specs.declared.Verdict.TheVariants.{Accepted, No, Refused}
 use Rattle.lists.specs.Parts.{overlay}
-use Rattle.machine.specs.Choice.{if◌then◌else◌}
+use Rattle.machine.specs.Choice.{when◌then◌else◌}
 use Rattle.machine.specs.Sequential.{Table}
 use Rattle.logs.specs.Log.{Log, is_log, are_log, count_of, log_of, precedes, greatest_operations}
 use Rattle.logs.specs.Orders.{served_at, Explains}
@@ -52,9 +52,9 @@ AllFirst = (b M : ℕ) (log : Log) → is_log log ≡ true → SearchFindsFirst 
 -- places
 unfoldable pub refusal : List ℕ → ℕ → ℕ → ℕ → Option Refusal
 refusal l b M places =
-    if not (in_range least_workers b M) then some Refusal.Settings
-    else if not (are_log l) then some Refusal.BadLog
-    else if ltb places (count_of l) then some Refusal.Narrow
+    when not (in_range least_workers b M) then some Refusal.Settings
+    else when not (are_log l) then some Refusal.BadLog
+    else when ltb places (count_of l) then some Refusal.Narrow
     else none
 
 -- the list for the order, and the verdict, by what was found

@@ -5,7 +5,7 @@ use Rattle.std.specs.Prelude.{ℕ, zero, suc, ◌+◌, ◌*◌, ◌/◌, ◌%◌
 use Rattle.std.specs.Int.{w64}
 use Rattle.std.proofs.Common.{to_z}
 use Rattle.interface.specs.Numbers.{kind_insert, greatest_kind}
-use Rattle.machine.specs.Choice.{if◌then◌else◌, ◌and◌}
+use Rattle.machine.specs.Choice.{when◌then◌else◌, ◌and◌}
 
 -- ---- logs
 
@@ -111,7 +111,7 @@ precedes x y = ltb x.end y.call
 
 -- not "one worker's operations overlap"
 unfoldable pub in_turn : Logged → Logged → Bool
-in_turn x y = if eqb x.worker y.worker then (if precedes x y then true else precedes y x) else true
+in_turn x y = when eqb x.worker y.worker then (when precedes x y then true else precedes y x) else true
 
 -- each operation is one, and is apart from those of lower places, and in turn with them
 unfoldable pub is_log : Log → Bool

@@ -5,7 +5,7 @@ use Rattle.std.specs.Prelude.{ℕ, ◌+◌, ◌<◌, ◌≡◌, Bool, true, fals
 use Rattle.std.proofs.Math.Option.{Option, none, some}
 use Rattle.interface.specs.Numbers.{answer_number, answer_total}
 use Rattle.interface.specs.declared.Answer.{Answer}
-use Rattle.machine.specs.Choice.{if◌then◌else◌, ◌and◌}
+use Rattle.machine.specs.Choice.{when◌then◌else◌, ◌and◌}
 use Rattle.machine.specs.Sequential.{Table, Operation, serve}
 use Rattle.machine.specs.Calls.{operation_of}
 use Rattle.machine.specs.History.{Member, Distinct}
@@ -31,7 +31,7 @@ gives x r = eqb x.answer (answer_base + answer_number r) and same_total (answer_
 
 -- the table afterwards, where the answer is the one logged
 unfoldable pub after_giving : Logged → Answer × Table → Option Table
-after_giving x r = if gives x r.0 then some r.1 else none
+after_giving x r = when gives x r.0 then some r.1 else none
 
 -- the plain table, with b and M, fed a logged operation: the table afterwards, where it gives the answer logged
 unfoldable pub served_if : ℕ → ℕ → Logged → Table → Option Operation → Option Table

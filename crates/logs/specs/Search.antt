@@ -3,7 +3,7 @@
 -- trying lowest place first". Rests on the test of all numbers below one, specs/Log, and on specs/Comparing.
 use Rattle.std.specs.Prelude.{ℕ, zero, suc, ◌<◌, ◌≡◌, Bool, true, false, not, List, [], ◌∷◌, ltb}
 use Rattle.std.proofs.Math.Option.{Option, none, some}
-use Rattle.machine.specs.Choice.{if◌then◌else◌, ◌and◌, assign}
+use Rattle.machine.specs.Choice.{when◌then◌else◌, ◌and◌, assign}
 use Rattle.logs.specs.Log.{all}
 use Rattle.logs.specs.Comparing.{NotAfter}
 
@@ -20,7 +20,7 @@ or_else (some o) later = some o
 -- how many of the first n are left
 unfoldable pub count_left : ℕ → (ℕ → Bool) → ℕ
 count_left zero left = 0
-count_left (suc n) left = if left n then suc (count_left n left) else count_left n left
+count_left (suc n) left = when left n then suc (count_left n left) else count_left n left
 
 -- Places are below n; `fits` is the table after the operation at a place, where the table gives its answer; `earlier`
 -- says that an operation was answered before another's call.
@@ -45,7 +45,7 @@ module _ (T : Type 0) (n : ℕ) (fits : T → ℕ → Option T) (earlier : ℕ �
 
   -- the table after the operation at i, where it is left, ready and fits
   unfoldable pub opened : (ℕ → Bool) → T → ℕ → Option T
-  opened left t i = if left i and ready left i then fits t i else none
+  opened left t i = when left i and ready left i then fits t i else none
 
   -- k places from i on, the lowest first
   unfoldable pub tries : ((ℕ → Bool) → T → Option (List ℕ)) → (ℕ → Bool) → T → ℕ → ℕ → Option (List ℕ)
@@ -78,14 +78,14 @@ module _ (T : Type 0) (n : ℕ) (fits : T → ℕ → Option T) (earlier : ℕ �
     -- order was tried before.
     unfoldable pub unless_exchanged : T → ℕ → ℕ → Option T → Option T
     unless_exchanged t₀ last i none = none
-    unless_exchanged t₀ last i (some t₂) = if ltb i last and exchanged t₀ last t₂ i then none else some t₂
+    unless_exchanged t₀ last i (some t₂) = when ltb i last and exchanged t₀ last t₂ i then none else some t₂
 
     unfoldable pub candidate : T → ℕ → (ℕ → Bool) → T → ℕ → Option T
     candidate t₀ last left t i = unless_exchanged t₀ last i (opened left t i)
 
     -- Cut 2: where an operation that leaves every table as it is fits and leads to no order, none does.
     unfoldable pub unless_still : ℕ → Option (List ℕ) → Option (List ℕ) → Option (List ℕ)
-    unless_still i none later = if still i then none else later
+    unless_still i none later = when still i then none else later
     unless_still i (some o) later = some (i ∷ o)
 
     unfoldable pub cut_begun :

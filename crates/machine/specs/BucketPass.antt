@@ -5,7 +5,7 @@ use Rattle.std.specs.Bool.{xor}
 use Rattle.std.proofs.Math.Option.{Option, none, some}
 use Rattle.interface.specs.declared.Settings.{Settings}
 use Rattle.interface.specs.declared.Answer.{Answer}
-use Rattle.machine.specs.Choice.{if◌then◌else◌, ◌and◌, assign}
+use Rattle.machine.specs.Choice.{when◌then◌else◌, ◌and◌, assign}
 use Rattle.machine.specs.Sequential.{Update, tried}
 use Rattle.machine.specs.Records.{Body, State, Slot, empty, announced}
 
@@ -47,7 +47,7 @@ pending x toggle j t = xor (toggle j) (x.applied j) and not (settled_at x.body j
 unfoldable pub help : Settings → ℕ → State → (ℕ → Bool) → ℕ → Slot → Body → Body
 help s d x toggle j empty copy = copy
 help s d x toggle j (announced u t) copy =
-    if pending x toggle j t and not (holds_back s d copy) then carry_out s j u t copy else copy
+    when pending x toggle j t and not (holds_back s d copy) then carry_out s j u t copy else copy
 
 -- the private copy once the workers below n have been helped, in worker order
 unfoldable pub helped : Settings → ℕ → State → (ℕ → Bool) → (ℕ → Slot) → ℕ → Body
@@ -62,4 +62,4 @@ next_state s d x toggle slots = record { body = helped s d x toggle slots s.work
 
 -- "The checks then answer only from settled tickets": worker j, its ticket t.
 unfoldable pub checked : ℕ → ℕ → Body → Option Answer
-checked j t x = if settled_at x j t then some (x.settled j).answer else none
+checked j t x = when settled_at x j t then some (x.settled j).answer else none

@@ -1,7 +1,7 @@
 -- A marker: a declaration that says `unfolding computing` computes with every definition of the machine and the script.
 use Rattle.std.proofs.Math.Bool.{xor}
 use Rattle.interface.specs.Limits.{within, in_range, built}
-use Rattle.machine.specs.Choice.{if◌then◌else◌, ◌and◌, assign}
+use Rattle.machine.specs.Choice.{when◌then◌else◌, ◌and◌, assign}
 use Rattle.machine.specs.Sequential.{place, account_at, first_bits, find, put, remove, having, present, total_or0, is_total, sum, result, changed, looked, creates, tried, crowds, serve}
 use Rattle.machine.specs.Records.{same, bucket_of, new_bucket, first_directory, first_cells, no_reads, opened}
 use Rattle.machine.specs.BucketPass.{full, splittable, holds_back, settled_at, carry_out, pending, help, helped, next_state, checked}
@@ -13,7 +13,7 @@ use Rattle.machine.specs.Calls.{opening_of, opening, operation_of, spent, ticket
 use Rattle.machine.specs.Script.{opening_response, call_response, listing_response, steps, response_to, run_from, run, memory_after}
 
 unfoldable pub computing : Unit {0}
-unfolding xor within in_range built if◌then◌else◌ ◌and◌ assign place account_at first_bits find put remove having present
+unfolding xor within in_range built when◌then◌else◌ ◌and◌ assign place account_at first_bits find put remove having present
     total_or0 is_total sum result changed looked creates tried crowds serve same bucket_of new_bucket first_directory
     first_cells no_reads opened full splittable holds_back settled_at carry_out pending help helped next_state checked copy_of
     leaf_of replace_leaf doubled deepened child half replace_half split split_leaf split_while carry_leaf take_update take_slot

@@ -3,7 +3,7 @@
 use Rattle.std.specs.Prelude.{ℕ, zero, suc, ◌+◌, ◌*◌, ◌-◌, ◌/◌, ◌^◌, not, ltb, eqb}
 use Rattle.std.proofs.Math.Option.{Option, none, some}
 use Rattle.interface.specs.declared.Settings.{Settings}
-use Rattle.machine.specs.Choice.{if◌then◌else◌, ◌and◌}
+use Rattle.machine.specs.Choice.{when◌then◌else◌, ◌and◌}
 use Rattle.machine.specs.Sequential.{Update, account, first_bits, having}
 use Rattle.machine.specs.Records.{Name, same, Body, Directory, Leaf, kept, made, Copy, Slot, empty, announced}
 use Rattle.machine.specs.BucketPass.{holds_back, splittable, settled_at, carry_out}
@@ -27,7 +27,7 @@ unfoldable pub replace_leaf : Name → Leaf → Copy → Copy
 replace_leaf x l c =
     record {
       depth = c.depth;
-      leaves = λ e. if eqb (e / 2 ^ (c.depth - x.depth)) x.prefix then l else c.leaves e;
+      leaves = λ e. when eqb (e / 2 ^ (c.depth - x.depth)) x.prefix then l else c.leaves e;
     }
 
 -- the same buckets in a directory of twice the entries
@@ -36,7 +36,7 @@ doubled c = record { depth = suc c.depth; leaves = λ e. c.leaves (e / 2) }
 
 -- "The directory doubles when d+1 exceeds its depth."
 unfoldable pub deepened : ℕ → Copy → Copy
-deepened d c = if ltb c.depth d then doubled c else c
+deepened d c = when ltb c.depth d then doubled c else c
 
 -- a bucket's two halves have one bit more, i
 unfoldable pub child : Name → ℕ → Name
@@ -56,7 +56,7 @@ split x b c = replace_half (child x 1) b (replace_half (child x 0) b (deepened (
 -- a bucket made in this round is split where it is full and below depth M
 unfoldable pub split_leaf : Settings → Copy → Leaf → Copy
 split_leaf s c (kept x) = c
-split_leaf s c (made x b) = if splittable s x.depth b then split x b c else c
+split_leaf s c (made x b) = when splittable s x.depth b then split x b c else c
 
 -- "its bucket is split while full and below depth M": at most as often as the first number says
 unfoldable pub split_while : Settings → ℕ → ℕ → Copy → Copy
@@ -68,7 +68,7 @@ split_while s (suc f) a c = split_while s f a (split_leaf s c (leaf_of c a))
 -- the update is carried out in the bucket that it belongs to then, unless this holds it back
 unfoldable pub carry_leaf : Settings → ℕ → Update → ℕ → Copy → Leaf → Copy
 carry_leaf s j u t c (kept x) = c
-carry_leaf s j u t c (made x b) = if holds_back s x.depth b then c else replace_leaf x (made x (carry_out s j u t b)) c
+carry_leaf s j u t c (made x b) = when holds_back s x.depth b then c else replace_leaf x (made x (carry_out s j u t b)) c
 
 unfoldable pub take_update : Settings → ℕ → Update → ℕ → Copy → Copy
 take_update s j u t c =
@@ -79,7 +79,7 @@ take_update s j u t c =
 unfoldable pub take_slot : Settings → Name → Body → ℕ → Slot → Copy → Copy
 take_slot s x b j empty c = c
 take_slot s x b j (announced u t) c =
-    if eqb (first_bits x.depth (account u)) x.prefix and not (settled_at b j t) then take_update s j u t c else c
+    when eqb (first_bits x.depth (account u)) x.prefix and not (settled_at b j t) then take_update s j u t c else c
 
 -- the slots of the workers below n, "in worker order"
 unfoldable pub take_slots : Settings → Name → Body → (ℕ → Slot) → ℕ → Copy → Copy
@@ -91,7 +91,7 @@ take_slots s x b slots (suc j) c = take_slot s x b j (slots j) (take_slots s x b
 -- .. is taken"
 unfoldable pub resize : Settings → (ℕ → Slot) → ℕ → ℕ → Name → Body → Copy → Copy
 resize s slots i t x b c =
-    if splittable s x.depth b and not (settled_at b i t)
+    when splittable s x.depth b and not (settled_at b i t)
     then take_slots s x b slots s.workers (replace_leaf x (made x b) c) else c
 
 -- ---- the swap
@@ -101,7 +101,7 @@ directory_of c = record { depth = c.depth; entries = λ e. name_of (c.leaves e) 
 
 abbrev pub body_if : Name → Leaf → Option Body
 body_if x (kept y) = none
-body_if x (made y b) = if same y x then some b else none
+body_if x (made y b) = when same y x then some b else none
 
 -- the body of bucket x, if it was made in this round; its first entry is its prefix followed by zeros
 unfoldable pub body_made : Copy → Name → Option Body

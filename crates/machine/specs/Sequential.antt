@@ -5,7 +5,7 @@ use Rattle.std.proofs.Math.Option.{Option, none, some}
 use Rattle.std.specs.Int.Signed.{le_z}
 use Rattle.interface.specs.declared.Answer.{Answer}
 use Rattle.interface.specs.declared.Answer.TheVariants.{Added, Replaced, Removed, Absent, Found, None, Posted, Crowded, Overrun}
-use Rattle.machine.specs.Choice.{if◌then◌else◌, ◌and◌}
+use Rattle.machine.specs.Choice.{when◌then◌else◌, ◌and◌}
 
 -- ---- operations
 
@@ -56,22 +56,22 @@ Table = List (ℕ × ℤ)
 -- the account's total, if the account is there
 unfoldable pub find : Table → ℕ → Option ℤ
 find [] a = none
-find (e ∷ t) a = if eqb e.0 a then some e.1 else find t a
+find (e ∷ t) a = when eqb e.0 a then some e.1 else find t a
 
 -- the table with the account's total set
 unfoldable pub put : Table → ℕ → ℤ → Table
 put [] a v = (a, v) ∷ []
-put (e ∷ t) a v = if ltb a e.0 then (a, v) ∷ e ∷ t else if eqb a e.0 then (a, v) ∷ t else e ∷ put t a v
+put (e ∷ t) a v = when ltb a e.0 then (a, v) ∷ e ∷ t else when eqb a e.0 then (a, v) ∷ t else e ∷ put t a v
 
 -- the table without the account
 unfoldable pub remove : Table → ℕ → Table
 remove [] a = []
-remove (e ∷ t) a = if eqb e.0 a then t else e ∷ remove t a
+remove (e ∷ t) a = when eqb e.0 a then t else e ∷ remove t a
 
 -- the accounts whose first d bits are q
 unfoldable pub having : ℕ → ℕ → Table → Table
 having d q [] = []
-having d q (e ∷ t) = if eqb (first_bits d e.0) q then e ∷ having d q t else having d q t
+having d q (e ∷ t) = when eqb (first_bits d e.0) q then e ∷ having d q t else having d q t
 
 -- ---- what an update does where there is room for it
 
@@ -104,14 +104,14 @@ sum t a v = total_or0 (find t a) +ℤ v
 unfoldable pub result : Update → Table → Answer
 result (insert a v) t = present (find t a) Replaced Added
 result (delete a) t = present (find t a) Removed Absent
-result (post a v) t = if is_total (sum t a v) then Posted (sum t a v) else Overrun
+result (post a v) t = when is_total (sum t a v) then Posted (sum t a v) else Overrun
 
 -- "sets the account's total"; "takes the account out, or .. changes nothing"; "an account not there .. is made, also by
 -- an amount of 0"; a sum outside the range "is turned down and the table stays as before"
 unfoldable pub changed : Update → Table → Table
 changed (insert a v) t = put t a v
 changed (delete a) t = remove t a
-changed (post a v) t = if is_total (sum t a v) then put t a (sum t a v) else t
+changed (post a v) t = when is_total (sum t a v) then put t a (sum t a v) else t
 
 -- ---- what the plain table does with one operation
 
@@ -134,7 +134,7 @@ creates (post a v) t = is_none (find t a)
 -- overflow at the greatest depth. "Crowded is left for a new account": "closing or correcting an account must work
 -- however many neighbours it has".
 unfoldable pub tried : Bool → Update → Table → Answer × Table
-tried no_room u t = if no_room and creates u t then (Crowded, t) else (result u t, changed u t)
+tried no_room u t = when no_room and creates u t then (Crowded, t) else (result u t, changed u t)
 
 -- "where b others agree with it in the first M bits"
 unfoldable pub crowds : ℕ → ℕ → ℕ → Table → Bool

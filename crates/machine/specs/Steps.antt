@@ -7,7 +7,7 @@ use Rattle.interface.specs.declared.Settings.{Settings}
 use Rattle.interface.specs.declared.Answer.{Answer}
 use Rattle.interface.specs.declared.Refusal.{Refusal}
 use Rattle.interface.specs.declared.Stepped.{Stepped}
-use Rattle.machine.specs.Choice.{if◌then◌else◌, assign}
+use Rattle.machine.specs.Choice.{when◌then◌else◌, assign}
 use Rattle.machine.specs.Sequential.{Update, Operation, update, lookup, account, find, looked}
 use Rattle.machine.specs.Records.{Name, same, Body, State, Stamped, Bucket, Directory, bucket_of, Leaf, kept, made, Copy, Slot, empty, announced, Cells, Reads, Worker, Machine, new_bucket}
 use Rattle.machine.specs.BucketPass.{next_state, checked}
@@ -95,7 +95,7 @@ slot_reading r i = slot_cell i (λ x. leaving x (with_slot r i x))
 -- The number is the bucket's depth.
 unfoldable pub swapped : Settings → ℕ → Reads → Stamped State → Stamped State
 swapped s d r x =
-    if eqb x.stamp r.state.stamp
+    when eqb x.stamp r.state.stamp
     then record { stamp = suc x.stamp; value = next_state s d r.state.value r.toggle r.slots }
     else x
 
@@ -124,7 +124,7 @@ resizing s r i (announced u t) = leaf_reading s r i t (leaf_of r.copy (account u
 -- "The swap makes the working copy current, changed or not, only if the directory is still the one that was read."
 unfoldable pub redirected : Reads → Stamped Directory → Directed
 redirected r d =
-    if eqb d.stamp r.directory.stamp
+    when eqb d.stamp r.directory.stamp
     then record {
       directory = record { stamp = suc d.stamp; value = directory_of r.copy };
       created = body_made r.copy;
@@ -176,7 +176,7 @@ assign_slot c j x = record { directory = c.directory; slots = assign c.slots j x
 
 unfoldable pub assign_bucket : Cells → Name → Bucket → Cells
 assign_bucket c x v =
-    record { directory = c.directory; slots = c.slots; buckets = λ y. if same y x then v else c.buckets y }
+    record { directory = c.directory; slots = c.slots; buckets = λ y. when same y x then v else c.buckets y }
 
 unfoldable pub assign_state : Cells → Name → Stamped State → Cells
 assign_state c x v = assign_bucket c x (record { state = v; toggle = (c.buckets x).toggle })
@@ -228,4 +228,4 @@ step_of s m j (some o) =
 -- "A step checks 8, 3, 5": the machine and what worker j is answered. 8 is a matter of the memory.
 unfoldable pub step : Settings → Machine → ℕ → Machine × Stepped
 step s m j =
-    if ltb j s.workers then step_of s m j (m.workers j).operation else (m, Stepped.Refused Refusal.Stranger)
+    when ltb j s.workers then step_of s m j (m.workers j).operation else (m, Stepped.Refused Refusal.Stranger)

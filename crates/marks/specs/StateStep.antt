@@ -6,7 +6,7 @@ use Rattle.interface.specs.Numbers.{kind_none}
 use Rattle.interface.specs.declared.Settings.{Settings}
 use Rattle.fields.specs.Fields.{slot_kind, slot_ticket, worker_marks}
 use Rattle.fields.specs.Regions.{read_at}
-use Rattle.machine.specs.Choice.{if◌then◌else◌, ◌and◌}
+use Rattle.machine.specs.Choice.{when◌then◌else◌, ◌and◌}
 use Rattle.layout.specs.Shape.{word}
 use Rattle.layout.specs.Addresses.{marked_at, record_for}
 use Rattle.renumbering.specs.Numbers.{any}
@@ -27,4 +27,4 @@ marks l s p j =
     not (eqb (word l (read_at p j + slot_kind)) kind_none) and splits_at l s p j q and not (found_before l s p j q)
 
 unfoldable pub state_step_at : List ℕ → Settings → ℕ → ℕ → List ℕ
-state_step_at l s p j = if marks l s p j then set l (p + worker_marks) (with_bit (word l (p + worker_marks)) j) else l
+state_step_at l s p j = when marks l s p j then set l (p + worker_marks) (with_bit (word l (p + worker_marks)) j) else l

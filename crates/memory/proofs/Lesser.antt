@@ -5,23 +5,23 @@ use mathlib.Core.Bool.{Bool, true, false}
 use native.Mathlib.Omega.{arith}
 use lib.Dec.{ltb}
 use borrow.Author.Tests.{ltb-true, ltb-false, lt-ltb, le-ltb}
-use Rattle.machine.specs.Choice.{if◌then◌else◌}
+use Rattle.machine.specs.Choice.{when◌then◌else◌}
 use Rattle.memory.specs.Words.{least}
 use Rattle.machine.proofs.laws.Base.{if_true, if_false}
 
 pub least_bound : (a b : ℕ) → least a b ≤ b
-unfolding least if◌then◌else◌
+unfolding least when◌then◌else◌
 least_bound a b = go (ltb a b) refl
   where
-    go : (t : Bool) → ltb a b ≡ t → (if t then a else b) ≤ b
+    go : (t : Bool) → ltb a b ≡ t → (when t then a else b) ≤ b
     go true e = let h = ltb-true a b e in omega arith
     go false e = omega arith
 
 pub least_same : (a b : ℕ) → a ≤ b → least a b ≡ a
-unfolding least if◌then◌else◌
+unfolding least when◌then◌else◌
 least_same a b h = go (ltb a b) refl
   where
-    go : (t : Bool) → ltb a b ≡ t → (if t then a else b) ≡ a
+    go : (t : Bool) → ltb a b ≡ t → (when t then a else b) ≡ a
     go true e = refl
     go false e = let k = ltb-false a b e in omega arith
 

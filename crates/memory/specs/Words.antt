@@ -1,10 +1,10 @@
 -- The lesser of two numbers, and the words with a part of an array stored in them. Rests on overlays.
 use Rattle.std.specs.Prelude.{ℕ, ltb, List, take}
-use Rattle.machine.specs.Choice.{if◌then◌else◌}
+use Rattle.machine.specs.Choice.{when◌then◌else◌}
 use Rattle.lists.specs.Parts.{overlay}
 
 unfoldable pub least : ℕ → ℕ → ℕ
-least a b = if ltb a b then a else b
+least a b = when ltb a b then a else b
 
 -- the words with the first k items of an array at `at`
 unfoldable pub stored : List ℕ → ℕ → List ℕ → ℕ → List ℕ

@@ -11,7 +11,7 @@ use lib.IntN.{ℤ, pos, negsuc}
 use lib.ListN.{length, drop, get_or, drop_of_length-le}
 use lib.Seq.{drop-cons}
 use borrow.Author.Tests.{eq-eqb, ne_eqb, le-leb, lt-leb, leb-true}
-use Rattle.machine.specs.Choice.{if◌then◌else◌, ◌and◌}
+use Rattle.machine.specs.Choice.{when◌then◌else◌, ◌and◌}
 use Rattle.decimals.specs.Ascii.{minus_sign, zero_digit, nine_digit}
 use Rattle.numerals.specs.declared.Number.TheVariants as Number
 use Rattle.numerals.specs.declared.Signed.TheVariants as Signed
@@ -58,11 +58,11 @@ signed_value o v e = rw e
 -- ---- limits
 
 pub up-to : (most v : ℕ) → v ≤ most → up_to most (some v) ≡ some v
-unfolding up_to if◌then◌else◌
+unfolding up_to when◌then◌else◌
 up-to most v h = rw (le-leb v most h)
 
 pub past : (most v : ℕ) → most < v → up_to most (some v) ≡ none
-unfolding up_to if◌then◌else◌
+unfolding up_to when◌then◌else◌
 past most v h = rw (lt-leb v most h)
 
 module _ {A : Type 0} where
@@ -70,8 +70,8 @@ module _ {A : Type 0} where
   some_none {a} e = let z : ◌≡◌ {A = ℕ} 0 1 = cc in omega arith
 
   -- a test that lets something through
-  pub passed : (t : Bool) (o : Option A) (v : A) → if t then o else none ≡ some v → (t ≡ true) × (o ≡ some v)
-  unfolding if◌then◌else◌
+  pub passed : (t : Bool) (o : Option A) (v : A) → when t then o else none ≡ some v → (t ≡ true) × (o ≡ some v)
+  unfolding when◌then◌else◌
   passed true o v e = (refl, e)
   passed false o v e = absurd (some_none (sym e))
 
@@ -100,8 +100,8 @@ pub digit_high : (b : ℕ) → nine_digit < b → is_digit b ≡ false
 unfolding is_digit ◌and◌
 digit_high b h = rw (le-leb zero_digit b (omega arith), lt-leb b nine_digit h)
 
-past_if : (t : Bool) (most : ℕ) (o : Option ℕ) → up_to most o ≡ none → up_to most (if t then o else none) ≡ none
-unfolding up_to if◌then◌else◌
+past_if : (t : Bool) (most : ℕ) (o : Option ℕ) → up_to most o ≡ none → up_to most (when t then o else none) ≡ none
+unfolding up_to when◌then◌else◌
 past_if true most o e = e
 past_if false most o e = refl
 
@@ -115,7 +115,7 @@ stays_past most v (b ∷ bs) h =
 -- one byte of a field, read after those that said v
 module _ (most v : ℕ) (l : List ℕ) (i : ℕ) (h : i < length l) where
   stop : is_digit (get_or l i 0) ≡ false → up_to most (digits_after v (drop i l)) ≡ none
-  unfolding digits_after up_to if◌then◌else◌
+  unfolding digits_after up_to when◌then◌else◌
   stop e = rw (drop-cons l i 0 h, e)
 
   pub stop_low : get_or l i 0 < zero_digit → up_to most (digits_after v (drop i l)) ≡ none
@@ -126,7 +126,7 @@ module _ (most v : ℕ) (l : List ℕ) (i : ℕ) (h : i < length l) where
 
   pub go_on : zero_digit ≤ get_or l i 0 → get_or l i 0 ≤ nine_digit
       → up_to most (digits_after v (drop i l)) ≡ up_to most (digits_after (v * 10 + (get_or l i 0 - zero_digit)) (drop (i + 1) l))
-  unfolding digits_after if◌then◌else◌
+  unfolding digits_after when◌then◌else◌
   go_on j k = rw (drop-cons l i 0 h, digit_yes (get_or l i 0) j k, add-one)
 
   pub stop_large : zero_digit ≤ get_or l i 0 → get_or l i 0 ≤ nine_digit → most < v * 10 + (get_or l i 0 - zero_digit)
@@ -145,19 +145,19 @@ no_bytes [] e = refl
 no_bytes (b ∷ l) e = absurd (omega arith)
 
 pub only_zero : (l : List ℕ) → get_or l 0 0 ≡ zero_digit → length l ≡ 1 → numeral l ≡ some 0
-unfolding numeral zero_then if◌then◌else◌
+unfolding numeral zero_then when◌then◌else◌
 only_zero [] e k = absurd (omega arith)
 only_zero (b ∷ []) e k = rw (eq-eqb b zero_digit e)
 only_zero (b ∷ d ∷ l) e k = absurd (omega arith)
 
 pub leading_zero : (l : List ℕ) → get_or l 0 0 ≡ zero_digit → (length l ≡ 1 → ⊥) → numeral l ≡ none
-unfolding numeral zero_then if◌then◌else◌
+unfolding numeral zero_then when◌then◌else◌
 leading_zero [] e k = refl
 leading_zero (b ∷ []) e k = absurd (k refl)
 leading_zero (b ∷ d ∷ l) e k = rw (eq-eqb b zero_digit e)
 
 pub no_leading_zero : (l : List ℕ) → 0 < length l → (get_or l 0 0 ≡ zero_digit → ⊥) → numeral l ≡ digits_after 0 l
-unfolding numeral if◌then◌else◌
+unfolding numeral when◌then◌else◌
 no_leading_zero [] h e = absurd (omega arith)
 no_leading_zero (b ∷ l) h e = rw (ne_eqb b zero_digit e)
 
@@ -165,8 +165,8 @@ no_leading_zero (b ∷ l) h e = rw (ne_eqb b zero_digit e)
 
 module _ {A B : Type 0} (f : Option A → Option B) where
   -- what keeps nothing as it is goes through a test
-  through : (t : Bool) (a : A) (b : B) → f (some a) ≡ some b → f none ≡ none → if t then some b else none ≡ f (if t then some a else none)
-  unfolding if◌then◌else◌
+  through : (t : Bool) (a : A) (b : B) → f (some a) ≡ some b → f none ≡ none → when t then some b else none ≡ f (when t then some a else none)
+  unfolding when◌then◌else◌
   through true a b e z = sym e
   through false a b e z = sym z
 
@@ -176,7 +176,7 @@ plus_limit none = refl
 plus_limit (some n) = through plus (leb n greatest_total) n (pos n) refl refl
 
 pub minus_limit : (o : Option ℕ) → in64 (minus o) ≡ minus (up_to least_total_size o)
-unfolding in64 minus up_to if◌then◌else◌
+unfolding in64 minus up_to when◌then◌else◌
 minus_limit none = refl
 minus_limit (some zero) = refl
 minus_limit (some (suc n)) = through minus (leb (suc n) least_total_size) (suc n) (negsuc n) refl refl
@@ -187,12 +187,12 @@ minus_some zero h = absurd (omega arith)
 minus_some (suc n) h = let e : n ≡ suc n - 1 = omega arith in ap (λ (k : ℕ). some (negsuc k)) e
 
 pub signed_minus : (l : List ℕ) → 0 < length l → get_or l 0 0 ≡ minus_sign → signed_numeral l ≡ minus (numeral (drop 1 l))
-unfolding signed_numeral if◌then◌else◌
+unfolding signed_numeral when◌then◌else◌
 signed_minus [] h e = absurd (omega arith)
 signed_minus (b ∷ l) h e = rw (eq-eqb b minus_sign e)
 
 pub signed_plus : (l : List ℕ) → 0 < length l → (get_or l 0 0 ≡ minus_sign → ⊥) → signed_numeral l ≡ plus (numeral l)
-unfolding signed_numeral if◌then◌else◌
+unfolding signed_numeral when◌then◌else◌
 signed_plus [] h e = absurd (omega arith)
 signed_plus (b ∷ l) h e = rw (ne_eqb b minus_sign e)
 

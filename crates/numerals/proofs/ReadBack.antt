@@ -9,7 +9,7 @@ use native.Mathlib.Omega.{arith}
 use lib.Arith.{mod-mul}
 use lib.Dec.{eqb, ltb}
 use borrow.Author.Tests.{ltb-true, ltb-false, ne_eqb}
-use Rattle.machine.specs.Choice.{if◌then◌else◌}
+use Rattle.machine.specs.Choice.{when◌then◌else◌}
 use Rattle.decimals.specs.Ascii.{zero_digit}
 use Rattle.decimals.specs.Decimals.{digit, digits, decimal}
 use Rattle.decimals.proofs.DecimalLaws.{digit_count_small, digit_count_large}
@@ -20,7 +20,7 @@ use Rattle.numerals.proofs.NumeralLaws.{some_none, passed, digit_yes}
 
 -- behind digits that said u
 next_digit : (v : ℕ) (xs : List ℕ) (u d : ℕ) → d < 10 → digits_after v xs ≡ some u → digits_after v (xs ++ digit d ∷ []) ≡ some (u * 10 + d)
-unfolding digits_after digit if◌then◌else◌
+unfolding digits_after digit when◌then◌else◌
 next_digit v [] u d h e =
     let q : v ≡ u = cc in
     rw (digit_yes (zero_digit + d) (omega arith) (omega arith)) (ap some (omega arith))
@@ -41,19 +41,19 @@ digits_read (suc k) n v =
 
 -- one more digit behind a number that is not 0
 next_numeral : (xs : List ℕ) (u d : ℕ) → 0 < u → d < 10 → numeral xs ≡ some u → numeral (xs ++ digit d ∷ []) ≡ some (u * 10 + d)
-unfolding numeral zero_then if◌then◌else◌
+unfolding numeral zero_then when◌then◌else◌
 next_numeral [] u d h k e = absurd (some_none (sym e))
 next_numeral (b ∷ xs) u d h k e = by (eqb b zero_digit) xs e (next_digit 0 (b ∷ xs) u d k)
   where
-    by : (t : Bool) (ys : List ℕ) {o p : Option ℕ} → if t then zero_then ys else o ≡ some u → (o ≡ some u → p ≡ some (u * 10 + d))
-        → if t then zero_then (ys ++ digit d ∷ []) else p ≡ some (u * 10 + d)
+    by : (t : Bool) (ys : List ℕ) {o p : Option ℕ} → when t then zero_then ys else o ≡ some u → (o ≡ some u → p ≡ some (u * 10 + d))
+        → when t then zero_then (ys ++ digit d ∷ []) else p ≡ some (u * 10 + d)
     by true [] f g = let z : 0 ≡ u = cc in absurd (omega arith)
     by true (c ∷ ys) f g = absurd (some_none (sym f))
     by false ys f g = g f
 
 -- a digit by itself, also where it is 0
 single : (d : ℕ) → d < 10 → numeral (digit d ∷ []) ≡ some d
-unfolding numeral digit zero_then digits_after if◌then◌else◌
+unfolding numeral digit zero_then digits_after when◌then◌else◌
 single zero h = refl
 single (suc d) h =
     rw (ne_eqb (zero_digit + suc d) zero_digit (λ e. omega arith)) (next_digit 0 [] 0 (suc d) h refl ∙ ap some (omega arith))

@@ -3,7 +3,7 @@
 -- name and on the tests of the machine's specs/Choice.
 use Rattle.std.specs.Prelude.{ℕ, zero, suc, ◌+◌, ◌-◌, ◌*◌, ◌^◌, Bool, List, [], ◌∷◌, leb, eqb, ℤ, pos, negsuc}
 use Rattle.std.proofs.Math.Option.{Option, none, some}
-use Rattle.machine.specs.Choice.{if◌then◌else◌, ◌and◌}
+use Rattle.machine.specs.Choice.{when◌then◌else◌, ◌and◌}
 use Rattle.decimals.specs.Ascii.{minus_sign, zero_digit, nine_digit}
 use Rattle.numerals.specs.declared.Number.{Number}
 use Rattle.numerals.specs.declared.Pair.{Pair}
@@ -15,7 +15,7 @@ is_digit b = leb zero_digit b and leb b nine_digit
 -- what the digits say after those that said v; nothing where a byte is no digit
 unfoldable pub digits_after : ℕ → List ℕ → Option ℕ
 digits_after v [] = some v
-digits_after v (b ∷ bs) = if is_digit b then digits_after (v * 10 + (b - zero_digit)) bs else none
+digits_after v (b ∷ bs) = when is_digit b then digits_after (v * 10 + (b - zero_digit)) bs else none
 
 -- a zero is a number by itself only
 unfoldable pub zero_then : List ℕ → Option ℕ
@@ -25,7 +25,7 @@ zero_then (b ∷ bs) = none
 -- the number that the bytes are in decimal, if they are one: a digit at least, and no leading zero
 unfoldable pub numeral : List ℕ → Option ℕ
 numeral [] = none
-numeral (b ∷ bs) = if eqb b zero_digit then zero_then bs else digits_after 0 (b ∷ bs)
+numeral (b ∷ bs) = when eqb b zero_digit then zero_then bs else digits_after 0 (b ∷ bs)
 
 unfoldable pub plus : Option ℕ → Option ℤ
 plus none = none
@@ -40,17 +40,17 @@ minus (some (suc n)) = some (negsuc n)
 -- "a total may start with a minus"
 unfoldable pub signed_numeral : List ℕ → Option ℤ
 signed_numeral [] = none
-signed_numeral (b ∷ bs) = if eqb b minus_sign then minus (numeral bs) else plus (numeral (b ∷ bs))
+signed_numeral (b ∷ bs) = when eqb b minus_sign then minus (numeral bs) else plus (numeral (b ∷ bs))
 
 -- ---- ranges
 
 unfoldable pub up_to : ℕ → Option ℕ → Option ℕ
 up_to most none = none
-up_to most (some v) = if leb v most then some v else none
+up_to most (some v) = when leb v most then some v else none
 
 unfoldable pub from : ℕ → Option ℕ → Option ℕ
 from least none = none
-from least (some v) = if leb least v then some v else none
+from least (some v) = when leb least v then some v else none
 
 -- "a total a 64-bit signed number": the greatest, and the size of the least
 abbrev pub greatest_total : ℕ
@@ -61,8 +61,8 @@ least_total_size = 2 ^ 63
 
 unfoldable pub in64 : Option ℤ → Option ℤ
 in64 none = none
-in64 (some (pos n)) = if leb n greatest_total then some (pos n) else none
-in64 (some (negsuc n)) = if leb (suc n) least_total_size then some (negsuc n) else none
+in64 (some (pos n)) = when leb n greatest_total then some (pos n) else none
+in64 (some (negsuc n)) = when leb (suc n) least_total_size then some (negsuc n) else none
 
 -- ---- the same in the source's enums
 

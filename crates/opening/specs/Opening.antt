@@ -7,7 +7,7 @@ use Rattle.interface.specs.declared.Refusal.{Refusal}
 use Rattle.interface.specs.declared.Opened.{Opened}
 use Rattle.interface.specs.declared.Built.{Built}
 use Rattle.interface.specs.declared.Needed.{Needed}
-use Rattle.machine.specs.Choice.{if◌then◌else◌}
+use Rattle.machine.specs.Choice.{when◌then◌else◌}
 use Rattle.fields.specs.Fields.{header_spare}
 use Rattle.fields.specs.Regions.{directory_start, record_start, words_needed}
 use Rattle.lists.specs.Parts.{overlay}
@@ -26,7 +26,7 @@ fresh_words s =
 unfoldable pub opened_words : List ℕ → Built → List ℕ × Opened
 opened_words l (Built.Refused r) = (l, Opened.Refused r)
 opened_words l (Built.Settings s) =
-    if leb (words_needed s) (length l)
+    when leb (words_needed s) (length l)
     then (overlay l 0 (fresh_words s), Opened.Opened)
     else (l, Opened.Refused Refusal.Short)
 

@@ -14,7 +14,7 @@ use borrow.Author.Tests.{leb-true, ltb-false}
 use Rattle.interface.specs.Numbers.{number_of}
 use Rattle.interface.specs.declared.Listed.{Listed}
 use Rattle.interface.specs.declared.Refusal.{Refusal}
-use Rattle.machine.specs.Choice.{if◌then◌else◌}
+use Rattle.machine.specs.Choice.{when◌then◌else◌}
 use Rattle.layout.specs.Shape.{strange, shape_of}
 use Rattle.sorting.specs.RowLists.{row_at, rows_at}
 use Rattle.rows.specs.Rows.{rows, Shown, shown, listing_words}
@@ -26,18 +26,18 @@ use Rattle.outputs.specs.Outputs.{Output, emitted, put_rows, put_listed, DriverS
 
 module _ {l : List ℕ} {at : ℕ} {xs : List ℕ} {r : ℕ} {after : List ℕ} (w : Wrote l at xs r after) where
   pub wrote_put : ◌≡◌ {A = Output} (record { bytes = after; used = at + r }) (emitted (record { bytes = l; used = at }) xs)
-  unfolding emitted if◌then◌else◌
+  unfolding emitted when◌then◌else◌
   wrote_put = rw (w.count, w.buffer) (by (fits l at xs))
     where
       by : (t : Bool)
-          → ◌≡◌ {A = Output} (record { bytes = if t then overlay l at xs else l; used = at + (if t then length xs else 0) })
-          (if t then record { bytes = overlay l at xs; used = at + length xs } else record { bytes = l; used = at })
+          → ◌≡◌ {A = Output} (record { bytes = when t then overlay l at xs else l; used = at + (when t then length xs else 0) })
+          (when t then record { bytes = overlay l at xs; used = at + length xs } else record { bytes = l; used = at })
       by true = refl
       by false = rw (add-zero at)
 
   -- the used bytes stay below any bound of theirs and of the buffer
   pub wrote_within : (n : ℕ) → length l ≤ n → at ≤ n → at + r ≤ n
-  unfolding fits if◌then◌else◌
+  unfolding fits when◌then◌else◌
   wrote_within n h k = by (fits l at xs) refl
     where
       by : (t : Bool) → fits l at xs ≡ t → at + r ≤ n
@@ -64,15 +64,15 @@ module _ (accounts : List ℕ) (totals : List ℤ) where
 module _ (l accounts : List ℕ) (totals : List ℤ) where
   counted : (s p q : Bool) (r : List (ℕ × ℤ)) (n : ℕ) (x : Shown) → ltb (length accounts) (length r) ≡ p
       → ltb (length totals) (length r) ≡ q
-      → x ≡ if s then record { accounts = accounts; totals = totals; listed = Listed.Refused Refusal.Strange }
-      else if p || q then record { accounts = accounts; totals = totals; listed = Listed.Refused Refusal.Narrow }
+      → x ≡ when s then record { accounts = accounts; totals = totals; listed = Listed.Refused Refusal.Strange }
+      else when p || q then record { accounts = accounts; totals = totals; listed = Listed.Refused Refusal.Narrow }
       else record {
         accounts = overlay accounts 0 (map (λ y. y.0) r);
         totals = overlay totals 0 (map (λ y. y.1) r);
         listed = Listed.Count (length r);
       }
       → x.listed ≡ Listed.Count n → (n ≤ length accounts) × (n ≤ length totals)
-  unfolding if◌then◌else◌
+  unfolding when◌then◌else◌
   counted true p q r n x e f g h = let z : ◌≡◌ {A = ℕ} 0 1 = cc (ap (λ (y : Shown). y.listed) g) in absurd (omega arith)
   counted false true q r n x e f g h = let z : ◌≡◌ {A = ℕ} 0 1 = cc (ap (λ (y : Shown). y.listed) g) in absurd (omega arith)
   counted false false true r n x e f g h = let z : ◌≡◌ {A = ℕ} 0 1 = cc (ap (λ (y : Shown). y.listed) g) in absurd (omega arith)

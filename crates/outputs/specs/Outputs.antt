@@ -3,7 +3,7 @@
 use Rattle.std.specs.Prelude.{ℕ, ◌+◌, List, [], ◌∷◌, ℤ, length}
 use Rattle.interface.specs.Numbers.{number_of}
 use Rattle.interface.specs.declared.Listed.{Listed}
-use Rattle.machine.specs.Choice.{if◌then◌else◌}
+use Rattle.machine.specs.Choice.{when◌then◌else◌}
 use Rattle.sorting.specs.RowLists.{rows_at}
 use Rattle.rows.specs.Rows.{Shown, listing_words}
 use Rattle.replies.specs.declared.Reply.{Reply}
@@ -24,7 +24,7 @@ output_of bytes used = record { bytes = bytes; used = used }
 -- a text behind the used bytes, where it has room
 unfoldable pub emitted : Output → List ℕ → Output
 emitted o xs =
-    if fits o.bytes o.used xs then record { bytes = overlay o.bytes o.used xs; used = o.used + length xs }
+    when fits o.bytes o.used xs then record { bytes = overlay o.bytes o.used xs; used = o.used + length xs }
     else o
 
 unfoldable pub put_rows : Output → List (ℕ × ℤ) → Output

@@ -10,7 +10,7 @@ use lib.Dec.{leb}
 use lib.ListN.{length, get_or, length-append, get_or-append}
 use lib.Seq.{get_or-append-add, get_or_at}
 use borrow.Author.Tests.{leb-true, leb-false}
-use Rattle.machine.specs.Choice.{if◌then◌else◌}
+use Rattle.machine.specs.Choice.{when◌then◌else◌}
 use Rattle.machine.proofs.laws.Base.{if_elim}
 use Rattle.machine.proofs.laws.PlanParts.{length_each, length_bucket, length_directory, buckets_first, check_first, directories_first, length_pass}
 use Rattle.machine.specs.Plan.{Phase, announce, read_directory, flip_toggle, read_state, read_toggle, swap_state, check_state, copy_directory, swap_directory, read_slot, resize_for, each, bucket_round, bucket_pass, check, directory_round, directory_pass, pass, plan, phase}
@@ -33,13 +33,13 @@ at_behind l m n k e h =
     subst (λ (i : ℕ). at (l ++ m) i ≡ at m (k - n)) (sym p) (get_or-append-add l m (k - n) check_state)
 
 -- a position in a list that stands twice
-pub at_twice : (l : List Phase) (n k r : ℕ) → length l ≡ n → r ≡ (if leb n k then k - n else k) → at (l ++ l) k ≡ at l r
+pub at_twice : (l : List Phase) (n k r : ℕ) → length l ≡ n → r ≡ (when leb n k then k - n else k) → at (l ++ l) k ≡ at l r
 at_twice l n k r e f =
     rw f
     (if_elim (λ (i : ℕ). at (l ++ l) k ≡ at l i) (leb n k) (k - n) k (λ t. at_behind l l n k e (leb-true n k t))
     (λ t. at_front l l n k e (leb-false n k t)))
 
-pub reduced_below : (n k r : ℕ) → r ≡ (if leb n k then k - n else k) → k < 2 * n → r < n
+pub reduced_below : (n k r : ℕ) → r ≡ (when leb n k then k - n else k) → k < 2 * n → r < n
 reduced_below n k r f h =
     rw f
     (if_elim (λ (i : ℕ). i < n) (leb n k) (k - n) k (λ t. let e = leb-true n k t in omega arith) (λ t. leb-false n k t))
@@ -95,7 +95,7 @@ module _ (n : ℕ) where
   bucket_flip r h = let e : r ≡ 0 = omega arith in rw e
 
   pub bucket-round :
-      (r i : ℕ) → 1 ≤ r → i ≡ (if leb (n + 3) (r - 1) then r - 1 - (n + 3) else r - 1) → at (bucket_pass n) r ≡ at (bucket_round n) i
+      (r i : ℕ) → 1 ≤ r → i ≡ (when leb (n + 3) (r - 1) then r - 1 - (n + 3) else r - 1) → at (bucket_pass n) r ≡ at (bucket_round n) i
   unfolding bucket_pass
   bucket-round r i h e =
       at_later flip_toggle (bucket_round n ++ bucket_round n) r h ∙ at_twice (bucket_round n) (n + 3) (r - 1) i (length_bucket n) e
@@ -134,7 +134,7 @@ module _ (n : ℕ) where
         rw e (get_or_at (copy_directory ∷ each read_slot n ++ each resize_for n) swap_directory [] check_state (2 * n + 1) states_first)
 
   pub directory-round :
-      (r i : ℕ) → i ≡ (if leb (2 * n + 2) r then r - (2 * n + 2) else r) → at (directory_pass n) r ≡ at (directory_round n) i
+      (r i : ℕ) → i ≡ (when leb (2 * n + 2) r then r - (2 * n + 2) else r) → at (directory_pass n) r ≡ at (directory_round n) i
   unfolding directory_pass
   directory-round r i e = at_twice (directory_round n) (2 * n + 2) r i (length_directory n) e
 
@@ -190,6 +190,6 @@ module _ (n : ℕ) where
   unfolding phase plan
   plan_announce k h = let e : k ≡ 0 = omega arith in rw e
 
-  pub plan_pass : (k r : ℕ) → 1 ≤ k → r ≡ (if leb (6 * n + 16) (k - 1) then k - 1 - (6 * n + 16) else k - 1) → phase n k ≡ at (pass n) r
+  pub plan_pass : (k r : ℕ) → 1 ≤ k → r ≡ (when leb (6 * n + 16) (k - 1) then k - 1 - (6 * n + 16) else k - 1) → phase n k ≡ at (pass n) r
   unfolding phase plan
   plan_pass k r h e = at_later announce (pass n ++ pass n) k h ∙ at_twice (pass n) (6 * n + 16) (k - 1) r (length_pass n) e

@@ -2,7 +2,7 @@
 #![tactic(auto)]
 
 ghost use Rattle.std.specs.Prelude.{◌≡◌, ◌+◌, ◌-◌, ◌*◌, ◌≤◌, ◌<◌, leb, get_or};
-ghost use Rattle.machine.specs.Choice.{if◌then◌else◌};
+ghost use Rattle.machine.specs.Choice.{when◌then◌else◌};
 ghost use Rattle.machine.specs.Plan.{check_state, bucket_pass, directory_pass, pass, phase, check_number};
 ghost use Rattle.phases.specs.Phases.{planned};
 
@@ -23,7 +23,7 @@ pub enum Phase {
 
 // k, or what is left past one round of len steps.
 pub fn reduce(k: usize, len: usize) -> usize
-    ensures { result ≡ (if leb len k then k - len else k) }
+    ensures { result ≡ (when leb len k then k - len else k) }
 {
     if k >= len { k - len } else { k }
 }

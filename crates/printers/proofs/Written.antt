@@ -8,7 +8,7 @@ use lib.Dec.{leb}
 use lib.ListN.{length, set, length-append}
 use lib.Seq.{take-length, paste}
 use borrow.Author.Tests.{le-leb, lt-leb, leb-true, leb-false}
-use Rattle.machine.specs.Choice.{if◌then◌else◌}
+use Rattle.machine.specs.Choice.{when◌then◌else◌}
 use Rattle.lists.specs.Parts.{overlay}
 use Rattle.decimals.specs.declared.Decimal.{Decimal}
 use Rattle.decimals.specs.Ascii.{line_feed, space}
@@ -51,12 +51,12 @@ pair_length a b = simp length-append
 -- the text, where it has room
 pub wrote : (l : List ℕ) (at : ℕ) (xs : List ℕ) (r : ℕ) (after : List ℕ) → at + length xs ≤ length l → r ≡ length xs
     → after ≡ overlay l at xs → Wrote l at xs r after
-unfolding fits if◌then◌else◌
+unfolding fits when◌then◌else◌
 wrote l at xs r after h c b =
     record { count = rw (le-leb (at + length xs) (length l) h) c; buffer = rw (le-leb (at + length xs) (length l) h) b }
 
 pub wrote_nothing : (l : List ℕ) (at : ℕ) (xs : List ℕ) → length l < at + length xs → Wrote l at xs 0 l
-unfolding fits if◌then◌else◌
+unfolding fits when◌then◌else◌
 wrote_nothing l at xs h = record { count = rw (lt-leb (at + length xs) (length l) h); buffer = rw (lt-leb (at + length xs) (length l) h) }
 
 -- the same for a text that is known by an equation

@@ -1,6 +1,6 @@
 -- Texts of a word and numbers, and what a printer leaves in a buffer. Rests on the decimals.
 use Rattle.std.specs.Prelude.{ℕ, ◌+◌, ◌≡◌, Bool, List, [], ◌∷◌, ◌++◌, leb, length}
-use Rattle.machine.specs.Choice.{if◌then◌else◌}
+use Rattle.machine.specs.Choice.{when◌then◌else◌}
 use Rattle.lists.specs.Parts.{overlay}
 use Rattle.decimals.specs.declared.Decimal.{Decimal}
 use Rattle.decimals.specs.Ascii.{line_feed, space}
@@ -26,5 +26,5 @@ fits l at xs = leb (at + length xs) (length l)
 -- What a printer answers, and the buffer that it leaves: the whole text and its length, or nothing and 0 where it has
 -- no room.
 pub record Wrote (l : List ℕ) (at : ℕ) (xs : List ℕ) (r : ℕ) (after : List ℕ) : Type 0 where
-  pub count : r ≡ if fits l at xs then length xs else 0
-  pub buffer : after ≡ if fits l at xs then overlay l at xs else l
+  pub count : r ≡ when fits l at xs then length xs else 0
+  pub buffer : after ≡ when fits l at xs then overlay l at xs else l

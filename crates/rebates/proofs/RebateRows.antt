@@ -10,7 +10,7 @@ use lib.ListN.{length, set}
 use borrow.Author.Tests.{lt-ltb, le-ltb}
 use Rattle.interface.specs.declared.Refusal.{Refusal}
 use Rattle.interface.specs.declared.Listed.{Listed}
-use Rattle.machine.specs.Choice.{if◌then◌else◌}
+use Rattle.machine.specs.Choice.{when◌then◌else◌}
 use Rattle.machine.proofs.laws.Base.{if_true, if_false}
 use Rattle.lists.specs.Parts.{overlay}
 use Rattle.lists.proofs.PartLaws.{set_overlay}
@@ -48,7 +48,7 @@ module _ {l : List ℕ} {n : ℕ} {accounts : List ℕ} {totals : List ℤ} (all
 
   pub rebates_narrow :
       (length a < n) ⊎ (length b < n) → record { accounts = a; rebates = b; listed = Listed.Refused Refusal.Narrow } ≡ rebates_words l a b
-  unfolding rebated if◌then◌else◌
+  unfolding rebated when◌then◌else◌
   rebates_narrow h =
       ⊎_elim (λ m. rw (lt-ltb _ _ (rw all.count at m))) (λ m. rw (lt-ltb _ _ (rw all.count at m), or-true)) h ∙ rebates_of_rows
 
@@ -56,7 +56,7 @@ module _ {l : List ℕ} {n : ℕ} {accounts : List ℕ} {totals : List ℤ} (all
       (a' b' : List ℕ) → n ≤ length a → n ≤ length b → a' ≡ accounts_with a 0 (rows_at accounts totals 0 n)
       → b' ≡ rebates_with b 0 (rows_at accounts totals 0 n)
       → record { accounts = a'; rebates = b'; listed = Listed.Count n } ≡ rebates_words l a b
-  unfolding rebated if◌then◌else◌
+  unfolding rebated when◌then◌else◌
   rebates_all a' b' h k e f =
       rw (e, f, all.read, all.count) ((rw (
         le-ltb (length a) (length (rows l (shape_of l))) (rw all.count at h),

@@ -4,7 +4,7 @@ use Rattle.std.specs.Prelude.{ℕ, ◌<◌, ◌≡◌, ◌||◌, List, map, ltb,
 use Rattle.interface.specs.declared.Refusal.{Refusal}
 use Rattle.interface.specs.declared.Listed.{Listed}
 use Rattle.lists.specs.Parts.{overlay}
-use Rattle.machine.specs.Choice.{if◌then◌else◌}
+use Rattle.machine.specs.Choice.{when◌then◌else◌}
 use Rattle.layout.specs.Shape.{strange, shape_of}
 use Rattle.sorting.specs.RowLists.{accounts_with}
 use Rattle.rows.specs.Rows.{rows, listing_words}
@@ -24,7 +24,7 @@ pub record Rebated : Type 0 where
 -- nothing at all
 unfoldable pub rebated : List ℕ → List ℕ → List (ℕ × ℤ) → Rebated
 rebated accounts rebates r =
-    if ltb (length accounts) (length r) || ltb (length rebates) (length r)
+    when ltb (length accounts) (length r) || ltb (length rebates) (length r)
     then record { accounts = accounts; rebates = rebates; listed = Listed.Refused Refusal.Narrow }
     else record {
       accounts = accounts_with accounts 0 r;
@@ -35,7 +35,7 @@ rebated accounts rebates r =
 -- "due on each account's total": checks 8, 10, as the listing
 unfoldable pub rebates_words : List ℕ → List ℕ → List ℕ → Rebated
 rebates_words l accounts rebates =
-    if strange l then record { accounts = accounts; rebates = rebates; listed = Listed.Refused Refusal.Strange }
+    when strange l then record { accounts = accounts; rebates = rebates; listed = Listed.Refused Refusal.Strange }
     else rebated accounts rebates (rows l (shape_of l))
 
 -- Beside a listing of the same words into a list of totals as long: the same answer and accounts, and each rebate is

@@ -3,7 +3,7 @@ use mathlib.Core.Path.{◌≡◌, refl}
 use mathlib.Core.Bool.{Bool, true, false}
 use mathlib.Core.List.{List, [], ◌∷◌}
 use Rattle.interface.specs.declared.Refusal.{Refusal}
-use Rattle.machine.specs.Choice.{if◌then◌else◌}
+use Rattle.machine.specs.Choice.{when◌then◌else◌}
 use Rattle.machine.proofs.laws.Base.{none_some}
 use Rattle.refusals.specs.Checks.{Check, refusal_by}
 use Rattle.refusals.specs.Demand1.{RefusedBy}
@@ -22,25 +22,25 @@ module _ {L A : Type 0} {refused : Refusal → A} {lent : L} where
   module _ {r : Refusal} {checks : List Check} where
     -- the first check comes out true
     pub stopped : RefusedBy refused ((true, r) ∷ checks) lent (lent, refused r)
-    unfolding refusal_by if◌then◌else◌
+    unfolding refusal_by when◌then◌else◌
     stopped = record { bad = λ s e. cc; other = λ e _. none_some e refl; kept = λ _. refl }
 
     module _ {x : L × A} (rest : RefusedBy refused checks lent x) where
       -- it comes out false
       pub going_on : RefusedBy refused ((false, r) ∷ checks) lent x
-      unfolding refusal_by if◌then◌else◌
+      unfolding refusal_by when◌then◌else◌
       going_on = record { bad = rest.bad; other = rest.other; kept = rest.kept }
 
       -- either
-      pub check_then : (t : Bool) → RefusedBy refused ((t, r) ∷ checks) lent (if t then (lent, refused r) else x)
-      unfolding if◌then◌else◌
+      pub check_then : (t : Bool) → RefusedBy refused ((t, r) ∷ checks) lent (when t then (lent, refused r) else x)
+      unfolding when◌then◌else◌
       check_then true = stopped
       check_then false = going_on
 
     -- the same, seen through what a call leaves of a record
     pub check_part :
         {X : Type 0} (of : X → L × A) (t : Bool) (y z : X) → of y ≡ (lent, refused r) → RefusedBy refused checks lent (of z)
-        → RefusedBy refused ((t, r) ∷ checks) lent (of (if t then y else z))
-    unfolding if◌then◌else◌
+        → RefusedBy refused ((t, r) ∷ checks) lent (of (when t then y else z))
+    unfolding when◌then◌else◌
     check_part of true y z e rest = rw e stopped
     check_part of false y z e rest = going_on rest

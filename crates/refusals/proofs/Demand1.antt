@@ -25,7 +25,7 @@ use Rattle.interface.specs.declared.Stepped.{Stepped}
 use Rattle.interface.specs.declared.Ran.{Ran}
 use Rattle.interface.specs.declared.Listed.{Listed}
 use Rattle.interface.proofs.Laws.{wrong_settings, right_settings}
-use Rattle.machine.specs.Choice.{if◌then◌else◌}
+use Rattle.machine.specs.Choice.{when◌then◌else◌}
 use Rattle.machine.specs.Plan.{Phase, announce, read_directory, flip_toggle, read_state, read_toggle, swap_state, check_state, copy_directory, swap_directory, read_slot, resize_for}
 use Rattle.machine.proofs.laws.Base.{if_elim, if_true}
 use Rattle.fields.specs.Fields.{worker_kind, worker_ticket}
@@ -47,11 +47,11 @@ use Rattle.refusals.specs.Demand1.{RefusedBy, lists_of, KeptPast, PastCount, All
 use Rattle.refusals.proofs.Checking.{passed, stopped, going_on, check_then, check_part}
 
 -- a choice, the other way round
-if_not : {A : Type 0} (k j : ℕ) (x y : A) → if leb k j then x else y ≡ if ltb j k then y else x
-unfolding if◌then◌else◌
+if_not : {A : Type 0} (k j : ℕ) (x y : A) → when leb k j then x else y ≡ when ltb j k then y else x
+unfolding when◌then◌else◌
 if_not k j x y = go (leb k j) refl
   where
-    go : (t : Bool) → leb k j ≡ t → if leb k j then x else y ≡ if ltb j k then y else x
+    go : (t : Bool) → leb k j ≡ t → when leb k j then x else y ≡ when ltb j k then y else x
     go true e = rw (e, le-ltb j k (leb-true k j e))
     go false e = rw (e, lt-ltb j k (leb-false k j e))
 
@@ -82,15 +82,15 @@ module _ (n b M : ℕ) where
   built_is :
       {A : Type 0} (f : Built → A)
       → f (built n b M)
-      ≡ if not (in_range n b M) then f (Built.Refused Refusal.Settings)
+      ≡ when not (in_range n b M) then f (Built.Refused Refusal.Settings)
       else f (Built.Settings (record { workers = n; capacity = b; depth = M }))
-  unfolding if◌then◌else◌
+  unfolding when◌then◌else◌
   built_is f = go (in_range n b M) refl
     where
       go :
           (t : Bool) → in_range n b M ≡ t
           → f (built n b M)
-          ≡ if not t then f (Built.Refused Refusal.Settings)
+          ≡ when not t then f (Built.Refused Refusal.Settings)
           else f (Built.Settings (record { workers = n; capacity = b; depth = M }))
       go true e = ap f (right_settings n b M e)
       go false e = ap f (wrong_settings n b M e)
@@ -109,11 +109,11 @@ module _ (n b M : ℕ) where
 kind_checks :
     (l m n : List ℕ) (w kind : ℕ)
     → RefusedBy Called.Refused (check6 kind ∷ check7 l w kind ∷ []) l
-    (if ltb kind kind_insert || ltb greatest_kind kind then (l, Called.Refused Refusal.Kind)
-    else if eqb kind kind_lookup then (m, Called.Accepted)
-    else if leb greatest_ticket (own_word l w worker_ticket) then (l, Called.Refused Refusal.Spent)
+    (when ltb kind kind_insert || ltb greatest_kind kind then (l, Called.Refused Refusal.Kind)
+    else when eqb kind kind_lookup then (m, Called.Accepted)
+    else when leb greatest_ticket (own_word l w worker_ticket) then (l, Called.Refused Refusal.Spent)
     else (n, Called.Accepted))
-unfolding if◌then◌else◌
+unfolding when◌then◌else◌
 kind_checks l m n w zero = stopped
 kind_checks l m n w (suc zero) = going_on (check_then (passed accepted_never) _)
 kind_checks l m n w (suc (suc zero)) = going_on (check_then (passed accepted_never) _)

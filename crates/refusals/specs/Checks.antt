@@ -5,7 +5,7 @@ use Rattle.std.proofs.Math.Option.{Option, none, some}
 use Rattle.interface.specs.Limits.{in_range, greatest_ticket}
 use Rattle.interface.specs.Numbers.{kind_none, kind_insert, kind_delete, kind_lookup, kind_post}
 use Rattle.interface.specs.declared.Refusal.{Refusal}
-use Rattle.machine.specs.Choice.{if◌then◌else◌}
+use Rattle.machine.specs.Choice.{when◌then◌else◌}
 use Rattle.machine.specs.Calls.{settings}
 use Rattle.fields.specs.Fields.{worker_kind, worker_ticket}
 use Rattle.fields.specs.Regions.{worker_at, words_needed}
@@ -90,7 +90,7 @@ listing_checks l accounts totals = check8 l ∷ check10 l accounts totals ∷ []
 -- the refusal of the first check whose test comes out true
 unfoldable pub refusal_by : List Check → Option Refusal
 refusal_by [] = none
-refusal_by (c ∷ cs) = if c.0 then some c.1 else refusal_by cs
+refusal_by (c ∷ cs) = when c.0 then some c.1 else refusal_by cs
 
 -- ---- turned down by them
 

@@ -8,7 +8,7 @@ use mathlib.Core.Option.{Option, none, some}
 use lib.IntN.{ℤ, ◌+ℤ◌}
 use borrow.Author.Tests.{eq-eqb, le-ltb}
 use Rattle.interface.specs.declared.Answer.TheVariants.{Added, Replaced, Removed, Absent, Posted, Crowded, Overrun}
-use Rattle.machine.specs.Choice.{if◌then◌else◌, ◌and◌}
+use Rattle.machine.specs.Choice.{when◌then◌else◌, ◌and◌}
 use Rattle.machine.specs.Sequential.{Operation, update, lookup, Update, insert, delete, post, account, find, put, remove, present, total_or0}
 use Rattle.machine.specs.Sequential.{is_total, sum, result, changed, creates, tried}
 use Rattle.machine.specs.Calls.{operation_of}
@@ -24,25 +24,25 @@ find_alone a none = refl
 find_alone a (some v) = if_eq a a _ _ refl
 
 find_put : (a : ℕ) (s : Option ℤ) (v : ℤ) → find (put (alone a s) a v) a ≡ some v
-unfolding find alone put if◌then◌else◌
+unfolding find alone put when◌then◌else◌
 find_put a none v = rw (eq-eqb a a refl)
 find_put a (some w) v = rw (le-ltb a a (omega arith), eq-eqb a a refl) (rw (eq-eqb a a refl))
 
 find_removed : (a : ℕ) (s : Option ℤ) → find (remove (alone a s) a) a ≡ none
-unfolding find alone remove if◌then◌else◌
+unfolding find alone remove when◌then◌else◌
 find_removed a none = refl
 find_removed a (some w) = rw (eq-eqb a a refl)
 
 -- ---- crowding
 
 crowded_out : (u : Update) → creates u (alone (account u) none) ≡ true → served_alone true (update u) none ≡ (Crowded, none)
-unfolding served_alone tried if◌then◌else◌ ◌and◌ alone find
+unfolding served_alone tried when◌then◌else◌ ◌and◌ alone find
 crowded_out u e = rw e
 
 has_room :
     (crowded : Bool) (u : Update) (s : Option ℤ) → crowded and creates u (alone (account u) s) ≡ false
     → served_alone crowded (update u) s ≡ (result u (alone (account u) s), find (changed u (alone (account u) s)) (account u))
-unfolding served_alone tried if◌then◌else◌
+unfolding served_alone tried when◌then◌else◌
 has_room crowded u s e = rw e
 
 -- an account that is there is not made
@@ -111,10 +111,10 @@ module _ (a : ℕ) (v : ℤ) where
   pub posts_within :
       (s : Option ℤ) → is_total (total_or0 s +ℤ v) ≡ true
       → served_alone false (update (post a v)) s ≡ (Posted (total_or0 s +ℤ v), some (total_or0 s +ℤ v))
-  unfolding result changed if◌then◌else◌
+  unfolding result changed when◌then◌else◌
   posts_within s e = posts_alone s ∙ rw (sum_alone s, e, find_put a s (total_or0 s +ℤ v))
 
   pub posts_outside :
       (s : Option ℤ) → is_total (total_or0 s +ℤ v) ≡ false → served_alone false (update (post a v)) s ≡ (Overrun, s)
-  unfolding result changed if◌then◌else◌
+  unfolding result changed when◌then◌else◌
   posts_outside s e = posts_alone s ∙ rw (sum_alone s, e, find_alone a s)

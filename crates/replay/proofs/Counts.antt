@@ -14,7 +14,7 @@ use lib.Seq.{get_or-set_same, get_or-set_other}
 use mir.Syntax.{w64}
 use mir.Val.{to_z, of_z}
 use borrow.Author.Tests.{eqb-true, eqb-false}
-use Rattle.machine.specs.Choice.{if◌then◌else◌}
+use Rattle.machine.specs.Choice.{when◌then◌else◌}
 use Rattle.machine.specs.Sequential.{Update, insert, delete, account, first_bits, Table, find, put, remove, having, changed, Ascending}
 use Rattle.machine.proofs.laws.Base.{if_elim₂, eq_elim, lt_elim, if_eq, if_ne}
 use Rattle.machine.proofs.laws.Tables.{find_put_at, find_remove_at, find_above, find_changed_other, find_having_in, ascending_having, having_changed, having_changed_other}
@@ -50,7 +50,7 @@ length_put : (t : Table) (a : ℕ) (v : ℤ) → Ascending t → length (put t a
 unfolding put find
 length_put [] a v h = refl
 length_put (e ∷ t) a v h =
-    lt_elim P a e.0 ((a, v) ∷ e ∷ t) (if eqb a e.0 then (a, v) ∷ t else e ∷ put t a v)
+    lt_elim P a e.0 ((a, v) ∷ e ∷ t) (when eqb a e.0 then (a, v) ∷ t else e ∷ put t a v)
     (λ l. rw (other (λ q. omega arith), find_above e.0 t a (omega arith) h.0) (omega arith))
     (λ l. eq_elim P a e.0 ((a, v) ∷ t) (e ∷ put t a v)
     (λ q. rw (if_eq e.0 a (some e.1) (find t a) (sym q)) (omega arith))
@@ -74,7 +74,7 @@ length_remove (e ∷ t) a =
 
 -- the number, of an account with the first bits q
 unfoldable pub among : ℕ → ℕ → ℕ → ℕ → ℕ
-among M q a n = if eqb (first_bits M a) q then n else 0
+among M q a n = when eqb (first_bits M a) q then n else 0
 
 -- an update that makes n of an account makes n of it among those with its first bits
 length_having :
@@ -135,7 +135,7 @@ balance_words_other x j there total k n = λ i. balance_of (away (k * 2) (λ e. 
     away c m w = get_or-set_other (set x (j * 2) there) (j * 2 + 1) c total 0 w ∙ get_or-set_other x (j * 2) c there 0 m
 
 pub balance_put_at : (x : List ℕ) (j : ℕ) (s : Option ℤ) → Kept s → j * 2 + 1 < length x → balance_at (put_balance x j s) j ≡ s
-unfolding put_balance balance_of if◌then◌else◌
+unfolding put_balance balance_of when◌then◌else◌
 balance_put_at x j none k l = balance_words_at x j 0 0 l
 balance_put_at x j (some v) k l = balance_words_at x j 1 (of_z w64 v) l ∙ ap some k
 
@@ -150,12 +150,12 @@ module _ (l : List ℕ) (M q : ℕ) where
   pub agreeing_suc :
       (x : List ℕ) (n : ℕ)
       → agreeing l M q x (suc n) ≡ agreeing l M q x n + among M q (account_logged l n) (number (balance_at x n))
-  unfolding agreeing among balance_at balance_of if◌then◌else◌
+  unfolding agreeing among balance_at balance_of when◌then◌else◌
   agreeing_suc x n = go (eqb (there_at x n) 0) (eqb (first_bits M (account_logged l n)) q) (agreeing l M q x n) (to_z w64 (total_at x n))
     where
       go :
           (p r : Bool) (k : ℕ) (v : ℤ)
-          → if p then k else if r then suc k else k ≡ k + (if r then number (if p then none else some v) else 0)
+          → when p then k else when r then suc k else k ≡ k + (when r then number (when p then none else some v) else 0)
       go true true k v = omega arith
       go true false k v = omega arith
       go false true k v = omega arith

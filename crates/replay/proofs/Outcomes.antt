@@ -16,7 +16,7 @@ use borrow.Author.Tests.{eqb-true, ne_eqb}
 use Rattle.interface.specs.Numbers.{answer_number, answer_total, kind_insert, kind_delete, kind_lookup, kind_post}
 use Rattle.interface.specs.declared.Answer.{Answer}
 use Rattle.interface.specs.declared.Answer.TheVariants.{Added, Replaced, Removed, Absent, Found, None, Posted, Crowded, Overrun}
-use Rattle.machine.specs.Choice.{if◌then◌else◌, ◌and◌}
+use Rattle.machine.specs.Choice.{when◌then◌else◌, ◌and◌}
 use Rattle.machine.specs.Sequential.{Operation, update, lookup, insert, delete, post, total_or0, is_total, looked}
 use Rattle.machine.specs.Calls.{operation_of}
 use Rattle.machine.proofs.laws.Base.{is_false, and_parts}
@@ -71,28 +71,28 @@ afterwards r s = as_outcome (is_still (answer_base + answer_number r)) (some s)
 
 module _ (t v : ℕ) where
   sum_within : (s : ℕ) → sum_of t v ≡ Within s → (is_total (to_z w64 t +ℤ to_z w64 v) ≡ true) × (s ≡ of_z w64 (to_z w64 t +ℤ to_z w64 v))
-  unfolding sum_of added if◌then◌else◌
+  unfolding sum_of added when◌then◌else◌
   sum_within s = go (is_total (to_z w64 t +ℤ to_z w64 v)) refl
     where
       go : (b : Bool) → is_total (to_z w64 t +ℤ to_z w64 v) ≡ b
-          → if b then Within (of_z w64 (to_z w64 t +ℤ to_z w64 v)) else Outside ≡ Within s
+          → when b then Within (of_z w64 (to_z w64 t +ℤ to_z w64 v)) else Outside ≡ Within s
           → (is_total (to_z w64 t +ℤ to_z w64 v) ≡ true) × (s ≡ of_z w64 (to_z w64 t +ℤ to_z w64 v))
       go true e f = (e, cc)
       go false e f = absurd (let z : ◌≡◌ {A = ℕ} 0 1 = cc in omega arith)
 
   sum_outside : sum_of t v ≡ Outside → is_total (to_z w64 t +ℤ to_z w64 v) ≡ false
-  unfolding sum_of added if◌then◌else◌
+  unfolding sum_of added when◌then◌else◌
   sum_outside e = is_false _ (λ q. let z : ◌≡◌ {A = ℕ} 0 1 = cc (rw q at e) in omega arith)
 
 module _ (l : List ℕ) (i : ℕ) where
   given :
       (r : Answer) (s : Option ℤ)
-      → as_outcome (still_at l i) (given_alone (logged_at l i) (r, s)) ≡ if gives (logged_at l i) r then afterwards r s else Another
-  unfolding given_alone gives logged_at still_at if◌then◌else◌ as_outcome afterwards
+      → as_outcome (still_at l i) (given_alone (logged_at l i) (r, s)) ≡ when gives (logged_at l i) r then afterwards r s else Another
+  unfolding given_alone gives logged_at still_at when◌then◌else◌ as_outcome afterwards
   given r s = go (gives (logged_at l i) r) refl
     where
       go : (t : Bool) → gives (logged_at l i) r ≡ t
-          → as_outcome (still_at l i) (if t then some s else none) ≡ if t then afterwards r s else Another
+          → as_outcome (still_at l i) (when t then some s else none) ≡ when t then afterwards r s else Another
       go true e = ap (λ (z : ℕ). as_outcome (is_still z) (some s)) (eqb-true _ _ (and_parts _ _ e).0)
       go false e = refl
 
@@ -101,17 +101,17 @@ module _ (l : List ℕ) (i : ℕ) where
       (crowded : Bool) (s t : Option ℤ) (o : Operation) (r : Answer) (is : operation_at l i ≡ some o)
       (serves : served_alone crowded o s ≡ (r, t))
     where
-      served : outcome_at l i crowded s ≡ if gives (logged_at l i) r then afterwards r t else Another
+      served : outcome_at l i crowded s ≡ when gives (logged_at l i) r then afterwards r t else Another
       unfolding outcome_of outcome_if logged_at
       served = rw (is, serves) (given r t)
 
-      plain : answer_total r ≡ none → outcome_at l i crowded s ≡ if is_answer l i r then afterwards r t else Another
+      plain : answer_total r ≡ none → outcome_at l i crowded s ≡ when is_answer l i r then afterwards r t else Another
       unfolding gives logged_at same_total
       plain e = served ∙ rw (e, and_true_right (is_answer l i r))
 
       with-total :
           (w : ℤ) → answer_total r ≡ some w → SFits w64 w → Fits w64 (word_at l i logged_answer_total)
-          → outcome_at l i crowded s ≡ if (is_answer l i r && is_answer_total l i (of_z w64 w)) then afterwards r t else Another
+          → outcome_at l i crowded s ≡ when (is_answer l i r && is_answer_total l i (of_z w64 w)) then afterwards r t else Another
       unfolding gives logged_at same_total
       with-total w e f g =
           served ∙ rw (e, equal_words w (word_at l i logged_answer_total) f g, and_both (is_answer l i r) (is_answer_total l i (of_z w64 w)))
@@ -120,87 +120,87 @@ module _ (l : List ℕ) (i : ℕ) where
 
   module _ (is : word_at l i logged_kind ≡ kind_insert) (fits : Fits w64 (word_at l i logged_total)) where
     insertion : operation_at l i ≡ some (update (insert (word_at l i logged_account) (total_logged l i)))
-    unfolding operation_of if◌then◌else◌
+    unfolding operation_of when◌then◌else◌
     insertion = rw is
 
     -- the total logged is the account's
     put_in :
         (t : Bool)
-        → if t then Balance 1 (of_z w64 (total_logged l i)) else Another ≡ if t then Balance 1 (word_at l i logged_total) else Another
-    put_in t = ap (λ (z : ℕ). if t then Balance 1 z else Another) (of_z-to_z {w = w64} {n = word_at l i logged_total} fits)
+        → when t then Balance 1 (of_z w64 (total_logged l i)) else Another ≡ when t then Balance 1 (word_at l i logged_total) else Another
+    put_in t = ap (λ (z : ℕ). when t then Balance 1 z else Another) (of_z-to_z {w = w64} {n = word_at l i logged_total} fits)
 
     pub insert_there :
         (crowded : Bool) (w : ℤ)
-        → outcome_at l i crowded (some w) ≡ if is_answer l i Replaced then Balance 1 (word_at l i logged_total) else Another
-    unfolding answer_total afterwards is_still as_outcome if◌then◌else◌
+        → outcome_at l i crowded (some w) ≡ when is_answer l i Replaced then Balance 1 (word_at l i logged_total) else Another
+    unfolding answer_total afterwards is_still as_outcome when◌then◌else◌
     insert_there crowded w =
         plain crowded (some w) _ _ Replaced insertion (inserts_there _ _ crowded w) refl ∙ put_in (is_answer l i Replaced)
 
-    pub insert_crowded : outcome_at l i true none ≡ if is_answer l i Crowded then Unchanged else Another
-    unfolding answer_total afterwards is_still as_outcome if◌then◌else◌
+    pub insert_crowded : outcome_at l i true none ≡ when is_answer l i Crowded then Unchanged else Another
+    unfolding answer_total afterwards is_still as_outcome when◌then◌else◌
     insert_crowded = plain true none _ _ Crowded insertion (inserts_crowded _ _) refl
 
-    pub insert_new : outcome_at l i false none ≡ if is_answer l i Added then Balance 1 (word_at l i logged_total) else Another
-    unfolding answer_total afterwards is_still as_outcome if◌then◌else◌
+    pub insert_new : outcome_at l i false none ≡ when is_answer l i Added then Balance 1 (word_at l i logged_total) else Another
+    unfolding answer_total afterwards is_still as_outcome when◌then◌else◌
     insert_new = plain false none _ _ Added insertion (inserts_new _ _) refl ∙ put_in (is_answer l i Added)
 
   -- ---- deletes and lookups
 
   module _ (is : word_at l i logged_kind ≡ kind_delete) (crowded : Bool) where
     deletion : operation_at l i ≡ some (update (delete (word_at l i logged_account)))
-    unfolding operation_of if◌then◌else◌
+    unfolding operation_of when◌then◌else◌
     deletion = rw is
 
-    pub delete_there : (w : ℤ) → outcome_at l i crowded (some w) ≡ if is_answer l i Removed then Balance 0 0 else Another
-    unfolding answer_total afterwards is_still as_outcome if◌then◌else◌
+    pub delete_there : (w : ℤ) → outcome_at l i crowded (some w) ≡ when is_answer l i Removed then Balance 0 0 else Another
+    unfolding answer_total afterwards is_still as_outcome when◌then◌else◌
     delete_there w = plain crowded (some w) _ _ Removed deletion (deletes_there _ crowded w) refl
 
-    pub delete_missing : outcome_at l i crowded none ≡ if is_answer l i Absent then Unchanged else Another
-    unfolding answer_total afterwards is_still as_outcome if◌then◌else◌
+    pub delete_missing : outcome_at l i crowded none ≡ when is_answer l i Absent then Unchanged else Another
+    unfolding answer_total afterwards is_still as_outcome when◌then◌else◌
     delete_missing = plain crowded none _ _ Absent deletion (deletes_missing _ crowded) refl
 
   module _ (is : word_at l i logged_kind ≡ kind_lookup) (crowded : Bool) where
     looking : operation_at l i ≡ some (lookup (word_at l i logged_account))
-    unfolding operation_of if◌then◌else◌
+    unfolding operation_of when◌then◌else◌
     looking = rw is
 
     pub lookup_there :
         (w : ℕ) → Fits w64 w → Fits w64 (word_at l i logged_answer_total)
         → outcome_at l i crowded (some (to_z w64 w))
-        ≡ if (is_answer l i (Found (pos 0)) && is_answer_total l i w) then Unchanged else Another
-    unfolding answer_total afterwards is_still as_outcome if◌then◌else◌ served_alone looked
+        ≡ when (is_answer l i (Found (pos 0)) && is_answer_total l i w) then Unchanged else Another
+    unfolding answer_total afterwards is_still as_outcome when◌then◌else◌ served_alone looked
     lookup_there w f g =
         with-total crowded (some (to_z w64 w)) _ _ (Found (to_z w64 w)) looking refl (to_z w64 w) refl (sfits_to_z f) g
         ∙ rw (of_z-to_z {w = w64} {n = w} f)
 
-    pub lookup_missing : outcome_at l i crowded none ≡ if is_answer l i None then Unchanged else Another
-    unfolding answer_total afterwards is_still as_outcome if◌then◌else◌ served_alone looked
+    pub lookup_missing : outcome_at l i crowded none ≡ when is_answer l i None then Unchanged else Another
+    unfolding answer_total afterwards is_still as_outcome when◌then◌else◌ served_alone looked
     lookup_missing = plain crowded none _ _ None looking refl refl
 
   -- ---- posts
 
   module _ (is : word_at l i logged_kind ≡ kind_post) where
     posting : operation_at l i ≡ some (update (post (word_at l i logged_account) (total_logged l i)))
-    unfolding operation_of if◌then◌else◌
+    unfolding operation_of when◌then◌else◌
     posting = rw is
 
-    pub post_crowded : outcome_at l i true none ≡ if is_answer l i Crowded then Unchanged else Another
-    unfolding answer_total afterwards is_still as_outcome if◌then◌else◌
+    pub post_crowded : outcome_at l i true none ≡ when is_answer l i Crowded then Unchanged else Another
+    unfolding answer_total afterwards is_still as_outcome when◌then◌else◌
     post_crowded = plain true none _ _ Crowded posting (posts_crowded _ _) refl
 
     post_within :
         (s : Option ℤ) → Fits w64 (word_at l i logged_answer_total) → is_total (total_or0 s +ℤ total_logged l i) ≡ true
         → outcome_at l i false s
-        ≡ if (is_answer l i (Posted (pos 0)) && is_answer_total l i (of_z w64 (total_or0 s +ℤ total_logged l i)))
+        ≡ when (is_answer l i (Posted (pos 0)) && is_answer_total l i (of_z w64 (total_or0 s +ℤ total_logged l i)))
         then Balance 1 (of_z w64 (total_or0 s +ℤ total_logged l i)) else Another
-    unfolding answer_total afterwards is_still as_outcome if◌then◌else◌
+    unfolding answer_total afterwards is_still as_outcome when◌then◌else◌
     post_within s f e =
         with-total false s _ _ (Posted (total_or0 s +ℤ total_logged l i)) posting (posts_within _ _ s e) _ refl (fits_total _ e) f
 
     post_outside :
         (s : Option ℤ) → is_total (total_or0 s +ℤ total_logged l i) ≡ false
-        → outcome_at l i false s ≡ if is_answer l i Overrun then Unchanged else Another
-    unfolding answer_total afterwards is_still as_outcome if◌then◌else◌
+        → outcome_at l i false s ≡ when is_answer l i Overrun then Unchanged else Another
+    unfolding answer_total afterwards is_still as_outcome when◌then◌else◌
     post_outside s e = plain false s _ _ Overrun posting (posts_outside _ _ s e) refl
 
     -- an account that is not there starts from 0
@@ -216,13 +216,13 @@ module _ (l : List ℕ) (i : ℕ) where
 
     pub post_sum :
         (t s : ℕ) → sum_of t (word_at l i logged_total) ≡ Within s → Fits w64 (word_at l i logged_answer_total)
-        → outcome_at l i false (some (to_z w64 t)) ≡ if (is_answer l i (Posted (pos 0)) && is_answer_total l i s) then Balance 1 s else Another
+        → outcome_at l i false (some (to_z w64 t)) ≡ when (is_answer l i (Posted (pos 0)) && is_answer_total l i s) then Balance 1 s else Another
     unfolding total_or0
     post_sum t s e f = let h = sum_within t (word_at l i logged_total) s e in rw h.1 (post_within (some (to_z w64 t)) f h.0)
 
     pub post_overrun :
         (t : ℕ) → sum_of t (word_at l i logged_total) ≡ Outside
-        → outcome_at l i false (some (to_z w64 t)) ≡ if is_answer l i Overrun then Unchanged else Another
+        → outcome_at l i false (some (to_z w64 t)) ≡ when is_answer l i Overrun then Unchanged else Another
     unfolding total_or0
     post_overrun t e = post_outside (some (to_z w64 t)) (sum_outside t (word_at l i logged_total) e)
 
@@ -231,5 +231,5 @@ module _ (l : List ℕ) (i : ℕ) where
   pub no_kind :
       word_at l i logged_kind ≢ kind_insert → word_at l i logged_kind ≢ kind_delete → word_at l i logged_kind ≢ kind_lookup
       → word_at l i logged_kind ≢ kind_post → (crowded : Bool) (s : Option ℤ) → outcome_at l i crowded s ≡ Another
-  unfolding outcome_of outcome_if logged_at operation_of as_outcome if◌then◌else◌
+  unfolding outcome_of outcome_if logged_at operation_of as_outcome when◌then◌else◌
   no_kind a b d e crowded s = rw (ne_eqb _ _ a, ne_eqb _ _ b, ne_eqb _ _ d, ne_eqb _ _ e)

@@ -17,7 +17,7 @@ use borrow.Author.Tests.{eqb-true, ltb-true, ltb-false}
 use Rattle.interface.specs.Numbers.{answer_number}
 use Rattle.interface.specs.declared.Answer.{Answer}
 use Rattle.interface.specs.declared.Answer.TheVariants.{Crowded}
-use Rattle.machine.specs.Choice.{if◌then◌else◌}
+use Rattle.machine.specs.Choice.{when◌then◌else◌}
 use Rattle.machine.specs.Sequential.{Update, insert, delete, post, account, Operation, update, lookup, first_bits, Table, find, having, looked, crowds, serve, Ascending}
 use Rattle.machine.specs.Calls.{operation_of}
 use Rattle.machine.proofs.laws.Base.{if_elim, if_elim₂, if_eq, if_same, no_both, and_parts, none_some}
@@ -161,7 +161,7 @@ module _ (l : List ℕ) (b M : ℕ) (few : count_of l ≤ 12) (x : List ℕ) (t 
       ap (leb b) (sym (m.counted (first_bits M (account_logged l i)))) ∙ ap (λ (a : ℕ). leb b (length (having M (first_bits M a) t))) e
 
   update_fits : (u : Update) → account_logged l i ≡ account u → KeptBy u → OperationFits (some (update u))
-  unfolding outcome_if served_if serve is_still if◌then◌else◌
+  unfolding outcome_if served_if serve is_still when◌then◌else◌
   update_fits u e k =
       rw (crowded_same (account u) e, alone_same _ u t _ m.ascending (ap (find t) (sym e) ∙ m.held i at))
       (tried_elim P _ u t (stays Crowded refl) (changed_elim P t stays u k sets))
@@ -179,7 +179,7 @@ module _ (l : List ℕ) (b M : ℕ) (few : count_of l ≤ 12) (x : List ℕ) (t 
           (subst (λ (a : ℕ). Means l M (put_balance x (first_place l i) s) (with_total t a s)) e (put_means l M x t i s few at h m)))
 
   lookup_fits : OperationFits (some (lookup (account_logged l i)))
-  unfolding outcome_if served_if serve served_alone looked is_still if◌then◌else◌
+  unfolding outcome_if served_if serve served_alone looked is_still when◌then◌else◌
   lookup_fits = rw (m.held i at) (go (balance_at x (first_place l i)))
     where
       go : (s : Option ℤ) → OutcomeFits (given_alone (logged_at l i) (looked s, s)) (after_giving (logged_at l i) (looked s, t))

@@ -8,7 +8,7 @@ use lib.IntN.{ℤ, ◌+ℤ◌}
 use Rattle.interface.specs.Numbers.{answer_number}
 use Rattle.interface.specs.declared.Answer.{Answer}
 use Rattle.interface.specs.declared.Answer.TheVariants.{Added, Replaced, Removed, Absent, Posted, Crowded, Overrun}
-use Rattle.machine.specs.Choice.{if◌then◌else◌, ◌and◌}
+use Rattle.machine.specs.Choice.{when◌then◌else◌, ◌and◌}
 use Rattle.machine.specs.Sequential.{Update, insert, delete, post, account, update, Table, find, put, remove, present, total_or0, is_total, sum, result, changed, is_none, creates, tried, Ascending}
 use Rattle.machine.proofs.laws.Base.{if_elim₂, eq_elim, if_eq, if_ne, none_some}
 use Rattle.machine.proofs.laws.Tables.{find_changed_at, total_after}
@@ -45,7 +45,7 @@ module _ (P : Answer × Table → Type 0) (t : Table)
       (u : Update) → KeptBy u
       → ((r : Answer) (s : Option ℤ) → says_still r ≡ false → Kept s → P (r, with_total t (account u) s))
       → P (result u t, changed u t)
-  unfolding result changed is_still if◌then◌else◌ present
+  unfolding result changed is_still when◌then◌else◌ present
   changed_elim (insert a v) k sets = go (find t a)
     where
       go : (o : Option ℤ) → P (present o Replaced Added, put t a v)
@@ -74,7 +74,7 @@ unfolding result sum
 result_same (insert a v) t t' e = ap (λ (o : Option ℤ). present o Replaced Added) e
 result_same (delete a) t t' e = ap (λ (o : Option ℤ). present o Removed Absent) e
 result_same (post a v) t t' e =
-    ap (λ (o : Option ℤ). if is_total (total_or0 o +ℤ v) then Posted (total_or0 o +ℤ v) else Overrun) e
+    ap (λ (o : Option ℤ). when is_total (total_or0 o +ℤ v) then Posted (total_or0 o +ℤ v) else Overrun) e
 
 -- the answer, and the total afterwards
 abbrev pub served : ℕ → Answer × Table → Answer × Option ℤ
@@ -83,9 +83,9 @@ served a r = (r.0, find r.1 a)
 tried_same :
     (c : Bool) (u : Update) (t t' : Table) → Ascending t → Ascending t' → find t (account u) ≡ find t' (account u)
     → served (account u) (tried c u t) ≡ served (account u) (tried c u t')
-unfolding tried if◌then◌else◌
+unfolding tried when◌then◌else◌
 tried_same c u t t' h h' e =
-    ap (λ (d : Bool). served a (if c and d then (Crowded, t) else (result u t, changed u t))) (creates_same u t t' e)
+    ap (λ (d : Bool). served a (when c and d then (Crowded, t) else (result u t, changed u t))) (creates_same u t t' e)
     ∙ go (c and creates u t')
   where
     a : ℕ
@@ -96,8 +96,8 @@ tried_same c u t t' h h' e =
 
     go :
         (d : Bool)
-        → served a (if d then (Crowded, t) else (result u t, changed u t))
-        ≡ served a (if d then (Crowded, t') else (result u t', changed u t'))
+        → served a (when d then (Crowded, t) else (result u t, changed u t))
+        ≡ served a (when d then (Crowded, t') else (result u t', changed u t'))
     go true = λ i. (Crowded, e i)
     go false = λ i. (result_same u t t' e i, after i)
 

@@ -4,7 +4,7 @@ use Rattle.std.specs.Prelude.{ℕ, zero, suc, ◌+◌, ◌*◌, Bool, List, eqb,
 use Rattle.std.proofs.Math.Option.{Option, none, some}
 use Rattle.std.specs.Int.{w64}
 use Rattle.std.proofs.Common.{to_z, of_z}
-use Rattle.machine.specs.Choice.{if◌then◌else◌}
+use Rattle.machine.specs.Choice.{when◌then◌else◌}
 use Rattle.machine.specs.Sequential.{first_bits}
 use Rattle.logs.specs.Log.{word_at, logged_account, count_of}
 
@@ -16,7 +16,7 @@ account_logged l i = word_at l i logged_account
 -- the first place of the account, of k from j on, or the one after them
 unfoldable pub first_from : List ℕ → ℕ → ℕ → ℕ → ℕ
 first_from l a zero j = j
-first_from l a (suc k) j = if eqb (account_logged l j) a then j else first_from l a k (suc j)
+first_from l a (suc k) j = when eqb (account_logged l j) a then j else first_from l a k (suc j)
 
 -- the first place whose operation is about the account of that at i
 unfoldable pub first_place : List ℕ → ℕ → ℕ
@@ -35,7 +35,7 @@ unfoldable pub total_at : List ℕ → ℕ → ℕ
 total_at x j = get_or x (j * balance_words + 1) 0
 
 unfoldable pub balance_of : ℕ → ℕ → Option ℤ
-balance_of there total = if eqb there 0 then none else some (to_z w64 total)
+balance_of there total = when eqb there 0 then none else some (to_z w64 total)
 
 -- the total of the account whose first place this is, if it is there
 unfoldable pub balance_at : List ℕ → ℕ → Option ℤ
@@ -55,8 +55,8 @@ put_balance x j (some v) = put_words x j 1 (of_z w64 v)
 unfoldable pub agreeing : List ℕ → ℕ → ℕ → List ℕ → ℕ → ℕ
 agreeing l M q x zero = 0
 agreeing l M q x (suc j) =
-    if eqb (there_at x j) 0 then agreeing l M q x j
-    else if eqb (first_bits M (account_logged l j)) q then suc (agreeing l M q x j)
+    when eqb (there_at x j) 0 then agreeing l M q x j
+    else when eqb (first_bits M (account_logged l j)) q then suc (agreeing l M q x j)
     else agreeing l M q x j
 
 -- "where b others agree with it in the first M bits"

@@ -8,7 +8,7 @@ use Rattle.std.proofs.Common.{of_z}
 use Rattle.interface.specs.Numbers.{answer_number}
 use Rattle.interface.specs.declared.Answer.{Answer}
 use Rattle.interface.specs.declared.Answer.TheVariants.{Absent, Found, None, Crowded, Overrun}
-use Rattle.machine.specs.Choice.{if◌then◌else◌}
+use Rattle.machine.specs.Choice.{when◌then◌else◌}
 use Rattle.machine.specs.Sequential.{Table, Operation, update, lookup, account, find, looked, tried}
 use Rattle.machine.specs.Calls.{operation_of}
 use Rattle.report.specs.Report.{answer_base}
@@ -32,7 +32,7 @@ served_alone crowded (update u) s =
 
 -- the balance afterwards, where the answer is the one logged
 unfoldable pub given_alone : Logged → Answer × Option ℤ → Option (Option ℤ)
-given_alone x r = if gives x r.0 then some r.1 else none
+given_alone x r = when gives x r.0 then some r.1 else none
 
 unfoldable pub outcome_if : Logged → Bool → Option ℤ → Option Operation → Option (Option ℤ)
 outcome_if x crowded s none = none
@@ -45,10 +45,10 @@ outcome_of x crowded s = outcome_if x crowded s (operation_of x.kind x.account x
 -- the answers that say that the table stayed as it was: found, none, absent, crowded, overrun
 unfoldable pub is_still : ℕ → Bool
 is_still r =
-    if eqb r (answer_base + answer_number (Found (pos 0))) then true
-    else if eqb r (answer_base + answer_number None) then true
-    else if eqb r (answer_base + answer_number Absent) then true
-    else if eqb r (answer_base + answer_number Crowded) then true
+    when eqb r (answer_base + answer_number (Found (pos 0))) then true
+    else when eqb r (answer_base + answer_number None) then true
+    else when eqb r (answer_base + answer_number Absent) then true
+    else when eqb r (answer_base + answer_number Crowded) then true
     else eqb r (answer_base + answer_number Overrun)
 
 -- the same in the source's enum, of an answer that says that the table stayed as it was, or not

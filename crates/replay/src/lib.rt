@@ -7,7 +7,7 @@ ghost use Rattle.std.proofs.Math.Option.{some};
 ghost use Rattle.std.specs.Int.{w64};
 ghost use Rattle.std.proofs.Common.{to_z};
 ghost use Rattle.interface.specs.Numbers.{kind_insert, kind_delete, kind_lookup, kind_post};
-ghost use Rattle.machine.specs.Choice.{if◌then◌else◌};
+ghost use Rattle.machine.specs.Choice.{when◌then◌else◌};
 ghost use Rattle.logs.specs.Log.{word_at, logged_at, logged_kind, operation_words, greatest_operations, count_of};
 ghost use Rattle.replay.specs.Balances.{first_place, agreeing, crowds_at, balance_of};
 ghost use Rattle.replay.specs.Replay.{outcome_of, as_outcome, still_at, replayed, as_replayed};
@@ -110,7 +110,7 @@ fn crowds(log: &[u64], capacity: u64, depth: u64, balances: [u64; BALANCES], i: 
 
 // Nothing changes, where the answer is the one logged.
 fn unchanged_if(fits: bool) -> Outcome
-    ensures { result ≡ (if fits then Unchanged else Another) }
+    ensures { result ≡ (when fits then Unchanged else Another) }
 {
     if fits {
         Outcome::Unchanged
@@ -121,7 +121,7 @@ fn unchanged_if(fits: bool) -> Outcome
 
 // The balance afterwards, where the answer is the one logged.
 fn balance_if(fits: bool, there: u64, total: u64) -> Outcome
-    ensures { result ≡ (if fits then Balance there total else Another) }
+    ensures { result ≡ (when fits then Balance there total else Another) }
 {
     if fits {
         Outcome::Balance(there, total)

@@ -7,7 +7,7 @@ use Rattle.std.proofs.Common.{of_z}
 use Rattle.interface.specs.Numbers.{answer_number, answer_total}
 use Rattle.interface.specs.declared.Answer.{Answer}
 use Rattle.interface.specs.declared.Completion.{Completion}
-use Rattle.machine.specs.Choice.{if◌then◌else◌}
+use Rattle.machine.specs.Choice.{when◌then◌else◌}
 use Rattle.lists.specs.Parts.{overlay}
 
 -- ---- numbers
@@ -23,7 +23,7 @@ ended_number c = answer_base + answer_number c.answer
 
 -- a report with xs at its start, if they fit; else the report as it is
 unfoldable pub told : List ℕ → List ℕ → List ℕ
-told report xs = if leb (length xs) (length report) then overlay report 0 xs else report
+told report xs = when leb (length xs) (length report) then overlay report 0 xs else report
 
 -- a total as a word of two's complement; 0 where there is none
 unfoldable pub word_or0 : Option ℤ → ℕ
@@ -36,7 +36,7 @@ total_word a = word_or0 (answer_total a)
 
 -- a report with three words at its start, with the first two where it has two places only
 unfoldable pub told_three : List ℕ → ℕ → ℕ → ℕ → List ℕ
-told_three report x y z = if leb 3 (length report) then told report (x ∷ y ∷ z ∷ []) else told report (x ∷ y ∷ [])
+told_three report x y z = when leb 3 (length report) then told report (x ∷ y ∷ z ∷ []) else told report (x ∷ y ∷ [])
 
 -- an operation's end: its steps, its answer's total, and the check that answered it
 unfoldable pub ended_report : List ℕ → Completion → List ℕ

@@ -3,7 +3,7 @@ use Prim.Native.Nat.{ℕ}
 use mathlib.Core.Path.{◌≡◌}
 use mathlib.Core.Bool.{Bool, true, false}
 use mathlib.Core.List.{List}
-use Rattle.machine.specs.Choice.{if◌then◌else◌}
+use Rattle.machine.specs.Choice.{when◌then◌else◌}
 use Rattle.machine.proofs.laws.Base.{if_elim}
 use Rattle.commands.specs.declared.Command.{Command}
 use Rattle.replies.specs.declared.Reply.{Reply}
@@ -14,13 +14,13 @@ use Rattle.responses.specs.Responses.{responded}
 use Rattle.responses.specs.Answers.{replied_as, is_list, answered}
 
 pub answered_list : (s : DriverState) (c : Command) (t : Bool) (x : DriverState) → t ≡ is_list c → t ≡ true → x ≡ listed s → x ≡ answered s c
-unfolding answered if◌then◌else◌
+unfolding answered when◌then◌else◌
 answered_list s c t x e f g = rw (← e, f) g
 
 pub answered_reply : (s : DriverState) (c : Command) (t : Bool) (l : List ℕ) (r : Reply) (o : Output) → t ≡ is_list c → t ≡ false
     → ◌≡◌ {A = List ℕ × Reply} (l, r) (responded s.words c) → o ≡ emitted s.output (printed_reply r)
     → ◌≡◌ {A = DriverState} (record { words = l; accounts = s.accounts; totals = s.totals; output = o }) (answered s c)
-unfolding answered replied_as if◌then◌else◌
+unfolding answered replied_as when◌then◌else◌
 answered_reply s c t l r o e f g h = rw (← e, f, ← g, h)
 
 pub answered_within : (s : DriverState) (c : Command) → Within s.output → Within (answered s c).output

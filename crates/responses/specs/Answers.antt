@@ -1,7 +1,7 @@
 -- A command carried out, and what it is met with printed behind the used bytes: a listing, or its reply. Rests on
 -- specs/Responses and on the outputs.
 use Rattle.std.specs.Prelude.{ℕ, Bool, true, false, List}
-use Rattle.machine.specs.Choice.{if◌then◌else◌}
+use Rattle.machine.specs.Choice.{when◌then◌else◌}
 use Rattle.commands.specs.declared.Command.{Command}
 use Rattle.replies.specs.declared.Reply.{Reply}
 use Rattle.replies.specs.Printed.{printed_reply}
@@ -28,4 +28,4 @@ is_list Command.List = true
 is_list Command.Unread = false
 
 unfoldable pub answered : DriverState → Command → DriverState
-answered s c = if is_list c then listed s else replied_as s (responded s.words c)
+answered s c = when is_list c then listed s else replied_as s (responded s.words c)

@@ -16,7 +16,7 @@ use Rattle.interface.specs.Numbers.{kind_insert, kind_post, answer_number}
 use Rattle.interface.specs.declared.Answer.TheVariants.{Crowded, Overrun}
 use Rattle.interface.specs.declared.Settings.{Settings}
 use Rattle.fields.specs.Fields.{slot_ticket, slot_size}
-use Rattle.machine.specs.Choice.{if◌then◌else◌}
+use Rattle.machine.specs.Choice.{when◌then◌else◌}
 use Rattle.machine.proofs.laws.Base.{if_elim, if_true, if_false, if_ap, if_same, and_true, and_left_false, and_right_false}
 use Rattle.bucket.specs.State.{array_size, size_of, search_of, total_in, put_of, remove_of, settle_of}
 use Rattle.rounds.specs.Rounds.{posted_of, post_of, changed_of, carry_of, help_of, helped_of, with_applied, round_of}
@@ -37,13 +37,13 @@ module _ (x : BucketState) (j : ℕ) (p : Position) (u : Descriptor) where
   pub change_insert :
       (y : BucketState) (answer : ℕ) → u.kind ≡ kind_insert → y ≡ put_of x p u.account u.total → answer ≡ insert_answer p
       → settle_of y j u.ticket answer 0 ≡ changed_of x j p u
-  unfolding changed_of if◌then◌else◌
+  unfolding changed_of when◌then◌else◌
   change_insert y answer k g h = rw (g, h, eq-eqb u.kind kind_insert k)
 
   pub change_delete :
       (y : BucketState) (answer : ℕ) → (u.kind ≢ kind_insert) × (u.kind ≢ kind_post) → y ≡ remove_of x p → answer ≡ delete_answer p
       → settle_of y j u.ticket answer 0 ≡ changed_of x j p u
-  unfolding changed_of if◌then◌else◌
+  unfolding changed_of when◌then◌else◌
   change_delete y answer k g h = rw (g, h, ne_eqb u.kind kind_insert k.0, ne_eqb u.kind kind_post k.1)
 
   -- a post, by what its sum is
@@ -60,7 +60,7 @@ module _ (x : BucketState) (j : ℕ) (p : Position) (u : Descriptor) where
 
   module _ (kind : u.kind ≡ kind_post) where
     pub change_post : post_of x j p u ≡ changed_of x j p u
-    unfolding changed_of if◌then◌else◌
+    unfolding changed_of when◌then◌else◌
     change_post = rw kind
 
     pub change_posted :

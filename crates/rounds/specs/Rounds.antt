@@ -5,7 +5,7 @@ use Rattle.interface.specs.Numbers.{kind_insert, kind_post, answer_number}
 use Rattle.interface.specs.declared.Settings.{Settings}
 use Rattle.interface.specs.declared.Answer.TheVariants.{Crowded, Overrun}
 use Rattle.fields.specs.Fields.{slot_size}
-use Rattle.machine.specs.Choice.{if◌then◌else◌, ◌and◌}
+use Rattle.machine.specs.Choice.{when◌then◌else◌, ◌and◌}
 use Rattle.bucket.specs.declared.BucketState.{BucketState}
 use Rattle.rules.specs.declared.Descriptor.{Descriptor}
 use Rattle.arrays.specs.declared.Position.{Position}
@@ -30,23 +30,23 @@ post_of x j p u = posted_of x j p u (sum_of (total_in x p) u.total)
 -- and a post's is a delete; only posted has a total.
 unfoldable pub changed_of : BucketState → ℕ → Position → Descriptor → BucketState
 changed_of x j p u =
-    if eqb u.kind kind_insert
+    when eqb u.kind kind_insert
     then settle_of (put_of x p u.account u.total) j u.ticket (insert_answer p) 0
-    else if eqb u.kind kind_post then post_of x j p u
+    else when eqb u.kind kind_post then post_of x j p u
     else settle_of (remove_of x p) j u.ticket (delete_answer p) 0
 
 -- worker j's update carried out: crowded "is settled with its ticket like any other answer" (02, No. 2)
 unfoldable pub carry_of : BucketState → Settings → ℕ → Descriptor → BucketState
 carry_of x s j u =
     let p : Position = search_of x u.account in
-    if crowded_by s x.count u.kind p
+    when crowded_by s x.count u.kind p
     then settle_of x j u.ticket (answer_number Crowded) 0
     else changed_of x j p u
 
 -- worker j's update carried out in a bucket of depth d if it is pending, unless the copy holds it back
 unfoldable pub help_of : BucketState → Settings → ℕ → ℕ → ℕ → Descriptor → BucketState
 help_of x s d toggle j u =
-    if pending_by toggle x.applied j (get_or x.settled j 0) u.ticket and not (holds_back_by s d x.count)
+    when pending_by toggle x.applied j (get_or x.settled j 0) u.ticket and not (holds_back_by s d x.count)
     then carry_of x s j u
     else x
 

@@ -15,7 +15,7 @@ use borrow.Author.Tests.{lt-ltb, le-ltb}
 use Rattle.interface.specs.declared.Settings.{Settings}
 use Rattle.interface.specs.declared.Refusal.{Refusal}
 use Rattle.interface.specs.declared.Listed.{Listed}
-use Rattle.machine.specs.Choice.{if◌then◌else◌}
+use Rattle.machine.specs.Choice.{when◌then◌else◌}
 use Rattle.machine.proofs.laws.Base.{if_true, if_false}
 use Rattle.lists.specs.Parts.{overlay}
 use Rattle.layout.specs.Shape.{strange, shape_of, Fits}
@@ -131,14 +131,14 @@ module _ (l a : List ℕ) (t : List ℤ) (x : Bool) (tested : x ≡ strange l) w
 
     pub listing_narrow :
         (length a < k) ⊎ (length t < k) → record { accounts = a; totals = t; listed = Listed.Refused Refusal.Narrow } ≡ listing_words l a t
-    unfolding shown if◌then◌else◌
+    unfolding shown when◌then◌else◌
     listing_narrow h =
         ⊎_elim (λ n. rw (lt-ltb _ _ (rw count at n))) (λ n. rw (lt-ltb _ _ (rw count at n), or-true)) h ∙ listing_shown
 
     pub listing_all :
         (b : List ℕ) (u : List ℤ) → k ≤ length a → k ≤ length t → RowsWritten a t 0 (sorted (unsorted l g)) b u
         → record { accounts = b; totals = u; listed = Listed.Count k } ≡ listing_words l a t
-    unfolding rows shown if◌then◌else◌
+    unfolding rows shown when◌then◌else◌
     listing_all b u n m w =
         rw (w.0, w.1, count) ((rw (
           le-ltb (length a) (length (rows l g)) (rw count at n),

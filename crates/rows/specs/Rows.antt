@@ -4,7 +4,7 @@ use Rattle.std.specs.Prelude.{ℕ, zero, suc, ◌^◌, ◌||◌, List, [], ◌++
 use Rattle.interface.specs.declared.Settings.{Settings}
 use Rattle.interface.specs.declared.Refusal.{Refusal}
 use Rattle.interface.specs.declared.Listed.{Listed}
-use Rattle.machine.specs.Choice.{if◌then◌else◌}
+use Rattle.machine.specs.Choice.{when◌then◌else◌}
 use Rattle.layout.specs.Shape.{strange, shape_of}
 use Rattle.sorting.specs.Sorting.{sorted}
 use Rattle.sorting.specs.RowLists.{accounts_with, totals_with}
@@ -35,7 +35,7 @@ pub record Shown : Type 0 where
 -- the rows at the start of both lists, nothing past them; where a list is too short for them, nothing at all
 unfoldable pub shown : List ℕ → List ℤ → List (ℕ × ℤ) → Shown
 shown accounts totals r =
-    if ltb (length accounts) (length r) || ltb (length totals) (length r)
+    when ltb (length accounts) (length r) || ltb (length totals) (length r)
     then record { accounts = accounts; totals = totals; listed = Listed.Refused Refusal.Narrow }
     else record {
       accounts = accounts_with accounts 0 r;
@@ -46,5 +46,5 @@ shown accounts totals r =
 -- "The listing checks 8, 10."
 unfoldable pub listing_words : List ℕ → List ℕ → List ℤ → Shown
 listing_words l accounts totals =
-    if strange l then record { accounts = accounts; totals = totals; listed = Listed.Refused Refusal.Strange }
+    when strange l then record { accounts = accounts; totals = totals; listed = Listed.Refused Refusal.Strange }
     else shown accounts totals (rows l (shape_of l))

@@ -8,7 +8,7 @@ use Rattle.interface.specs.Numbers.{kind_insert, kind_post, answer_number}
 use Rattle.interface.specs.declared.Settings.{Settings}
 use Rattle.interface.specs.declared.Answer.TheVariants.{Added, Replaced, Removed, Absent, None, Posted, Crowded, Overrun}
 use Rattle.fields.specs.Fields.{slot_kind, slot_account, slot_total, slot_ticket}
-use Rattle.machine.specs.Choice.{◌and◌, if◌then◌else◌}
+use Rattle.machine.specs.Choice.{◌and◌, when◌then◌else◌}
 use Rattle.rules.specs.declared.Descriptor.{Descriptor}
 use Rattle.arrays.specs.declared.Position.{Position}
 use Rattle.arrays.specs.declared.Position.TheVariants.{At, Before}
@@ -69,10 +69,10 @@ posted_number = answer_number (Posted (pos 0))
 -- been given for any other number.
 unfoldable pub answer_of : ℕ → ℕ → Answer
 answer_of k total =
-    if eqb k (answer_number Added) then Added else if eqb k (answer_number Replaced) then Replaced
-    else if eqb k (answer_number Removed) then Removed else if eqb k (answer_number Absent) then Absent
-    else if eqb k posted_number then Posted (to_z w64 total) else if eqb k (answer_number Crowded) then Crowded
-    else if eqb k (answer_number Overrun) then Overrun else None
+    when eqb k (answer_number Added) then Added else when eqb k (answer_number Replaced) then Replaced
+    else when eqb k (answer_number Removed) then Removed else when eqb k (answer_number Absent) then Absent
+    else when eqb k posted_number then Posted (to_z w64 total) else when eqb k (answer_number Crowded) then Crowded
+    else when eqb k (answer_number Overrun) then Overrun else None
 
 -- ---- single bits
 
@@ -82,11 +82,11 @@ bit w j = w / 2 ^ j % 2
 
 -- bit w of a word changed
 unfoldable pub flip_bit : ℕ → ℕ → ℕ
-flip_bit x w = if eqb (bit x w) 0 then x + 2 ^ w else x - 2 ^ w
+flip_bit x w = when eqb (bit x w) 0 then x + 2 ^ w else x - 2 ^ w
 
 -- bit j of a word set
 unfoldable pub with_bit : ℕ → ℕ → ℕ
-with_bit x j = if eqb (bit x j) 0 then x + 2 ^ j else x
+with_bit x j = when eqb (bit x j) 0 then x + 2 ^ j else x
 
 -- ---- whether an update is pending
 

@@ -16,7 +16,7 @@ use Rattle.interface.specs.declared.Refusal.{Refusal}
 use Rattle.interface.specs.declared.Ran.{Ran}
 use Rattle.fields.specs.Fields.{worker_kind, worker_steps, steps_range}
 use Rattle.fields.specs.Regions.{worker_at}
-use Rattle.machine.specs.Choice.{if◌then◌else◌}
+use Rattle.machine.specs.Choice.{when◌then◌else◌}
 use Rattle.machine.proofs.laws.Base.{if_true, if_false}
 use Rattle.memory.specs.Words.{least}
 use Rattle.layout.specs.Shape.{word, strange, shape_of}
@@ -65,7 +65,7 @@ module _ (l : List ℕ) (s : Settings) (w k c : ℕ) where
 -- a run of worker w, whose settings are known
 run_on : List ℕ → ℕ → ℕ → Settings → List ℕ × Ran
 run_on l w most s =
-    if eqb (word l (worker_at s.workers w + worker_kind)) kind_none
+    when eqb (word l (worker_at s.workers w + worker_kind)) kind_none
     then (l, Ran.Refused Refusal.Idle)
     else run_in l s w 0 (least most longest_run)
 

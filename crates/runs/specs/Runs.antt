@@ -7,7 +7,7 @@ use Rattle.interface.specs.declared.Settings.{Settings}
 use Rattle.interface.specs.declared.Refusal.{Refusal}
 use Rattle.interface.specs.declared.Stepped.{Stepped}
 use Rattle.interface.specs.declared.Ran.{Ran}
-use Rattle.machine.specs.Choice.{if◌then◌else◌}
+use Rattle.machine.specs.Choice.{when◌then◌else◌}
 use Rattle.fields.specs.Fields.{worker_kind, worker_steps, steps_range}
 use Rattle.fields.specs.Regions.{worker_at}
 use Rattle.memory.specs.Words.{least}
@@ -33,7 +33,7 @@ run_in l s w k zero = (l, Ran.Moved k)
 run_in l s w k (suc f) =
     let p : ℕ = worker_at s.workers w in
     let after : List ℕ × Stepped = operation_at l s p w (word l (p + worker_steps) % steps_range) in
-    if eqb (word l (p + worker_kind)) kind_none
+    when eqb (word l (p + worker_kind)) kind_none
     then (l, Ran.Moved k)
     else or_else after.0 (last_of k after.1) (run_in after.0 s w (suc k) f)
 
@@ -44,7 +44,7 @@ longest_run = 256
 
 unfoldable pub run_words : List ℕ → ℕ → ℕ → List ℕ × Ran
 run_words l w most =
-    if strange l then (l, Ran.Refused Refusal.Strange)
-    else if leb (shape_of l).workers w then (l, Ran.Refused Refusal.Stranger)
-    else if eqb (word l (worker_at (shape_of l).workers w + worker_kind)) kind_none then (l, Ran.Refused Refusal.Idle)
+    when strange l then (l, Ran.Refused Refusal.Strange)
+    else when leb (shape_of l).workers w then (l, Ran.Refused Refusal.Stranger)
+    else when eqb (word l (worker_at (shape_of l).workers w + worker_kind)) kind_none then (l, Ran.Refused Refusal.Idle)
     else run_in l (shape_of l) w 0 (least most longest_run)

@@ -8,7 +8,7 @@ use mathlib.Core.Option.{Option, none, some}
 use lib.Dec.{eqb, leb}
 use lib.ListN.{get_or}
 use borrow.Author.Tests.{lt-ltb, le-ltb}
-use Rattle.machine.specs.Choice.{if◌then◌else◌, ◌and◌}
+use Rattle.machine.specs.Choice.{when◌then◌else◌, ◌and◌}
 use Rattle.logs.specs.Log.{log_of, logged_at, word_at, logged_call, logged_end, precedes, greatest_operations, greatest_word}
 use Rattle.logs.specs.Judging.{earlier_in}
 use Rattle.logs.specs.Search.{opened, is_same, exchanged_from, exchanged, unless_exchanged, candidate}
@@ -76,7 +76,7 @@ module _ (l : List ℕ) (b M : ℕ) (before : List ℕ) (last : ℕ) (x : List �
       pub attempt_exchanged :
           (r : Bool) → r ≡ exchanged_in l b M before last next.balances i → i < last → r ≡ true
           → as_replayed x none ≡ as_replayed x (attempt_in l b M before last x i)
-      unfolding unless_exchanged if◌then◌else◌ ◌and◌
+      unfolding unless_exchanged when◌then◌else◌ ◌and◌
       attempt_exchanged r e g f =
           let n : attempt_in l b M before last x i ≡ none = fits_here ∙ rw (lt-ltb i last g, ← e, f) in
           sym (ap (as_replayed x) n)
@@ -87,11 +87,11 @@ module _ (l : List ℕ) (b M : ℕ) (before : List ℕ) (last : ℕ) (x : List �
       pub attempt_kept :
           (r : Bool) → r ≡ exchanged_in l b M before last next.balances i → i < last → r ≡ false
           → next ≡ as_replayed x (attempt_in l b M before last x i)
-      unfolding unless_exchanged if◌then◌else◌ ◌and◌
+      unfolding unless_exchanged when◌then◌else◌ ◌and◌
       attempt_kept r e g f = taken (fits_here ∙ rw (lt-ltb i last g, ← e, f))
 
       pub attempt_higher : last ≤ i → next ≡ as_replayed x (attempt_in l b M before last x i)
-      unfolding unless_exchanged if◌then◌else◌ ◌and◌
+      unfolding unless_exchanged when◌then◌else◌ ◌and◌
       attempt_higher g = taken (fits_here ∙ rw (le-ltb i last g))
 
 -- ---- a candidate: an attempt, where the operation is left and ready
@@ -101,15 +101,15 @@ module _ (l : List ℕ) (b M : ℕ) (before : List ℕ) (last : ℕ) (left x : L
     (tested : r ≡ eqb (get_or left i 0) 1 and leb (word_at l i logged_call) limit) where
   is_open :
       (t : Bool) → r ≡ t
-      → candidate_in l b M before last (is_left left) x i ≡ unless l b M before last x i (if t then replayed l b M x i else none)
+      → candidate_in l b M before last (is_left left) x i ≡ unless l b M before last x i (when t then replayed l b M x i else none)
   unfolding candidate opened is_left
   is_open t e = rw (← in_time_ready l left b M i word, ← least, ← tested, e)
 
   pub candidate_closed : r ≡ false → candidate_in l b M before last (is_left left) x i ≡ none
-  unfolding unless_exchanged if◌then◌else◌
+  unfolding unless_exchanged when◌then◌else◌
   candidate_closed e = is_open false e
 
   pub candidate_open :
       r ≡ true → as_replayed x (attempt_in l b M before last x i) ≡ as_replayed x (candidate_in l b M before last (is_left left) x i)
-  unfolding if◌then◌else◌
+  unfolding when◌then◌else◌
   candidate_open e = sym (ap (as_replayed x) (is_open true e))

@@ -10,7 +10,7 @@ use mathlib.Core.List.{List}
 use lib.Dec.{leb, ltb}
 use lib.ListN.{get_or}
 use borrow.Author.Tests.{eq-eqb, ne_eqb, le-leb, lt-leb, ltb-true, ltb-false, leb-true, leb-false}
-use Rattle.machine.specs.Choice.{if◌then◌else◌, ◌and◌}
+use Rattle.machine.specs.Choice.{when◌then◌else◌, ◌and◌}
 use Rattle.memory.specs.Words.{least}
 use Rattle.logs.specs.Log.{log_of, logged_at, word_at, logged_call, logged_end, all, precedes, greatest_operations, greatest_word}
 use Rattle.logs.specs.Judging.{earlier_in}
@@ -22,22 +22,22 @@ use Rattle.searching.specs.Searching.{is_left, least_end}
 
 module _ (l left : List ℕ) (i limit : ℕ) (known : limit ≡ least_end l left i) where
   pub ends_left : (e : ℕ) → e ≡ word_at l i logged_end → get_or left i 0 ≡ 1 → least limit e ≡ least_end l left (i + 1)
-  unfolding least_end is_left if◌then◌else◌
+  unfolding least_end is_left when◌then◌else◌
   ends_left e f h = rw (add-one, eq-eqb _ _ h, known, f)
 
   pub ends_gone : get_or left i 0 ≢ 1 → limit ≡ least_end l left (i + 1)
-  unfolding least_end is_left if◌then◌else◌
+  unfolding least_end is_left when◌then◌else◌
   ends_gone h = rw (add-one, ne_eqb _ _ h) known
 
 -- ---- what it decides
 
 leb_least : (w a e : ℕ) → leb w (least a e) ≡ leb w a and not (ltb e w)
-unfolding least if◌then◌else◌ ◌and◌
+unfolding least when◌then◌else◌ ◌and◌
 leb_least w a e = go (ltb a e) (leb w a) (ltb e w) refl refl refl
   where
     go :
         (p q r : Bool) → ltb a e ≡ p → leb w a ≡ q → ltb e w ≡ r
-        → leb w (if p then a else e) ≡ q and not r
+        → leb w (when p then a else e) ≡ q and not r
     go true true true f g h = let x = ltb-true a e f in let y = leb-true w a g in let z = ltb-true e w h in absurd (omega arith)
     go true true false f g h = g
     go true false r f g h = g
@@ -59,13 +59,13 @@ module _ (l left : List ℕ) (b M i : ℕ) (h : word_at l i logged_call ≤ grea
   open_to n = all n (λ j. not (is_left left j and earlier_in (log_of l) j i))
 
   in_time : (n : ℕ) → leb call (least_end l left n) ≡ open_to n
-  unfolding least_end all earlier_in precedes log_of logged_at if◌then◌else◌ ◌and◌
+  unfolding least_end all earlier_in precedes log_of logged_at when◌then◌else◌ ◌and◌
   in_time zero = le-leb _ _ h
   in_time (suc n) = go (is_left left n) (in_time n)
     where
       go :
           (t : Bool) → leb call (least_end l left n) ≡ open_to n
-          → leb call (if t then least (least_end l left n) (word_at l n logged_end) else least_end l left n)
+          → leb call (when t then least (least_end l left n) (word_at l n logged_end) else least_end l left n)
           ≡ open_to n and not (t and ltb (word_at l n logged_end) call)
       go true e = leb_least _ _ _ ∙ ap (λ (t : Bool). t and not (ltb (word_at l n logged_end) call)) e
       go false e = e ∙ and_not_false (open_to n) (ltb (word_at l n logged_end) call)

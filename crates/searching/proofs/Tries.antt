@@ -9,7 +9,7 @@ use mathlib.Core.Option.{Option, none, some}
 use lib.Dec.{eqb}
 use lib.ListN.{get_or, set}
 use lib.Seq.{get_or-set_other}
-use Rattle.machine.specs.Choice.{if◌then◌else◌, assign}
+use Rattle.machine.specs.Choice.{when◌then◌else◌, assign}
 use Rattle.machine.proofs.laws.Base.{assign_elim}
 use Rattle.logs.specs.Log.{log_of, greatest_operations}
 use Rattle.logs.specs.Judging.{earlier_in}
@@ -97,9 +97,9 @@ module _ (l : List ℕ) (b M : ℕ) (before : List ℕ) (last : ℕ) (left x : L
         tries_found o e = turn_fits ∙ rw e
 
         pub tries_still : child ≡ none → still_at l i ≡ true → here ≡ none
-        unfolding unless_still if◌then◌else◌
+        unfolding unless_still when◌then◌else◌
         tries_still e s = turn_fits ∙ rw (e, s)
 
         pub tries_on : child ≡ none → still_at l i ≡ false → here ≡ later
-        unfolding unless_still if◌then◌else◌
+        unfolding unless_still when◌then◌else◌
         tries_on e s = turn_fits ∙ rw (e, s)

@@ -3,7 +3,7 @@
 use Rattle.std.specs.Prelude.{ℕ, zero, suc, Bool, true, false, List, eqb, get_or}
 use Rattle.std.proofs.Math.Option.{Option, none, some}
 use Rattle.lists.specs.Parts.{overlay}
-use Rattle.machine.specs.Choice.{if◌then◌else◌}
+use Rattle.machine.specs.Choice.{when◌then◌else◌}
 use Rattle.memory.specs.Words.{least}
 use Rattle.logs.specs.Log.{word_at, logged_end, log_of, greatest_operations, greatest_word}
 use Rattle.logs.specs.Same.{same_numbers}
@@ -19,7 +19,7 @@ is_left left i = eqb (get_or left i 0) 1
 unfoldable pub least_end : List ℕ → List ℕ → ℕ → ℕ
 least_end l left zero = greatest_word
 least_end l left (suc i) =
-    if is_left left i then least (least_end l left i) (word_at l i logged_end) else least_end l left i
+    when is_left left i then least (least_end l left i) (word_at l i logged_end) else least_end l left i
 
 -- the search of specs/Search over the log l with b and M, what could be exchanged in it, an operation that could not,
 -- and that where it is left and ready

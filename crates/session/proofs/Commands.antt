@@ -17,7 +17,7 @@ use Rattle.interface.specs.Limits.{in_range}
 use Rattle.interface.specs.declared.Settings.{Settings}
 use Rattle.interface.specs.declared.Refusal.{Refusal}
 use Rattle.interface.specs.declared.Called.{Called}
-use Rattle.machine.specs.Choice.{if◌then◌else◌}
+use Rattle.machine.specs.Choice.{when◌then◌else◌}
 use Rattle.machine.specs.Sequential.{Table, having}
 use Rattle.machine.specs.Records.{Machine, new_bucket, first_cells, opened}
 use Rattle.fields.specs.Regions.{words_needed}
@@ -108,7 +108,7 @@ module _ (l : List ℕ) (count : length l ≡ 8_192) (w kind a : ℕ) (v : ℤ) 
   strange_call : strange l ≡ true
       → Replied (replying of_called (call_words l w kind a v))
       (record { memory = Script.zeros; reply = Script.refused (number_of Refusal.Strange) })
-  unfolding replying call_words of_called printed_reply if◌then◌else◌
+  unfolding replying call_words of_called printed_reply when◌then◌else◌
   strange_call e = rw e (record { text = refl; count = count; meant = e })
 
   module _ (s : Settings) (m : Machine) (h : Opened l s m) (narrow : a < 2 ^ 32) (fits : SFits w64 v) where
@@ -141,7 +141,7 @@ module _ (l : List ℕ) (count : length l ≡ 8_192) (w kind a : ℕ) (v : ℤ) 
 module _ (l : List ℕ) (count : length l ≡ 8_192) (w : ℕ) where
   strange_run : (k : ℕ) → strange l ≡ true
       → Replied (replying of_ran (run_words l w k)) (record { memory = Script.zeros; reply = Script.refused (number_of Refusal.Strange) })
-  unfolding replying run_words of_ran printed_reply if◌then◌else◌
+  unfolding replying run_words of_ran printed_reply when◌then◌else◌
   strange_run k e = rw e (record { text = refl; count = count; meant = e })
 
   run_replied :
@@ -160,25 +160,25 @@ module _ (l : List ℕ) (count : length l ≡ 8_192) (w : ℕ) where
 
 rows_printed :
     (s : Settings) (m : Machine) (t : Table) (x y : ℕ) → rows_text x y t ≡ printed (Script.listing_response s m (listing_of t x y)).reply
-unfolding rows_text listing_of Script.listing_response printed_reply printed if◌then◌else◌
+unfolding rows_text listing_of Script.listing_response printed_reply printed when◌then◌else◌
 rows_printed s m t x y = by (ltb x (length t) || ltb y (length t))
   where
-    by : (b : Bool) → if b then printed (Script.refused (number_of Refusal.Narrow)) else printed_rows t ++ printed_end (length t)
-        ≡ printed (Script.listing_response s m (if b then declines Refusal.Narrow else lists t)).reply
+    by : (b : Bool) → when b then printed (Script.refused (number_of Refusal.Narrow)) else printed_rows t ++ printed_end (length t)
+        ≡ printed (Script.listing_response s m (when b then declines Refusal.Narrow else lists t)).reply
     by true = refl
     by false = refl
 
 listing_memory :
     (s : Settings) (m : Machine) (t : Table) (x y : ℕ) → (Script.listing_response s m (listing_of t x y)).memory ≡ Script.holding s m
-unfolding listing_of Script.listing_response if◌then◌else◌
+unfolding listing_of Script.listing_response when◌then◌else◌
 listing_memory s m t x y = by (ltb x (length t) || ltb y (length t))
   where
-    by : (b : Bool) → (Script.listing_response s m (if b then declines Refusal.Narrow else lists t)).memory ≡ Script.holding s m
+    by : (b : Bool) → (Script.listing_response s m (when b then declines Refusal.Narrow else lists t)).memory ≡ Script.holding s m
     by true = refl
     by false = refl
 
 strange_listing : (l : List ℕ) (x y : ℕ) → strange l ≡ true → listing_text l x y ≡ printed (Script.refused (number_of Refusal.Strange))
-unfolding listing_text printed_reply if◌then◌else◌
+unfolding listing_text printed_reply when◌then◌else◌
 strange_listing l x y e = rw e
 
 module _ (l : List ℕ) (s : Settings) (m : Machine) (h : Opened l s m) (x y : ℕ) where
@@ -187,7 +187,7 @@ module _ (l : List ℕ) (s : Settings) (m : Machine) (h : Opened l s m) (x y : �
       ap (rows l) (shape_is s h.range l m k.means) ∙ rows_are s h.range l m k.means k.good k.table k.parts
 
   listing-text : listing_text l x y ≡ printed (Script.listing_response s m (listing m x y)).reply
-  unfolding listing_text listing if◌then◌else◌
+  unfolding listing_text listing when◌then◌else◌
   listing-text =
       let e : listing_text l x y ≡ rows_text x y (rows l (shape_of l)) = rw (strange_never s h.range l m h.represents.means) in
       e ∙ ap (rows_text x y) shown_rows ∙ rows_printed s m (contents m) x y
@@ -196,7 +196,7 @@ module _ (l : List ℕ) (s : Settings) (m : Machine) (h : Opened l s m) (x y : �
 
 alike_replied : (l : List ℕ) (x : Script.Memory) (c : Command) (y : Script.Response) → is_list c ≡ false
     → told x (line_of c) ≡ record { memory = y.memory; text = printed y.reply } → Replied (responded l c) y → Alike l x c
-unfolding text_on words_on if◌then◌else◌
+unfolding text_on words_on when◌then◌else◌
 alike_replied l x c y other e r = record {
   text = rw (other, e) r.text;
   next = record { count = rw other r.count; meant = rw (other, e) r.meant };
@@ -238,7 +238,7 @@ module _ (l : List ℕ) where
       alike_replied l _ _ (Script.steps s w 0 k m) refl refl (run_replied l h.count w s m h.meant k more)
 
   alike_listing : (x : Script.Memory) → Same l x → Alike l x Command.List
-  unfolding is_list told line_of Script.response_to text_on words_on listing if◌then◌else◌
+  unfolding is_list told line_of Script.response_to text_on words_on listing when◌then◌else◌
   alike_listing Script.zeros h = record { text = strange_listing l 4_096 4_096 h.meant; next = h }
   alike_listing (Script.holding s m) h = record {
     text = listing-text l s m h.meant 4_096 4_096;
@@ -246,7 +246,7 @@ module _ (l : List ℕ) where
   }
 
   alike_unread : (x : Script.Memory) → Same l x → Alike l x Command.Unread
-  unfolding is_list told line_of responded text_on words_on printed_reply if◌then◌else◌
+  unfolding is_list told line_of responded text_on words_on printed_reply when◌then◌else◌
   alike_unread x h = record { text = refl; next = h }
 
   -- every line that can be read, and every one that cannot

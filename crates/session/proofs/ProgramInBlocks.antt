@@ -8,7 +8,7 @@ use mathlib.Core.List.{List, [], ◌∷◌, ◌++◌}
 use lib.Dec.{eqb}
 use lib.ListN.{length, take, drop, replicate, length-drop, length-replicate, take-append-drop}
 use lib.IntN.{ℤ, pos}
-use Rattle.machine.specs.Choice.{if◌then◌else◌}
+use Rattle.machine.specs.Choice.{when◌then◌else◌}
 use Rattle.machine.proofs.laws.Base.{if_elim}
 use Rattle.lists.proofs.PartLaws.{length_overlay}
 use Rattle.lines.specs.declared.reader.Reader.{Reader}
@@ -104,7 +104,7 @@ module _ (k : Kept) (h : Able k) (bs : List ℕ) where
 
 words_parts : (xs ys : List ℕ) (r : Reader) (l : List ℕ)
     → words_after l (ended r (xs ++ ys)) ≡ words_after (words_after l (ended r xs)) (ended (reader_after r xs) ys)
-unfolding ended reader_after words_after if◌then◌else◌
+unfolding ended reader_after words_after when◌then◌else◌
 words_parts [] ys r l = refl
 words_parts (b ∷ xs) ys r l = by (eqb b 10) refl (λ q m. words_parts xs ys q m)
   where
@@ -116,7 +116,7 @@ words_parts (b ∷ xs) ys r l = by (eqb b 10) refl (λ q m. words_parts xs ys q 
     by false e again = rw e (again (pushed r b) l)
 
 reader_parts : (xs ys : List ℕ) (r : Reader) → reader_after r (xs ++ ys) ≡ reader_after (reader_after r xs) ys
-unfolding reader_after if◌then◌else◌
+unfolding reader_after when◌then◌else◌
 reader_parts [] ys r = refl
 reader_parts (b ∷ xs) ys r = by (eqb b 10) refl (λ q. reader_parts xs ys q)
   where

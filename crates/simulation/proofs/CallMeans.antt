@@ -19,7 +19,7 @@ use Rattle.interface.specs.Numbers.{kind_none, kind_insert, kind_delete, kind_lo
 use Rattle.interface.specs.declared.Settings.{Settings}
 use Rattle.interface.specs.declared.Refusal.{Refusal}
 use Rattle.interface.specs.declared.Called.{Called}
-use Rattle.machine.specs.Choice.{if◌then◌else◌, assign}
+use Rattle.machine.specs.Choice.{when◌then◌else◌, assign}
 use Rattle.machine.specs.Sequential.{Update, insert, delete, post, Operation, update, lookup}
 use Rattle.machine.specs.Records.{Worker, Machine}
 use Rattle.machine.specs.Calls.{operation_of, ticket_for, begun, call}
@@ -62,7 +62,7 @@ module _ {s : Settings} {l : List ℕ} {m : Machine} {w : ℕ} (ready : Ready s 
     begun_means :
         (o : Operation) → operation_in u ≡ some o → u.account < 2 ^ 32 → u.total < 2 ^ 64 → u.ticket ≡ ticket_for (m.workers w) o
         → Free (counter_of s.workers (some o) 0) → Meaning s (begun_at l p u) (begun m w o)
-    unfolding begun begun_as assign if◌then◌else◌ descriptor_in
+    unfolding begun begun_as assign when◌then◌else◌ descriptor_in
     begun_means o e narrow fits ticket free-there =
         let l' : List ℕ = begun_at l p u in
         let words = begun_words in
@@ -120,7 +120,7 @@ module _ {s : Settings} {l : List ℕ} {m : Machine} {w : ℕ} (ready : Ready s 
       update_answers :
           (u : Update) → operation_of kind a v ≡ some (update u) → operation_in called ≡ some (update u) → a < 2 ^ 32 → called.total < 2 ^ 64
           → call_in l p kind a v ≡ (
-          if leb greatest_ticket before then (l, Called.Refused Refusal.Spent) else (begun_at l p called, Called.Accepted))
+          when leb greatest_ticket before then (l, Called.Refused Refusal.Spent) else (begun_at l p called, Called.Accepted))
           → Answers
       unfolding ticket_for
       update_answers u e f narrow fits g = go (leb greatest_ticket before) refl
@@ -136,7 +136,7 @@ module _ {s : Settings} {l : List ℕ} {m : Machine} {w : ℕ} (ready : Ready s 
 
   -- a worker without operation, by the kind
   idle_answers : (m.workers w).operation ≡ none → (kind a : ℕ) (v : ℤ) → a < 2 ^ 32 → SFits w64 v → Answers kind a v
-  unfolding call_in operation_of operation_in update_from signed if◌then◌else◌ ticket_for
+  unfolding call_in operation_of operation_in update_from signed when◌then◌else◌ ticket_for
   idle_answers idle zero a v narrow fits =
       alike zero a v (rw (idle_word zero a v idle))
       (call_kind s m w zero a v ready.known idle (λ e. omega arith) (λ e. omega arith) (λ e. omega arith) (λ e. omega arith))

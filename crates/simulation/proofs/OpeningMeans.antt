@@ -13,7 +13,7 @@ use borrow.Author.Tests.{le-ltb}
 use Rattle.interface.specs.Limits.{in_range, Range, least_workers, greatest_workers, least_capacity, greatest_capacity, least_depth, within}
 use Rattle.interface.proofs.Laws.{range_of, within_is}
 use Rattle.interface.specs.declared.Settings.{Settings}
-use Rattle.machine.specs.Choice.{if◌then◌else◌}
+use Rattle.machine.specs.Choice.{when◌then◌else◌}
 use Rattle.machine.specs.Sequential.{first_bits}
 use Rattle.machine.specs.Records.{Machine, empty_body, new_bucket, first_directory, first_cells, no_reads, opened, bucket_of}
 use Rattle.fields.specs.Fields.{header_settings, header_needed, header_depth, header_spare, capacity_unit, depth_unit, deepest, mark_unit, mark, least_first, greatest_first, slot_kind, slot_account, slot_total, slot_ticket, slot_size, worker_kind, worker_account, worker_total, worker_ticket, worker_steps, worker_toggle, worker_marks, worker_slots, worker_size, record_count, record_applied, record_toggle, record_depth, record_prefix, settled_from, answers_from, posted_from, record_size, widest_record, spare_records}
@@ -223,11 +223,11 @@ module _ (s : Settings) (range : in_range s.workers s.capacity s.depth ≡ true)
     no_accounts = rw (here record_count (omega arith)) (least_same 0 s.capacity (omega arith))
 
     no_items : items_of state ≡ []
-    unfolding items_of size_of pairs if◌then◌else◌
+    unfolding items_of size_of pairs when◌then◌else◌
     no_items = rw no_accounts
 
     state_means : Means state (new_bucket empty_body).state.value n
-    unfolding new_bucket settled_of answer_of if◌then◌else◌ loaded_state
+    unfolding new_bucket settled_of answer_of when◌then◌else◌ loaded_state
     state_means =
         let k = range_of n s.capacity s.depth range in
         let early : (start from j : ℕ) → start ≡ q + from → j < n → from + n ≤ record_size s.capacity n
@@ -265,7 +265,7 @@ module _ (s : Settings) (range : in_range s.workers s.capacity s.depth ≡ true)
     }
 
     idle_means : (j : ℕ) → j < n → WorkerMeans s after opened j
-    unfolding opened no_reads operation_in slot_from descriptor_in if◌then◌else◌ first_directory new_bucket
+    unfolding opened no_reads operation_in slot_from descriptor_in when◌then◌else◌ first_directory new_bucket
     idle_means j jn =
         let zero : (k : ℕ) → k < worker_size n → at s after (worker j) k ≡ 0 = λ k h. zero_worker j k jn h in
         let read : (i o : ℕ) → i < n → o < slot_size → word after (read_at (start_of s (worker j)) i + o) ≡ 0 =
@@ -297,7 +297,7 @@ module _ (s : Settings) (range : in_range s.workers s.capacity s.depth ≡ true)
 
     -- the words of an opening mean the fresh machine
     pub opened_means : Meaning s after opened
-    unfolding opened first_cells slot_from descriptor_in if◌then◌else◌ first_directory bucket_of fresh_words
+    unfolding opened first_cells slot_from descriptor_in when◌then◌else◌ first_directory bucket_of fresh_words
     opened_means =
         let long : length after ≡ length l = length_overlay l 0 (fresh_words s) fits in
         let least = needed_least s range in

@@ -19,7 +19,7 @@ use Rattle.interface.specs.declared.Called.{Called}
 use Rattle.interface.specs.declared.Stepped.{Stepped}
 use Rattle.interface.specs.declared.Opened.{Opened}
 use Rattle.interface.specs.declared.Built.{Built}
-use Rattle.machine.specs.Choice.{if◌then◌else◌}
+use Rattle.machine.specs.Choice.{when◌then◌else◌}
 use Rattle.machine.specs.Sequential.{Table, having}
 use Rattle.machine.specs.Records.{Machine, new_bucket, first_cells, opened}
 use Rattle.fields.specs.Regions.{words_needed, start_of, worker}
@@ -85,7 +85,7 @@ shown_alike accounts totals t =
 pub shown_on :
     (l accounts : List ℕ) (totals : List ℤ)
     → listing_words l accounts totals ≡ shown_as accounts totals (listing_on l (length accounts) (length totals))
-unfolding listing_words listing_on if◌then◌else◌
+unfolding listing_words listing_on when◌then◌else◌
 shown_on l accounts totals = go (strange l) refl
   where
     go :
@@ -118,7 +118,7 @@ module _ (s : Settings) (range : in_range s.workers s.capacity s.depth ≡ true)
     shape = shape_is s range l m h.means
 
     pub step_alike : (w : ℕ) → Meaning s (step_words l w).0 (step s m w).0 × ((step_words l w).1 ≡ (step s m w).1)
-    unfolding step_words if◌then◌else◌
+    unfolding step_words when◌then◌else◌
     step_alike w = go (dec_lt w s.workers)
       where
         go : Dec (w < s.workers) → Meaning s (step_words l w).0 (step s m w).0 × ((step_words l w).1 ≡ (step s m w).1)
@@ -131,7 +131,7 @@ module _ (s : Settings) (range : in_range s.workers s.capacity s.depth ≡ true)
 
     module _ (w kind a : ℕ) (v : ℤ) (narrow : a < 2 ^ 32) (fits : SFits w64 v) where
       pub call_alike : Meaning s (call_words l w kind a v).0 (call s m w kind a v).0 × ((call_words l w kind a v).1 ≡ (call s m w kind a v).1)
-      unfolding call_words start_of if◌then◌else◌
+      unfolding call_words start_of when◌then◌else◌
       call_alike = go (dec_lt w s.workers)
         where
           go : Dec (w < s.workers)
@@ -146,7 +146,7 @@ module _ (s : Settings) (range : in_range s.workers s.capacity s.depth ≡ true)
               rw (e, call_stranger s m w kind a v (omega arith)) (h.means, refl)
 
     pub listing_alike : (x y : ℕ) → listing m x y ≡ listing_on l x y
-    unfolding listing_on listing if◌then◌else◌
+    unfolding listing_on listing when◌then◌else◌
     listing_alike x y =
         let e : listing_on l x y ≡ listing_of (rows l s) x y = rw (not_strange, shape) in
         sym (e ∙ ap (λ t. listing_of t x y) (rows_are s range l m h.means h.good h.table h.parts))

@@ -15,7 +15,7 @@ use borrow.Author.Tests.{le-leb, lt-leb, eq-eqb, ne_eqb}
 use Rattle.interface.specs.Limits.{in_range, Range}
 use Rattle.interface.proofs.Laws.{range_of}
 use Rattle.interface.specs.declared.Settings.{Settings}
-use Rattle.machine.specs.Choice.{if◌then◌else◌}
+use Rattle.machine.specs.Choice.{when◌then◌else◌}
 use Rattle.machine.specs.Sequential.{Table, first_bits, having, AccountsAbove, Ascending}
 use Rattle.machine.specs.Records.{Name, Leaf, Machine}
 use Rattle.machine.specs.DirectoryPass.{copy_of, name_of}
@@ -63,7 +63,7 @@ first_stays x (y ∷ p) r h = ap (insert_row y) (first_stays x p r h.1) ∙ inse
 -- the accounts whose first d bits are e or more
 unfoldable from : ℕ → ℕ → Table → Table
 from d e [] = []
-from d e (x ∷ t) = if leb e (first_bits d x.0) then x ∷ from d e t else from d e t
+from d e (x ∷ t) = when leb e (first_bits d x.0) then x ∷ from d e t else from d e t
 
 module _ (d : ℕ) where
   above_from : (e x : ℕ) (t : Table) → AccountsAbove x t → AccountsAbove x (from d e t)
@@ -74,7 +74,7 @@ module _ (d : ℕ) where
 
   -- those with e put into those with more
   from_join : (e : ℕ) (t : Table) → Ascending t → insert_rows (having d e t) (from d (suc e) t) ≡ from d e t
-  unfolding from having insert_rows if◌then◌else◌
+  unfolding from having insert_rows when◌then◌else◌
   from_join e [] h = refl
   from_join e (x ∷ t) h = go (from_join e t h.1) (dec_lt b e) (ℕ_discrete b e)
     where
@@ -93,7 +93,7 @@ module _ (d : ℕ) where
           (first_stays x (having d e t) (from d (suc e) t) (above_having x.0 d e t h.0) ∙ ap (λ (y : Table). x ∷ y) again)
 
   from_zero : (t : Table) → from d 0 t ≡ t
-  unfolding from if◌then◌else◌
+  unfolding from when◌then◌else◌
   from_zero [] = refl
   from_zero (x ∷ t) = rw (le-leb 0 (first_bits d x.0) (omega arith)) (ap (λ (y : Table). x ∷ y) (from_zero t))
 

@@ -6,7 +6,7 @@ use Rattle.std.specs.Int.{w64}
 use Rattle.std.proofs.Common.{to_z}
 use Rattle.interface.specs.Numbers.{kind_none, kind_insert, kind_post}
 use Rattle.fields.specs.Fields.{slot_kind, slot_account, slot_total, slot_ticket, slot_size}
-use Rattle.machine.specs.Choice.{if◌then◌else◌}
+use Rattle.machine.specs.Choice.{when◌then◌else◌}
 use Rattle.machine.specs.Sequential.{Table, Update, insert, delete, post, Ascending}
 use Rattle.machine.specs.Records.{Settled, State, Slot, empty, announced}
 use Rattle.bucket.specs.declared.BucketState.{BucketState}
@@ -49,13 +49,13 @@ bits_of w j = eqb (bit w j) 1
 -- any kind but an insert's and a post's is a delete
 unfoldable pub update_from : Descriptor → Update
 update_from u =
-    if eqb u.kind kind_insert then insert u.account (signed u.total)
-    else if eqb u.kind kind_post then post u.account (signed u.total)
+    when eqb u.kind kind_insert then insert u.account (signed u.total)
+    else when eqb u.kind kind_post then post u.account (signed u.total)
     else delete u.account
 
 -- a slot without a kind is empty
 unfoldable pub slot_from : Descriptor → Slot
-slot_from u = if eqb u.kind kind_none then empty else announced (update_from u) u.ticket
+slot_from u = when eqb u.kind kind_none then empty else announced (update_from u) u.ticket
 
 -- worker j's, of the slots that were read
 unfoldable pub slot_of : List ℕ → ℕ → Slot

@@ -6,7 +6,7 @@ use Rattle.std.proofs.Common.{SFits}
 use Rattle.interface.specs.declared.Refusal.{Refusal}
 use Rattle.interface.specs.declared.Opened.{Opened}
 use Rattle.interface.specs.declared.Listed.{Listed}
-use Rattle.machine.specs.Choice.{if◌then◌else◌}
+use Rattle.machine.specs.Choice.{when◌then◌else◌}
 use Rattle.machine.specs.Calls.{settings, Listing, lists, declines, listing_of}
 use Rattle.machine.specs.Systems.{System, Entry, calling, stepping, showing, reopening}
 use Rattle.machine.specs.History.{OpeningsRefused}
@@ -22,7 +22,7 @@ use Rattle.rows.specs.Rows.{Shown, rows}
 -- the listing over lists of so many accounts and totals: the table it shows, or its refusal
 unfoldable pub listing_on : List ℕ → ℕ → ℕ → Listing
 listing_on l accounts totals =
-    if strange l then declines Refusal.Strange else listing_of (rows l (shape_of l)) accounts totals
+    when strange l then declines Refusal.Strange else listing_of (rows l (shape_of l)) accounts totals
 
 -- the two lists after it, and its answer
 abbrev pub shown_as : List ℕ → List ℤ → Listing → Shown

@@ -6,7 +6,7 @@ use Rattle.std.specs.Prelude.{ℕ, ◌+◌, ◌*◌, ◌^◌, ◌≤◌, ◌<◌
 use Rattle.std.proofs.Math.Option.{Option, none, some}
 use Rattle.interface.specs.Numbers.{kind_none, kind_lookup}
 use Rattle.interface.specs.declared.Settings.{Settings}
-use Rattle.machine.specs.Choice.{if◌then◌else◌}
+use Rattle.machine.specs.Choice.{when◌then◌else◌}
 use Rattle.machine.specs.Sequential.{first_bits, Operation, update, lookup, account}
 use Rattle.machine.specs.Records.{Name, Bucket, Slot, empty, announced, Machine}
 use Rattle.machine.specs.DirectoryPass.{leaf_of}
@@ -48,8 +48,8 @@ HasWork = in_directory (λ p r. Working)
 -- the operation that a worker's words are, if any
 unfoldable pub operation_in : Descriptor → Option Operation
 operation_in u =
-    if eqb u.kind kind_none then none
-    else if eqb u.kind kind_lookup then some (lookup u.account) else some (update (update_from u))
+    when eqb u.kind kind_none then none
+    else when eqb u.kind kind_lookup then some (lookup u.account) else some (update (update_from u))
 
 -- the slot whose words stand from i on
 abbrev pub slot_in : List ℕ → ℕ → Slot

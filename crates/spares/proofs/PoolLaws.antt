@@ -13,7 +13,7 @@ use lib.Pow.{pow-add, pow_pos, pow_mono, mod-pow-add}
 use borrow.Author.Tests.{lt-ltb, le-ltb, ltb-true}
 use Rattle.interface.specs.Limits.{greatest_workers, greatest_capacity}
 use Rattle.interface.specs.declared.Settings.{Settings}
-use Rattle.machine.specs.Choice.{if◌then◌else◌}
+use Rattle.machine.specs.Choice.{when◌then◌else◌}
 use Rattle.fields.specs.Fields.{header_spare, deepest, record_size, widest_record}
 use Rattle.fields.specs.Regions.{directory_start, record_start, pool_size, words_needed, start_of}
 use Rattle.machine.proofs.laws.Base.{if_elim, if_true}
@@ -122,12 +122,12 @@ module _ (l : List ℕ) (s : Settings) where
   spare_start x n e f = rw (e, f)
 
   pub spare_found : (r k : ℕ) → 0 < k → used_at l s r ≡ false → spare_from l s r k ≡ r
-  unfolding spare_from if◌then◌else◌
+  unfolding spare_from when◌then◌else◌
   spare_found r zero h e = absurd (omega arith)
   spare_found r (suc k) h e = rw e
 
   spare_next :
-      (r k n : ℕ) → 0 < k → used_at l s r ≡ true → (if ltb (suc r) (pool_size s) then suc r else 0) ≡ n
+      (r k n : ℕ) → 0 < k → used_at l s r ≡ true → (when ltb (suc r) (pool_size s) then suc r else 0) ≡ n
       → spare_from l s n (k - 1) ≡ spare_from l s r k
   unfolding spare_from
   spare_next r zero n h e f = absurd (omega arith)
@@ -136,11 +136,11 @@ module _ (l : List ℕ) (s : Settings) where
       ap (spare_from l s n) less ∙ sym (if_true _ r e ∙ ap (λ (x : ℕ). spare_from l s x k) f)
 
   pub spare_up : (r k : ℕ) → 0 < k → used_at l s r ≡ true → r + 1 < pool_size s → spare_from l s (r + 1) (k - 1) ≡ spare_from l s r k
-  unfolding if◌then◌else◌
+  unfolding when◌then◌else◌
   spare_up r k h e b = spare_next r k (r + 1) h e (rw (lt-ltb (suc r) (pool_size s) (omega arith)) (sym (add-one r)))
 
   pub spare_round : (r k : ℕ) → 0 < k → used_at l s r ≡ true → pool_size s ≤ r + 1 → spare_from l s 0 (k - 1) ≡ spare_from l s r k
-  unfolding if◌then◌else◌
+  unfolding when◌then◌else◌
   spare_round r k h e b = spare_next r k 0 h e (rw (le-ltb (suc r) (pool_size s) (omega arith)))
 
   pub spare_end : (r k : ℕ) → k ≤ 0 → spare_from l s r k ≡ r
@@ -153,7 +153,7 @@ module _ (l : List ℕ) (s : Settings) where
   from_below r zero h = h
   from_below r (suc k) h =
       if_elim (λ (x : ℕ). x < pool_size s) (used_at l s r) _ r
-      (λ e. from_below (if ltb (suc r) (pool_size s) then suc r else 0) k (if_elim (λ (x : ℕ). x < pool_size s) (ltb (suc r) (pool_size s)) (suc r) 0 (ltb-true (suc r) (pool_size s))
+      (λ e. from_below (when ltb (suc r) (pool_size s) then suc r else 0) k (if_elim (λ (x : ℕ). x < pool_size s) (ltb (suc r) (pool_size s)) (suc r) 0 (ltb-true (suc r) (pool_size s))
       (λ b. omega arith)))
       (λ e. h)
 

@@ -2,7 +2,7 @@
 -- Rests on the regions of the lent words.
 use Rattle.std.specs.Prelude.{ℕ, zero, suc, ◌+◌, ◌-◌, ◌*◌, ◌%◌, ◌^◌, Bool, ◌||◌, List, ltb, eqb}
 use Rattle.interface.specs.declared.Settings.{Settings}
-use Rattle.machine.specs.Choice.{if◌then◌else◌}
+use Rattle.machine.specs.Choice.{when◌then◌else◌}
 use Rattle.fields.specs.Fields.{header_spare, worker_held, record_depth, record_prefix}
 use Rattle.fields.specs.Regions.{directory_start, record_start, pool_size}
 use Rattle.layout.specs.Shape.{word}
@@ -28,7 +28,7 @@ used_at l s r = current_at l s (record_start s r) || held_by_any l s.workers (re
 unfoldable pub spare_from : List ℕ → Settings → ℕ → ℕ → ℕ
 spare_from l s r zero = r
 spare_from l s r (suc k) =
-    if used_at l s r then spare_from l s (if ltb (suc r) (pool_size s) then suc r else 0) k else r
+    when used_at l s r then spare_from l s (when ltb (suc r) (pool_size s) then suc r else 0) k else r
 
 unfoldable pub spare_of : List ℕ → Settings → ℕ
 spare_of l s = spare_from l s (word l header_spare % pool_size s) (pool_size s)

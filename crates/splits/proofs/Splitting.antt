@@ -12,7 +12,7 @@ use lib.ListN.{length, set, replicate}
 use lib.Pow.{pow_pos, pow_mono}
 use borrow.Author.Tests.{ltb-true, lt-ltb, le-ltb}
 use Rattle.interface.specs.declared.Settings.{Settings}
-use Rattle.machine.specs.Choice.{if◌then◌else◌}
+use Rattle.machine.specs.Choice.{when◌then◌else◌}
 use Rattle.fields.specs.Fields.{header_depth, header_spare, deepest, record_toggle, record_depth, record_prefix, record_number}
 use Rattle.fields.specs.Regions.{directory_start, record_start}
 use Rattle.machine.proofs.laws.Base.{if_true, if_false, and_parts}
@@ -55,11 +55,11 @@ half_is l a b z s d q r p x y e f g h k m = rw (m, k, h, g, f, e, add-one)
 
 module _ (l : List ℕ) (d x : ℕ) (e : x ≡ word l header_depth) where
   pub deepened_more : (z : List ℕ) → x < d → z ≡ set l header_depth d → z ≡ deepened_at l d
-  unfolding deepened_at if◌then◌else◌
+  unfolding deepened_at when◌then◌else◌
   deepened_more z h f = let t : ltb (word l header_depth) d ≡ true = lt-ltb _ d (omega arith) in rw (t, f)
 
   pub deepened_same : d ≤ x → l ≡ deepened_at l d
-  unfolding deepened_at if◌then◌else◌
+  unfolding deepened_at when◌then◌else◌
   deepened_same h = let t : ltb (word l header_depth) d ≡ false = le-ltb _ d (omega arith) in rw t
 
 -- the depth of the halves, and the span of their prefixes

@@ -1,7 +1,7 @@
 -- A bucket split in place, on the words. Rests on a record's words as a bucket, and on spare records.
 use Rattle.std.specs.Prelude.{ℕ, zero, suc, ◌+◌, ◌-◌, ◌*◌, ◌%◌, ◌^◌, List, ltb, set, replicate}
 use Rattle.interface.specs.declared.Settings.{Settings}
-use Rattle.machine.specs.Choice.{if◌then◌else◌}
+use Rattle.machine.specs.Choice.{when◌then◌else◌}
 use Rattle.fields.specs.Fields.{header_depth, header_spare, record_toggle, record_depth, record_prefix, record_number}
 use Rattle.fields.specs.Regions.{directory_start, record_start}
 use Rattle.halves.specs.Halves.{half_of}
@@ -31,7 +31,7 @@ half_at l s d q x =
 
 -- "The directory doubles when d+1 exceeds its depth."
 unfoldable pub deepened_at : List ℕ → ℕ → List ℕ
-deepened_at l d = if ltb (word l header_depth) d then set l header_depth d else l
+deepened_at l d = when ltb (word l header_depth) d then set l header_depth d else l
 
 -- the bucket in the record at q becomes two; depth and prefix are read as ones below M
 unfoldable pub split_at : List ℕ → Settings → ℕ → List ℕ
@@ -46,4 +46,4 @@ unfoldable pub split_while_at : List ℕ → Settings → ℕ → ℕ → List �
 split_while_at l s a zero = l
 split_while_at l s a (suc f) =
     let q : ℕ = record_of l s a in
-    if splittable_at l s q then split_while_at (split_at l s q) s a f else l
+    when splittable_at l s q then split_while_at (split_at l s q) s a f else l

@@ -11,7 +11,7 @@ use lib.Dec.{ltb, eqb}
 use borrow.Author.Tests.{eq-eqb, ne_eqb}
 use Rattle.interface.specs.Numbers.{kind_none}
 use Rattle.interface.specs.declared.Settings.{Settings}
-use Rattle.machine.specs.Choice.{if◌then◌else◌, ◌and◌}
+use Rattle.machine.specs.Choice.{when◌then◌else◌, ◌and◌}
 use Rattle.fields.specs.Fields.{slot_kind, slot_account, slot_ticket, record_depth, record_prefix}
 use Rattle.fields.specs.Regions.{read_at}
 use Rattle.machine.proofs.laws.Base.{if_true, if_false}
@@ -37,7 +37,7 @@ carried_is l z s p i q u x y e f g h = rw (h, g, f, e)
 module _ (l m : List ℕ) (s : Settings) (p i a b q : ℕ) (t : Bool) (e : a ≡ word l (read_at p i + slot_account))
     (f : m ≡ split_while_at l s a s.depth) (g : b ≡ word m (read_at p i + slot_account)) (h : q ≡ record_of m s b)
     (k : t ≡ holds_back_at m s q) where
-  taken_from : taken_at l s p i ≡ if t then m else carried_at m s p i q
+  taken_from : taken_at l s p i ≡ when t then m else carried_at m s p i q
   unfolding taken_at
   taken_from = rw (k, h, g, f, e)
 
@@ -81,13 +81,13 @@ dues_start l s p q = record { bits = refl; small = omega arith }
 
 module _ (l : List ℕ) (s : Settings) (p q b i : ℕ) (t : Bool) (known : Dues l s p q b i) (e : t ≡ due_at l s p q i) where
   pub dues_more : (x y : ℕ) → t ≡ true → x ≡ 2 ^ i → y ≡ b + x → Dues l s p q y (i + 1)
-  unfolding dues_at if◌then◌else◌
+  unfolding dues_at when◌then◌else◌
   dues_more x y h f g =
       let d : Dues l s p q b i = known in
       record { bits = rw (add-one, sym e ∙ h, ← d.bits, ← f) g; small = rw (add-one, two-pow-succ) (omega arith) }
 
   pub dues_same : (y : ℕ) → t ≡ false → y ≡ b → Dues l s p q y (i + 1)
-  unfolding dues_at if◌then◌else◌
+  unfolding dues_at when◌then◌else◌
   dues_same y h g =
       let d : Dues l s p q b i = known in
       record { bits = rw (add-one, sym e ∙ h) (g ∙ d.bits); small = rw (add-one, two-pow-succ) (omega arith) }
@@ -96,9 +96,9 @@ module _ (l : List ℕ) (s : Settings) (p q b i : ℕ) (t : Bool) (known : Dues 
 
 module _ (l m : List ℕ) (s : Settings) (p b i : ℕ) (e : m ≡ taken_all l s p b i) where
   pub all_more : (z : List ℕ) → b / 2 ^ i % 2 ≡ 1 → z ≡ taken_at m s p i → z ≡ taken_all l s p b (i + 1)
-  unfolding taken_all if◌then◌else◌ bit
+  unfolding taken_all when◌then◌else◌ bit
   all_more z h f = rw (add-one, eq-eqb (b / 2 ^ i % 2) 1 h, ← e) f
 
   pub all_same : (b / 2 ^ i % 2 ≡ 1 → ⊥) → m ≡ taken_all l s p b (i + 1)
-  unfolding taken_all if◌then◌else◌ bit
+  unfolding taken_all when◌then◌else◌ bit
   all_same h = rw (add-one, ne_eqb (b / 2 ^ i % 2) 1 h) e

@@ -2,7 +2,7 @@
 use Rattle.std.specs.Prelude.{ℕ, zero, suc, ◌+◌, ◌^◌, Bool, not, List, ltb, eqb}
 use Rattle.interface.specs.Numbers.{kind_none}
 use Rattle.interface.specs.declared.Settings.{Settings}
-use Rattle.machine.specs.Choice.{if◌then◌else◌, ◌and◌}
+use Rattle.machine.specs.Choice.{when◌then◌else◌, ◌and◌}
 use Rattle.fields.specs.Fields.{slot_kind, slot_account, slot_ticket, record_depth, record_prefix}
 use Rattle.fields.specs.Regions.{read_at}
 use Rattle.machine.specs.Sequential.{first_bits}
@@ -22,7 +22,7 @@ unfoldable pub taken_at : List ℕ → Settings → ℕ → ℕ → List ℕ
 taken_at l s p i =
     let l' : List ℕ = split_while_at l s (word l (read_at p i + slot_account)) s.depth in
     let q : ℕ = record_of l' s (word l' (read_at p i + slot_account)) in
-    if holds_back_at l' s q then l' else carried_at l' s p i q
+    when holds_back_at l' s q then l' else carried_at l' s p i q
 
 -- "every unsettled announced update that belongs to that bucket's prefix"
 unfoldable pub due_at : List ℕ → Settings → ℕ → ℕ → ℕ → Bool
@@ -34,10 +34,10 @@ due_at l s p q i =
 -- the workers below n whose update is due at record q, as bits
 unfoldable pub dues_at : List ℕ → Settings → ℕ → ℕ → ℕ → ℕ
 dues_at l s p q zero = 0
-dues_at l s p q (suc i) = if due_at l s p q i then dues_at l s p q i + 2 ^ i else dues_at l s p q i
+dues_at l s p q (suc i) = when due_at l s p q i then dues_at l s p q i + 2 ^ i else dues_at l s p q i
 
 unfoldable pub taken_all : List ℕ → Settings → ℕ → ℕ → ℕ → List ℕ
 taken_all l s p dues zero = l
 taken_all l s p dues (suc i) =
     let l' : List ℕ = taken_all l s p dues i in
-    if eqb (bit dues i) 1 then taken_at l' s p i else l'
+    when eqb (bit dues i) 1 then taken_at l' s p i else l'

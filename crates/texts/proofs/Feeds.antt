@@ -9,7 +9,7 @@ use lib.Dec.{eqb}
 use lib.ListN.{length, take, length-append}
 use lib.Seq.{take_at}
 use borrow.Author.Tests.{leb-true}
-use Rattle.machine.specs.Choice.{if◌then◌else◌}
+use Rattle.machine.specs.Choice.{when◌then◌else◌}
 use Rattle.commands.specs.declared.Command.{Command}
 use Rattle.lines.specs.declared.reader.Reader.{Reader}
 use Rattle.lines.specs.Reading.{fresh, pushed, command_in}
@@ -126,7 +126,7 @@ none n m f h = record {
 
 module _ (n m : ℕ) (few : n ≤ 4_096) where
   pub fed_passed : (f : Feeding) (bs : List ℕ) → Ready n m f → Prefix n m f bs
-  unfolding fed took room_for ended reader_after line byte if◌then◌else◌
+  unfolding fed took room_for ended reader_after line byte when◌then◌else◌
   fed_passed f [] h = record { count = 0; within = omega arith; passed = none n m f h }
   fed_passed f (b ∷ bs) h =
       by (room_for longest (length f.state.output.bytes) f.state.output.used) (eqb b 10) refl refl (λ g k. fed_passed g bs k)

@@ -5,7 +5,7 @@ use mathlib.Core.Path.{◌≡◌, refl, sym, ◌∙◌, ap}
 use mathlib.Core.Bool.{Bool, true, false}
 use mathlib.Core.List.{List, [], ◌∷◌, ◌++◌, map, append_assoc}
 use lib.Dec.{eqb}
-use Rattle.machine.specs.Choice.{if◌then◌else◌}
+use Rattle.machine.specs.Choice.{when◌then◌else◌}
 use Rattle.commands.specs.declared.Command.{Command}
 use Rattle.lines.specs.declared.reader.Reader.{Reader}
 use Rattle.lines.specs.Grammar.{lines_of, command_of}
@@ -14,15 +14,15 @@ use Rattle.lines.proofs.Streaming.{commands-read}
 use Rattle.texts.specs.Texts.{text_on, words_on, texts_on, words_after, ended, reader_after, last_feed}
 
 ended_append : (r : Reader) (xs ys : List ℕ) → ended r (xs ++ ys) ≡ ended r xs ++ ended (reader_after r xs) ys
-unfolding ended reader_after if◌then◌else◌
+unfolding ended reader_after when◌then◌else◌
 ended_append r [] ys = refl
 ended_append r (b ∷ xs) ys = by (eqb b 10) (ended_append fresh xs ys) (ended_append (pushed r b) xs ys)
   where
     by : (t : Bool) → ended fresh (xs ++ ys) ≡ ended fresh xs ++ ended (reader_after fresh xs) ys
         → ended (pushed r b) (xs ++ ys) ≡ ended (pushed r b) xs ++ ended (reader_after (pushed r b) xs) ys
-        → if t then command_in r ∷ ended fresh (xs ++ ys) else ended (pushed r b) (xs ++ ys)
-        ≡ (if t then command_in r ∷ ended fresh xs else ended (pushed r b) xs)
-        ++ ended (if t then reader_after fresh xs else reader_after (pushed r b) xs) ys
+        → when t then command_in r ∷ ended fresh (xs ++ ys) else ended (pushed r b) (xs ++ ys)
+        ≡ (when t then command_in r ∷ ended fresh xs else ended (pushed r b) xs)
+        ++ ended (when t then reader_after fresh xs else reader_after (pushed r b) xs) ys
     by true f g = ap (λ (l : List Command). command_in r ∷ l) f
     by false f g = g
 
@@ -44,10 +44,10 @@ pub in_parts : (l : List ℕ) (n m : ℕ) (r : Reader) (xs ys : List ℕ)
 in_parts l n m r xs ys = rw (ended_append r xs ys) (texts_append l n m (ended r xs) (ended (reader_after r xs) ys))
 
 read-ended : (r : Reader) (xs : List ℕ) → commands_read r xs ≡ ended r xs ++ ended (reader_after r xs) (last_feed (reader_after r xs))
-unfolding commands_read ended reader_after last_feed if◌then◌else◌
+unfolding commands_read ended reader_after last_feed when◌then◌else◌
 read-ended r [] = by (is_empty r)
   where
-    by : (t : Bool) → if t then [] else command_in r ∷ [] ≡ ended r (if t then [] else 10 ∷ [])
+    by : (t : Bool) → when t then [] else command_in r ∷ [] ≡ ended r (when t then [] else 10 ∷ [])
     by true = refl
     by false = refl
 read-ended r (b ∷ xs) = by (eqb b 10) (read-ended fresh xs) (read-ended (pushed r b) xs)
@@ -57,9 +57,9 @@ read-ended r (b ∷ xs) = by (eqb b 10) (read-ended fresh xs) (read-ended (pushe
 
     by : (t : Bool) → commands_read fresh xs ≡ ended fresh xs ++ last (reader_after fresh xs)
         → commands_read (pushed r b) xs ≡ ended (pushed r b) xs ++ last (reader_after (pushed r b) xs)
-        → if t then command_in r ∷ commands_read fresh xs else commands_read (pushed r b) xs
-        ≡ (if t then command_in r ∷ ended fresh xs else ended (pushed r b) xs)
-        ++ last (if t then reader_after fresh xs else reader_after (pushed r b) xs)
+        → when t then command_in r ∷ commands_read fresh xs else commands_read (pushed r b) xs
+        ≡ (when t then command_in r ∷ ended fresh xs else ended (pushed r b) xs)
+        ++ last (when t then reader_after fresh xs else reader_after (pushed r b) xs)
     by true f g = ap (λ (l : List Command). command_in r ∷ l) f
     by false f g = g
 

@@ -13,7 +13,7 @@ use borrow.Author.Tests.{le-leb, ltb-false}
 use Rattle.interface.specs.Numbers.{number_of}
 use Rattle.interface.specs.declared.Listed.{Listed}
 use Rattle.interface.specs.declared.Refusal.{Refusal}
-use Rattle.machine.specs.Choice.{if◌then◌else◌}
+use Rattle.machine.specs.Choice.{when◌then◌else◌}
 use Rattle.machine.specs.Sequential.{Table}
 use Rattle.machine.proofs.laws.Base.{if_elim, if_true}
 use Rattle.layout.specs.Shape.{strange, shape_of}
@@ -123,17 +123,17 @@ module _ (o : Output) (room : o.used + longest ≤ length o.bytes) where
 
     shown_behind : (x : Shown) → x ≡ shown accounts totals t
         → put_listed o x.accounts x.totals x.listed ≡ behind o (rows_text (length accounts) (length totals) t)
-    unfolding shown rows_text put_listed if◌then◌else◌
+    unfolding shown rows_text put_listed when◌then◌else◌
     shown_behind x e = rw e (by (ltb (length accounts) (length t) || ltb (length totals) (length t)) refl)
       where
         by : (b : Bool) → ltb (length accounts) (length t) || ltb (length totals) (length t) ≡ b
             → let y : Shown =
-            if b then record { accounts = accounts; totals = totals; listed = Listed.Refused Refusal.Narrow } else record {
+            when b then record { accounts = accounts; totals = totals; listed = Listed.Refused Refusal.Narrow } else record {
               accounts = overlay accounts 0 (map (λ x. x.0) t);
               totals = overlay totals 0 (map (λ x. x.1) t);
               listed = Listed.Count (length t);
             } in put_listed o y.accounts y.totals y.listed ≡ behind o
-            (if b then printed_reply (Reply.Refused (number_of Refusal.Narrow)) else printed_rows t ++ printed_end (length t))
+            (when b then printed_reply (Reply.Refused (number_of Refusal.Narrow)) else printed_rows t ++ printed_end (length t))
         by true h = reply_behind (Reply.Refused (number_of Refusal.Narrow)) (reply_within _ (small_refused Refusal.Narrow))
         by false h = counted_behind (ltb-false _ _ (left_false _ _ h))
 
@@ -162,7 +162,7 @@ module _ (n m : ℕ) (few : n ≤ 4_096) where
 
 module _ (s : DriverState) (few : length s.accounts ≤ 4_096) (room : s.output.used + longest ≤ length s.output.bytes) where
   listed_behind : (listed s).output ≡ behind s.output (listing_text s.words (length s.accounts) (length s.totals))
-  unfolding listed listed_as listing_words listing_text put_listed if◌then◌else◌
+  unfolding listed listed_as listing_words listing_text put_listed when◌then◌else◌
   listed_behind = by (strange s.words) refl
     where
       by :
@@ -177,7 +177,7 @@ module _ (s : DriverState) (few : length s.accounts ≤ 4_096) (room : s.output.
   -- a command's whole text stands behind the used bytes
   pub answered_behind :
       (c : Command) → (answered s c).output ≡ behind s.output (text_on s.words (length s.accounts) (length s.totals) c)
-  unfolding answered replied_as text_on if◌then◌else◌
+  unfolding answered replied_as text_on when◌then◌else◌
   answered_behind c = by (is_list c) refl
     where
       by :
@@ -187,7 +187,7 @@ module _ (s : DriverState) (few : length s.accounts ≤ 4_096) (room : s.output.
       by false e = rw e (reply_behind s.output room (responded s.words c).1 (reply_within _ (small_response s.words c)))
 
 pub answered_words : (s : DriverState) (c : Command) → (answered s c).words ≡ words_on s.words c
-unfolding answered listed listed_as replied_as words_on if◌then◌else◌
+unfolding answered listed listed_as replied_as words_on when◌then◌else◌
 answered_words s c = by (is_list c) refl
   where
     by : (b : Bool) → is_list c ≡ b → (answered s c).words ≡ words_on s.words c
@@ -224,7 +224,7 @@ shown_kept accounts totals t =
     ))
 
 pub answered_kept : (s : DriverState) (c : Command) → Kept s (answered s c)
-unfolding answered listed listed_as listing_words replied_as if◌then◌else◌
+unfolding answered listed listed_as listing_words replied_as when◌then◌else◌
 answered_kept s c = by (is_list c) (strange s.words) refl refl
   where
     by : (b d : Bool) → is_list c ≡ b → strange s.words ≡ d → Kept s (answered s c)

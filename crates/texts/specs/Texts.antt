@@ -4,7 +4,7 @@ use Rattle.std.specs.Prelude.{ℕ, ◌||◌, List, [], ◌∷◌, ◌++◌, ltb,
 use Rattle.decimals.specs.Ascii.{line_feed}
 use Rattle.interface.specs.Numbers.{number_of}
 use Rattle.interface.specs.declared.Refusal.{Refusal}
-use Rattle.machine.specs.Choice.{if◌then◌else◌}
+use Rattle.machine.specs.Choice.{when◌then◌else◌}
 use Rattle.machine.specs.Sequential.{Table}
 use Rattle.layout.specs.Shape.{strange, shape_of}
 use Rattle.rows.specs.Rows.{rows}
@@ -21,19 +21,19 @@ use Rattle.responses.specs.Answers.{is_list}
 -- the rows, "then `end` and the count"; 10 where one of the lists, of n and m places, is shorter than the count
 unfoldable pub rows_text : ℕ → ℕ → Table → List ℕ
 rows_text n m t =
-    if ltb n (length t) || ltb m (length t) then printed_reply (Reply.Refused (number_of Refusal.Narrow))
+    when ltb n (length t) || ltb m (length t) then printed_reply (Reply.Refused (number_of Refusal.Narrow))
     else printed_rows t ++ printed_end (length t)
 
 unfoldable pub listing_text : List ℕ → ℕ → ℕ → List ℕ
 listing_text l n m =
-    if strange l then printed_reply (Reply.Refused (number_of Refusal.Strange)) else rows_text n m (rows l (shape_of l))
+    when strange l then printed_reply (Reply.Refused (number_of Refusal.Strange)) else rows_text n m (rows l (shape_of l))
 
 -- what a command is met with, and the words after it
 unfoldable pub text_on : List ℕ → ℕ → ℕ → Command → List ℕ
-text_on l n m c = if is_list c then listing_text l n m else printed_reply (responded l c).1
+text_on l n m c = when is_list c then listing_text l n m else printed_reply (responded l c).1
 
 unfoldable pub words_on : List ℕ → Command → List ℕ
-words_on l c = if is_list c then l else (responded l c).0
+words_on l c = when is_list c then l else (responded l c).0
 
 -- ---- several commands
 
@@ -50,12 +50,12 @@ words_after l (c ∷ cs) = words_after (words_on l c) cs
 -- the commands of the lines that these bytes end, and the reader after them
 unfoldable pub ended : Reader → List ℕ → List Command
 ended r [] = []
-ended r (b ∷ bs) = if eqb b line_feed then command_in r ∷ ended fresh bs else ended (pushed r b) bs
+ended r (b ∷ bs) = when eqb b line_feed then command_in r ∷ ended fresh bs else ended (pushed r b) bs
 
 unfoldable pub reader_after : Reader → List ℕ → Reader
 reader_after r [] = r
-reader_after r (b ∷ bs) = if eqb b line_feed then reader_after fresh bs else reader_after (pushed r b) bs
+reader_after r (b ∷ bs) = when eqb b line_feed then reader_after fresh bs else reader_after (pushed r b) bs
 
 -- the line feed that the program puts behind input whose last line has none
 unfoldable pub last_feed : Reader → List ℕ
-last_feed r = if is_empty r then [] else 10 ∷ []
+last_feed r = when is_empty r then [] else 10 ∷ []

@@ -16,7 +16,7 @@ use Rattle.calls.specs.Calls.{ended_at}
 use Rattle.interface.specs.Numbers.{kind_lookup}
 use Rattle.interface.specs.declared.Answer.{Answer}
 use Rattle.record.specs.Bucket.{settled_ticket, settled_answer, settled_total}
-use Rattle.machine.specs.Choice.{if◌then◌else◌}
+use Rattle.machine.specs.Choice.{when◌then◌else◌}
 use Rattle.fields.specs.Fields.{worker_kind, worker_ticket, worker_steps}
 use Rattle.layout.specs.Shape.{word}
 use Rattle.lookups.specs.Lookups.{lookup_at}
@@ -31,7 +31,7 @@ answer_at l s q w = answer_of (settled_answer l s q w) (settled_total l s q w)
 -- bucket's record is at q
 unfoldable pub checked_at : List ℕ → Settings → ℕ → ℕ → ℕ → Option Answer
 checked_at l s p q w =
-    if leb (word l (p + worker_ticket)) (settled_ticket l s q w)
+    when leb (word l (p + worker_ticket)) (settled_ticket l s q w)
     then some (answer_at l s q w)
     else none
 
@@ -69,4 +69,4 @@ check_step l s w k = update_at l s (worker_at s.workers w) w k check_state
 unfoldable pub operation_at : List ℕ → Settings → ℕ → ℕ → ℕ → List ℕ × Stepped
 operation_at l s p w k =
     let l' : List ℕ = set l (p + worker_steps) (k + 1) in
-    if eqb (word l (p + worker_kind)) kind_lookup then lookup_at l' s p k else update_at l' s p w k (phase s.workers k)
+    when eqb (word l (p + worker_kind)) kind_lookup then lookup_at l' s p k else update_at l' s p w k (phase s.workers k)

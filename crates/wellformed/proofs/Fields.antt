@@ -5,7 +5,7 @@ use mathlib.Core.Bool.{Bool, true, false, not}
 use lib.Dec.{eqb, ltb}
 use borrow.Author.Tests.{le-leb, lt-leb, lt-ltb, le-ltb, not-true, not-false}
 use Rattle.interface.specs.Numbers.{kind_insert, greatest_kind}
-use Rattle.machine.specs.Choice.{if◌then◌else◌, ◌and◌}
+use Rattle.machine.specs.Choice.{when◌then◌else◌, ◌and◌}
 use Rattle.machine.proofs.laws.Base.{and_left_false, and_no}
 use Rattle.logs.specs.Log.{Logged, is_operation, apart, precedes, in_turn}
 
@@ -44,6 +44,6 @@ module _ (x y : Logged) {call end called ended : ℕ} (a : call ≡ x.call) (b :
 
   pub by_turn :
       not r ≡ false → {worker other : ℕ} → worker ≡ x.worker → other ≡ y.worker → {t : Bool}
-      → t ≡ if eqb worker other then (if ltb end called then true else ltb ended call) else true → t ≡ apart x y and in_turn x y
+      → t ≡ when eqb worker other then (when ltb end called then true else ltb ended call) else true → t ≡ apart x y and in_turn x y
   unfolding in_turn precedes ◌and◌
   by_turn e f g q = q ∙ rw (sym apart_by ∙ not-false r e, a, b, c, d, f, g)

@@ -3,7 +3,7 @@
 #![tactic(auto)]
 
 ghost use Rattle.std.specs.Prelude.{◌≡◌, true, not, ◌≤◌, ◌<◌, eqb, ltb};
-ghost use Rattle.machine.specs.Choice.{if◌then◌else◌, ◌and◌};
+ghost use Rattle.machine.specs.Choice.{when◌then◌else◌, ◌and◌};
 ghost use Rattle.logs.specs.Log.{all, apart, are_log, greatest_operations, in_turn, is_operation, logged_at};
 
 use interface::{GREATEST_KIND, KIND_INSERT};
@@ -73,7 +73,7 @@ fn apart(call: u64, end: u64, called: u64, ended: u64) -> bool
 
 // Whether two operations are not of one worker, or one of them ended before the other's call.
 fn in_turn(worker: u64, call: u64, end: u64, other: u64, called: u64, ended: u64) -> bool
-    ensures { result ≡ if eqb worker other then (if ltb end called then true else ltb ended call) else true }
+    ensures { result ≡ when eqb worker other then (when ltb end called then true else ltb ended call) else true }
 {
     if worker != other {
         return true;

@@ -10,7 +10,7 @@ use mir.Facts.{to_z-of_z}
 use borrow.Author.Tests.{eq-eqb, ne_eqb}
 use borrow.Author.Rules.{rules}
 use Rattle.interface.specs.Numbers.{kind_delete, kind_lookup, kind_post}
-use Rattle.machine.specs.Choice.{if◌then◌else◌}
+use Rattle.machine.specs.Choice.{when◌then◌else◌}
 use Rattle.machine.proofs.laws.Base.{if_true, if_false}
 use Rattle.commands.specs.declared.Command.TheVariants.{Insert, Post}
 use Rattle.commands.specs.Commands.{greatest_account, small_of, account_of, total_of, with2, with3, operation_command}
@@ -36,11 +36,11 @@ unfolding account_of
 overflow_cast-account c = record { fits = omega (arith, limited greatest_account _ _ (both_read (goal.at.overflow_cast-account c).In-Values).1) }
 
 pub returns-then-kind-eq-KIND_DELETE : goal.returns-then-kind-eq-KIND_DELETE
-unfolding operation_command if◌then◌else◌ with2
+unfolding operation_command when◌then◌else◌ with2
 returns-then-kind-eq-KIND_DELETE c = let b = both_read (goal.at.returns-then-kind-eq-KIND_DELETE c).In-Values in rw (eq-eqb _ kind_delete c.if-kind-eq-KIND_DELETE.true, b.0, b.1)
 
 pub returns-then-kind-eq-KIND_LOOKUP : goal.returns-then-kind-eq-KIND_LOOKUP
-unfolding operation_command if◌then◌else◌ with2
+unfolding operation_command when◌then◌else◌ with2
 returns-then-kind-eq-KIND_LOOKUP c =
     let b = both_read (goal.at.returns-then-kind-eq-KIND_LOOKUP c).In-Values in
     rw (ne_eqb _ kind_delete c.if-kind-eq-KIND_DELETE.false, eq-eqb _ kind_lookup c.if-kind-eq-KIND_LOOKUP.true, b.0, b.1)
@@ -56,9 +56,9 @@ all_read : (c : In-Value) →
     let a = c.args in
     let v = c.in-Values in
     let t = to_z w64 (of_z w64 c.in-Value.total) in
-    (if eqb a.kind kind_post then Post v.w v.account t else Insert v.w v.account t)
+    (when eqb a.kind kind_post then Post v.w v.account t else Insert v.w v.account t)
     ≡ operation_command a.kind a.x.now a.y.now a.z.now
-unfolding operation_command if◌then◌else◌ total_of with3
+unfolding operation_command when◌then◌else◌ total_of with3
 all_read c =
     let b = both_read (goal.at.In-Value c).In-Values in
     let fits : SFits w64 c.in-Value.total = search rules in

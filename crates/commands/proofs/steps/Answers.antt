@@ -3,7 +3,7 @@
 use mathlib.Core.Path.{◌≡◌, sym, ◌∙◌, ap}
 use mathlib.Core.Option.{some}
 use borrow.Author.Tests.{le-leb, lt-leb}
-use Rattle.machine.specs.Choice.{if◌then◌else◌}
+use Rattle.machine.specs.Choice.{when◌then◌else◌}
 use Rattle.commands.specs.declared.Command.TheVariants.{Steps}
 use Rattle.numerals.specs.Numerals.{numeral, up_to, from}
 use Rattle.commands.specs.Commands.{least_steps, greatest_steps, small_of, steps_of, with2}
@@ -21,9 +21,9 @@ unfolding steps_of from
 returns-in_default c = unread2 Steps _ _ _ (ap (from least_steps)) (sym c.in_default.is ∙ c.read_pair.ensures)
 
 pub returns-then-k-lt-LEAST_STEPS : goal.returns-then-k-lt-LEAST_STEPS
-unfolding steps_of from with2 if◌then◌else◌
+unfolding steps_of from with2 when◌then◌else◌
 returns-then-k-lt-LEAST_STEPS c = let b = both_read (goal.at.returns-then-k-lt-LEAST_STEPS c).In-Values in rw (b.0, b.1, lt-leb least_steps _ c.if-k-lt-LEAST_STEPS.true)
 
 pub returns : goal.returns
-unfolding steps_of from with2 if◌then◌else◌
+unfolding steps_of from with2 when◌then◌else◌
 returns c = let b = both_read (goal.at.returns c).In-Values in rw (b.0, b.1, le-leb least_steps _ c.if-k-lt-LEAST_STEPS.false)

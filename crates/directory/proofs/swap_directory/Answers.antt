@@ -3,7 +3,7 @@
 use native.Mathlib.Omega.{arith}
 use mathlib.Core.Path.{◌≡◌, sym, ◌∙◌, ap}
 use lib.ListN.{length}
-use Rattle.machine.specs.Choice.{if◌then◌else◌}
+use Rattle.machine.specs.Choice.{when◌then◌else◌}
 use Rattle.layout.proofs.Positions.{long}
 use Rattle.directory.proofs.DirectoryLaws.{whole_else, redirected_not, redirected_done}
 use borrow.Author.Rules.{rules}
@@ -34,7 +34,7 @@ pub shape_of-words : goal.shape_of-words
 shape_of-words c = let h = same (goal.at.shape_of-words c).Joined-not-nothing in search rules
 
 pub returns : goal.returns
-unfolding if◌then◌else◌
+unfolding when◌then◌else◌
 returns c =
     redirected_done _ _ _ _ _ c.worker_word.ensures c.get.ensures c.if-not-nothing.words _ _ c.nothing.result
     c.if-worker_word-get.false c.fresh_directory-x.ensures c.nothing.ensures c.put.ensures

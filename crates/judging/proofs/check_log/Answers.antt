@@ -4,7 +4,7 @@ use mathlib.Core.Path.{◌≡◌, sym, ◌∙◌}
 use borrow.Author.Rules.{rules}
 use Rattle.interface.specs.Limits.{least_workers, in_range}
 use Rattle.interface.specs.declared.Verdict.{Verdict}
-use Rattle.machine.specs.Choice.{if◌then◌else◌}
+use Rattle.machine.specs.Choice.{when◌then◌else◌}
 use Rattle.logs.specs.Log.{are_log, count_of}
 use Rattle.logs.specs.Judging.{check_log_words}
 use Rattle.logs.proofs.Judgements.{few}
@@ -39,7 +39,7 @@ search-requires c =
     (short _ (good (goal.at.search-requires c).Else-not-is_log), (search rules, c.if-order-count.false))
 
 -- what the search found
-found : (c : After-search) → (c.search.new.order, if c.search.result then Verdict.Accepted else Verdict.No)
+found : (c : After-search) → (c.search.new.order, when c.search.result then Verdict.Accepted else Verdict.No)
     ≡ check_log_words c.args.log.now c.args.capacity c.args.depth c.args.order.now
 unfolding count_of
 found c =
@@ -47,9 +47,9 @@ found c =
     c.search.ensures.written _ c.search.ensures.found
 
 pub returns-then-search : goal.returns-then-search
-unfolding count_of if◌then◌else◌
+unfolding count_of when◌then◌else◌
 returns-then-search c = rw c.if-search.true at (found (goal.at.returns-then-search c).After-search)
 
 pub returns : goal.returns
-unfolding count_of if◌then◌else◌
+unfolding count_of when◌then◌else◌
 returns c = rw c.if-search.false at (found (goal.at.returns c).After-search)

@@ -9,7 +9,7 @@ use lib.Dec.{ltb}
 use lib.ListN.{length, get_or, get_or-append, get_or-eq_default}
 use lib.Seq.{get_or-append-add, get_or_at}
 use borrow.Author.Tests.{lt-ltb, le-ltb}
-use Rattle.machine.specs.Choice.{if◌then◌else◌}
+use Rattle.machine.specs.Choice.{when◌then◌else◌}
 use Rattle.machine.specs.Plan.{Phase, read_directory, flip_toggle, read_state, read_toggle, swap_state, check_state, copy_directory, swap_directory, read_slot, resize_for, each, bucket_round, bucket_pass, check, directory_round, directory_pass, pass, plan, phase, check_number}
 use Rattle.machine.proofs.laws.Base.{if_true, if_false}
 use Rattle.machine.specs.History.{Tariff, first_check, second_check, third_check, fourth_check}
@@ -61,13 +61,13 @@ after_step n (read_d p) = flip p
 after_step n (flip p) = in_b p one read_s
 after_step n (in_b p r read_s) = in_b p r read_t
 after_step n (in_b p r read_t) = in_b p r (slot_b 0)
-after_step n (in_b p r (slot_b i)) = if ltb (suc i) n then in_b p r (slot_b (suc i)) else in_b p r swap
+after_step n (in_b p r (slot_b i)) = when ltb (suc i) n then in_b p r (slot_b (suc i)) else in_b p r swap
 after_step n (in_b p r swap) = after_b p r
 after_step n (check_d p c) = check_s p c
 after_step n (check_s p c) = after_c p c
 after_step n (in_d p r copy_d) = in_d p r (slot_d 0)
-after_step n (in_d p r (slot_d i)) = if ltb (suc i) n then in_d p r (slot_d (suc i)) else in_d p r (state 0)
-after_step n (in_d p r (state i)) = if ltb (suc i) n then in_d p r (state (suc i)) else in_d p r swap_d
+after_step n (in_d p r (slot_d i)) = when ltb (suc i) n then in_d p r (slot_d (suc i)) else in_d p r (state 0)
+after_step n (in_d p r (state i)) = when ltb (suc i) n then in_d p r (state (suc i)) else in_d p r swap_d
 after_step n (in_d p r swap_d) = after_d p r
 
 -- ---- what is said of a step by its counter
@@ -166,7 +166,7 @@ module _ (n : ℕ) where
   record Loop (f : ℕ → PC) (y : PC) : Type 0 where
     here : (i : ℕ) → i < n → Here (f i)
     at_position : (i : ℕ) → position n (f i) ≡ position n (f 0) + i
-    next : (i : ℕ) → after_step n (f i) ≡ if ltb (suc i) n then f (suc i) else y
+    next : (i : ℕ) → after_step n (f i) ≡ when ltb (suc i) n then f (suc i) else y
     past : position n y ≡ position n (f 0) + n
 
   -- the step before step i of a loop that x leads to

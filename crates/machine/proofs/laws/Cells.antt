@@ -6,7 +6,7 @@ use mathlib.Core.Logic.{◌≢◌}
 use mathlib.Core.Bool.{true, false}
 use lib.Dec.{eqb}
 use borrow.Author.Tests.{eq-eqb, eqb-true}
-use Rattle.machine.specs.Choice.{if◌then◌else◌}
+use Rattle.machine.specs.Choice.{when◌then◌else◌}
 use Rattle.machine.specs.Records.{Name, same, Bucket, Cells}
 use Rattle.machine.specs.Steps.{unchanged, direct, assign_slot, assign_bucket, assign_state, assign_toggle}
 use Rattle.machine.proofs.laws.Base.{no_both, if_elim, and_true, and_parts, assign_elim}
@@ -30,7 +30,7 @@ pub same_false : (x y : Name) → same x y ≡ false → x ≢ y
 same_false x y e f = no_both (eq_same x y f) e
 
 -- the test of an equation between names
-pub same_elim : {A : Type 0} (P : A → Type 0) (x y : Name) (v u : A) → (x ≡ y → P v) → (x ≢ y → P u) → P (if same x y then v else u)
+pub same_elim : {A : Type 0} (P : A → Type 0) (x y : Name) (v u : A) → (x ≡ y → P v) → (x ≢ y → P u) → P (when same x y then v else u)
 same_elim P x y v u h k = if_elim P (same x y) v u (λ e. h (same_true x y e)) (λ e. k (same_false x y e))
 
 -- ---- buckets

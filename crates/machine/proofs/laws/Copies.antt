@@ -10,7 +10,7 @@ use mathlib.Core.Option.{Option, none, some}
 use lib.Dec.{ltb, eqb}
 use borrow.Author.Tests.{eqb-true, ltb-true, ltb-false, not-true}
 use Rattle.interface.specs.declared.Settings.{Settings}
-use Rattle.machine.specs.Choice.{if◌then◌else◌, ◌and◌}
+use Rattle.machine.specs.Choice.{when◌then◌else◌, ◌and◌}
 use Rattle.machine.specs.Sequential.{Update, account, first_bits}
 use Rattle.machine.specs.Records.{Name, same, Body, Directory, bucket_of, Leaf, kept, made, Copy, Slot, empty, announced, first_directory}
 use Rattle.machine.specs.BucketPass.{holds_back, splittable, settled_at, carry_out}
@@ -38,7 +38,7 @@ depth_at c a = (name_of (leaf_of c a)).depth
 
 pub leaf_replaced :
     (x : Name) (l : Leaf) (c : Copy) (a : ℕ) → x.depth ≤ c.depth → c.depth ≤ 32
-    → leaf_of (replace_leaf x l c) a ≡ if eqb (first_bits x.depth a) x.prefix then l else leaf_of c a
+    → leaf_of (replace_leaf x l c) a ≡ when eqb (first_bits x.depth a) x.prefix then l else leaf_of c a
 unfolding leaf_of replace_leaf
 leaf_replaced x l c a h m = rw (bits_shorter x.depth c.depth a h m)
 
@@ -78,20 +78,20 @@ half_leaf x b a = made (name_at (suc x.depth) a) (half (name_at (suc x.depth) a)
 
 -- the number r is one of q's two children where its half p is q, and neither where it is not
 children : {A : Type 0} (g : ℕ → A) (y : A) (r p q : ℕ) → r / 2 ≡ p
-    → if eqb r (2 * q + 1) then g (2 * q + 1) else if eqb r (2 * q + 0) then g (2 * q + 0) else y ≡ if eqb p q then g r else y
+    → when eqb r (2 * q + 1) then g (2 * q + 1) else when eqb r (2 * q + 0) then g (2 * q + 0) else y ≡ when eqb p q then g r else y
 children {A} g y r p q h =
     eq_elim Is r (2 * q + 1) _ _ (λ e. here (2 * q + 1) e (omega arith))
     (λ n. eq_elim Is r (2 * q + 0) _ _ (λ e. here (2 * q + 0) e (omega arith)) (λ m. sym (if_ne p q (g r) y (λ z. omega arith))))
   where
     Is : A → Type 0
-    Is z = z ≡ if eqb p q then g r else y
+    Is z = z ≡ when eqb p q then g r else y
 
     here : (i : ℕ) → r ≡ i → p ≡ q → Is (g i)
     here i e z = ap g (sym e) ∙ sym (if_eq p q (g r) y z)
 
 pub leaf_split :
     (x : Name) (b : Body) (c : Copy) (a : ℕ) → x.depth ≤ c.depth → c.depth ≤ 32 → x.depth < 32
-    → leaf_of (split x b c) a ≡ if eqb (first_bits x.depth a) x.prefix then half_leaf x b a else leaf_of c a
+    → leaf_of (split x b c) a ≡ when eqb (first_bits x.depth a) x.prefix then half_leaf x b a else leaf_of c a
 unfolding split replace_half replace_leaf child
 leaf_split x b c a h m l =
     let w : Copy = deepened (suc x.depth) c in
@@ -100,9 +100,9 @@ leaf_split x b c a h m l =
     let r : ℕ = first_bits (suc x.depth) a in
     let q : ℕ = 2 * x.prefix + 1 in
     leaf_replaced (child x 1) _ _ a low high
-    ∙ ap (λ (y : Leaf). if eqb r q then part q else y) (leaf_replaced (child x 0) _ w a low high)
+    ∙ ap (λ (y : Leaf). when eqb r q then part q else y) (leaf_replaced (child x 0) _ w a low high)
     ∙ children part (leaf_of w a) r (first_bits x.depth a) x.prefix (bits_half x.depth a l)
-    ∙ ap (λ (y : Leaf). if eqb (first_bits x.depth a) x.prefix then half_leaf x b a else y) (leaf_deepened (suc x.depth) c a l)
+    ∙ ap (λ (y : Leaf). when eqb (first_bits x.depth a) x.prefix then half_leaf x b a else y) (leaf_deepened (suc x.depth) c a l)
   where
     part : ℕ → Leaf
     part q = made (record { depth = suc x.depth; prefix = q }) (half (record { depth = suc x.depth; prefix = q }) b)
@@ -140,7 +140,7 @@ record Replacement (k : ℕ) (c c' : Copy) (x : Name) (g : ℕ → Leaf) : Type 
   bound : c'.depth ≤ k
   deeper : c.depth ≤ c'.depth
   shallow : Shallow c'
-  leaf : (e : ℕ) → leaf_of c' e ≡ if eqb (first_bits x.depth e) x.prefix then g e else leaf_of c e
+  leaf : (e : ℕ) → leaf_of c' e ≡ when eqb (first_bits x.depth e) x.prefix then g e else leaf_of c e
   low : (e : ℕ) → MadeIn x (g e)
   named : (e : ℕ) → InBucket x e → InBucket (name_of (g e)) e
   shared : (e f : ℕ) → InBucket (name_of (g e)) f → g f ≡ g e

@@ -10,7 +10,7 @@ use lib.IntN.{ℤ, ◌+ℤ◌}
 use Rattle.interface.specs.Numbers.{answer_number}
 use Rattle.interface.specs.declared.Answer.{Answer}
 use Rattle.interface.specs.declared.Answer.TheVariants.{Replaced, Removed, Posted, Crowded, Overrun}
-use Rattle.machine.specs.Choice.{if◌then◌else◌, ◌and◌}
+use Rattle.machine.specs.Choice.{when◌then◌else◌, ◌and◌}
 use Rattle.machine.specs.Sequential.{Update, insert, delete, post, update, account, Table, find, put, remove, present, total_or0, is_total, sum, result, changed, creates, tried, crowds, serve}
 use Rattle.machine.proofs.laws.Base.{if_elim, if_true, if_false, and_true, and_parts, and_right_false}
 
@@ -62,5 +62,5 @@ module _ (b M : ℕ) where
 
     pub posted :
         (v : ℤ) → is_total (x +ℤ v) ≡ true → serve b M (update (post a v)) t ≡ (Posted (x +ℤ v), put t a (x +ℤ v))
-    unfolding creates result changed sum total_or0 if◌then◌else◌
+    unfolding creates result changed sum total_or0 when◌then◌else◌
     posted v within = not_crowded (post a v) t (rw there) ∙ rw (there, within)

@@ -9,7 +9,7 @@ use mathlib.Core.Bool.{Bool, true, false, not}
 use lib.Dec.{eqb}
 use borrow.Author.Tests.{eqb-true, eq-eqb, leb-false, not-true}
 use Rattle.interface.specs.declared.Settings.{Settings}
-use Rattle.machine.specs.Choice.{if◌then◌else◌}
+use Rattle.machine.specs.Choice.{when◌then◌else◌}
 use Rattle.machine.specs.Sequential.{Update, account, first_bits}
 use Rattle.machine.specs.Records.{Name, Settled, Body, Leaf, kept, made, Copy, Slot, empty, announced, empty_body}
 use Rattle.machine.specs.BucketPass.{holds_back, splittable, settled_at, carry_out}
@@ -56,7 +56,7 @@ carry_other s j u t b i n = assign_other b.settled j _ i n
 
 -- the copy's leaf of an account, but g's for those of bucket y
 abbrev replaced_at : Name → (ℕ → Leaf) → Copy → ℕ → Leaf
-replaced_at y g c a = if eqb (first_bits y.depth a) y.prefix then g a else leaf_of c a
+replaced_at y g c a = when eqb (first_bits y.depth a) y.prefix then g a else leaf_of c a
 
 -- account e is in bucket y of the copy
 module _ {k : ℕ} (small : k ≤ 32) {c : Copy} (h : Coherent k c) (e : ℕ) {y : Name} (at : name_of (leaf_of c e) ≡ y) where
@@ -310,7 +310,7 @@ module _ (s : Settings) (x : Name) (b : Body) (slots : ℕ → Slot) where
           → ((a : ℕ) → leaf_of w a ≡ replaced_at y g c a) → ((a : ℕ) → leaf_of w' a ≡ replaced_at y g c' a)
           → SameInside o o' c c' → (a : ℕ) → InBucket x a → leaf_of w a ≡ leaf_of w' a
       same_inside_replaced w w' y g law law' p a i =
-          law a ∙ ap (λ (l : Leaf). if eqb (first_bits y.depth a) y.prefix then g a else l) (p.same a i) ∙ sym (law' a)
+          law a ∙ ap (λ (l : Leaf). when eqb (first_bits y.depth a) y.prefix then g a else l) (p.same a i) ∙ sym (law' a)
 
       module _ (j : ℕ) (u : Update) (t : ℕ) (i : InBucket x (account u)) where
         same_inside_split_leaf :

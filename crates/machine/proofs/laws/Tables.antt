@@ -15,7 +15,7 @@ use borrow.Author.Tests.{ltb-true, ltb-false}
 use Rattle.interface.specs.declared.Settings.{Settings}
 use Rattle.interface.specs.declared.Answer.{Answer}
 use Rattle.interface.specs.declared.Answer.TheVariants.{Added, Replaced, Removed, Absent, Posted, Crowded, Overrun}
-use Rattle.machine.specs.Choice.{if◌then◌else◌, ◌and◌}
+use Rattle.machine.specs.Choice.{when◌then◌else◌, ◌and◌}
 use Rattle.machine.specs.Sequential.{Update, insert, delete, post, account, first_bits, Table, find, put, remove, having, present, total_or0, is_total, sum, result, changed, is_none, creates, tried, crowds, AccountsAbove, Ascending}
 use Rattle.machine.specs.Records.{Body}
 use Rattle.machine.specs.BucketPass.{full}
@@ -28,7 +28,7 @@ put_elim : (P : Table → Type 0) (e : ℕ × ℤ) (t : Table) (a : ℕ) (v : �
     → (a < e.0 → P ((a, v) ∷ e ∷ t)) → (a ≡ e.0 → P ((a, v) ∷ t)) → (e.0 < a → P (e ∷ put t a v)) → P (put (e ∷ t) a v)
 unfolding put
 put_elim P e t a v below at above =
-    if_elim P (ltb a e.0) ((a, v) ∷ e ∷ t) (if eqb a e.0 then (a, v) ∷ t else e ∷ put t a v)
+    if_elim P (ltb a e.0) ((a, v) ∷ e ∷ t) (when eqb a e.0 then (a, v) ∷ t else e ∷ put t a v)
     (λ q. below (ltb-true a e.0 q))
     (λ q. eq_elim P a e.0 ((a, v) ∷ t) (e ∷ put t a v) at (λ n. above (omega (arith, ltb-false a e.0 q))))
 
@@ -52,7 +52,7 @@ find_tail e t a n = if_ne e.0 a (some e.1) (find t a) n
 
 find_cons : (e : ℕ × ℤ) (t t' : Table) (a : ℕ) → find t a ≡ find t' a → find (e ∷ t) a ≡ find (e ∷ t') a
 unfolding find
-find_cons e t t' a h = ap (λ (x : Option ℤ). if eqb e.0 a then some e.1 else x) h
+find_cons e t t' a h = ap (λ (x : Option ℤ). when eqb e.0 a then some e.1 else x) h
 
 -- ---- ascending tables
 
@@ -157,15 +157,15 @@ find_having_out d q (e ∷ t) a h = having_elim (λ (l : Table). find l a ≡ no
 unfoldable pub total_after : Update → Option ℤ → Option ℤ
 total_after (insert a v) x = some v
 total_after (delete a) x = none
-total_after (post a v) x = if is_total (total_or0 x +ℤ v) then some (total_or0 x +ℤ v) else x
+total_after (post a v) x = when is_total (total_or0 x +ℤ v) then some (total_or0 x +ℤ v) else x
 
 pub find_changed_at : (u : Update) (t : Table) → Ascending t → find (changed u t) (account u) ≡ total_after u (find t (account u))
-unfolding changed total_after sum if◌then◌else◌
+unfolding changed total_after sum when◌then◌else◌
 find_changed_at (insert a v) t h = find_put_at t a v
 find_changed_at (delete a) t h = find_remove_at t a h
 find_changed_at (post a v) t h = posted (is_total (sum t a v))
   where
-    posted : (b : Bool) → find (if b then put t a (sum t a v) else t) a ≡ if b then some (sum t a v) else find t a
+    posted : (b : Bool) → find (when b then put t a (sum t a v) else t) a ≡ when b then some (sum t a v) else find t a
     posted true = find_put_at t a (sum t a v)
     posted false = refl
 
@@ -214,7 +214,7 @@ unfolding having
 having_having d e a [] l b = refl
 having_having d e a (x ∷ t) l b = let again = having_having d e a t l b in
     having_elim (λ (y : Table). part y ≡ part (x ∷ t)) d (first_bits d a) x t
-    (λ g. ap (λ (y : Table). if eqb (first_bits e x.0) (first_bits e a) then x ∷ y else y) again)
+    (λ g. ap (λ (y : Table). when eqb (first_bits e x.0) (first_bits e a) then x ∷ y else y) again)
     (λ g. again ∙ sym (if_ne (first_bits e x.0) (first_bits e a) (x ∷ part t) (part t) (λ y. g (bits_mono d e x.0 a l b y))))
   where
     part : Table → Table
@@ -273,7 +273,7 @@ unfolding result sum
 result_having d (insert a v) t = ap (λ (x : Option ℤ). present x Replaced Added) (find_having_in d (first_bits d a) t a refl)
 result_having d (delete a) t = ap (λ (x : Option ℤ). present x Removed Absent) (find_having_in d (first_bits d a) t a refl)
 result_having d (post a v) t =
-    ap (λ (z : ℤ). if is_total z then Posted z else Overrun)
+    ap (λ (z : ℤ). when is_total z then Posted z else Overrun)
     (ap (λ (x : Option ℤ). total_or0 x +ℤ v) (find_having_in d (first_bits d a) t a refl))
 
 -- ---- crowding
@@ -310,9 +310,9 @@ tried_other d q c u t s n = tried_elim (λ x. having d q x.1 ≡ having d q t) c
 pub tried_having : (d : ℕ) (c : Bool) (u : Update) (t : Table) → Ascending t
     → ◌≡◌ {A = Answer × Table} (tried c u (having d (first_bits d (account u)) t))
     ((tried c u t).0, having d (first_bits d (account u)) (tried c u t).1)
-unfolding tried if◌then◌else◌
+unfolding tried when◌then◌else◌
 tried_having d c u t s =
-    ap (λ (b : Bool). if c and b then (Crowded, part) else (result u part, changed u part)) (creates_having d u t)
+    ap (λ (b : Bool). when c and b then (Crowded, part) else (result u part, changed u part)) (creates_having d u t)
     ∙ go (c and creates u t)
   where
     part : Table
@@ -323,6 +323,6 @@ tried_having d c u t s =
 
     go :
         (b : Bool)
-        → if b then (Crowded, part) else (result u part, changed u part) ≡ whole (if b then (Crowded, t) else (result u t, changed u t))
+        → when b then (Crowded, part) else (result u part, changed u part) ≡ whole (when b then (Crowded, t) else (result u t, changed u t))
     go true = refl
     go false = λ i. (result_having d u t i, sym (having_changed d u t s) i)

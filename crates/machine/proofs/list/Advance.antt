@@ -17,7 +17,7 @@ use Rattle.interface.specs.declared.Answer.{Answer}
 use Rattle.interface.specs.declared.Refusal.{Refusal}
 use Rattle.interface.specs.declared.Stepped.{Stepped}
 use Rattle.interface.specs.declared.Called.{Called}
-use Rattle.machine.specs.Choice.{if◌then◌else◌}
+use Rattle.machine.specs.Choice.{when◌then◌else◌}
 use Rattle.machine.specs.Sequential.{Table, Operation, update, lookup}
 use Rattle.machine.specs.Records.{Cells, Worker, Machine}
 use Rattle.machine.specs.Steps.{Effect, step, check_of, done, step_reply}
@@ -95,7 +95,7 @@ module _ (s : Settings) (m : Machine) (j kind a : ℕ) (v : ℤ) where
 -- the answer that an entry gives worker j
 abbrev pub answer_to : Settings → Machine → Entry → ℕ → Option Answer
 answer_to s m (calling i kind a v) j = none
-answer_to s m (stepping i) j = if eqb j i then answer_in (step s m i).1 else none
+answer_to s m (stepping i) j = when eqb j i then answer_in (step s m i).1 else none
 answer_to s m (showing x y) j = none
 answer_to s m (reopening n b M) j = none
 

@@ -17,7 +17,7 @@ use Rattle.interface.specs.declared.Answer.{Answer}
 use Rattle.interface.specs.declared.Stepped.{Stepped}
 use Rattle.interface.specs.declared.Completion.{Completion}
 use Rattle.interface.specs.declared.Called.{Called}
-use Rattle.machine.specs.Choice.{if◌then◌else◌, ◌and◌}
+use Rattle.machine.specs.Choice.{when◌then◌else◌, ◌and◌}
 use Rattle.machine.specs.Sequential.{Table, Operation, update, lookup}
 use Rattle.machine.specs.Records.{Reads, Worker, Machine}
 use Rattle.machine.specs.Steps.{access, perform, counted, check_of, step_reply, done, step_of, step}
@@ -41,7 +41,7 @@ module _ (s : Settings) (m : Machine) (j : ℕ) where
   call-reply :
       (kind a : ℕ) (v : ℤ)
       → (call s m j kind a v).1 ≡ call_reply s j (busy (m.workers j).operation) (m.workers j).last (operation_of kind a v)
-  unfolding call_reply idle_reply call_of spent if◌then◌else◌
+  unfolding call_reply idle_reply call_of spent when◌then◌else◌
   call-reply kind a v = by_cases (dec_lt j s.workers) (λ l. by l (m.workers j).operation refl)
       (λ l. rw (call_stranger s m j kind a v (omega arith), le-leb s.workers j (omega arith)) refl)
     where
@@ -56,7 +56,7 @@ module _ (s : Settings) (m : Machine) (j : ℕ) where
       by l none e = rw (idle_call s m j kind a v l e refl, e, lt-leb s.workers j l) (free (operation_of kind a v))
 
   step-reply : refusal_in (step s m j).1 ≡ step_refusal s j (busy (m.workers j).operation)
-  unfolding step_refusal refusal_in step_reply done if◌then◌else◌
+  unfolding step_refusal refusal_in step_reply done when◌then◌else◌
   step-reply = by_cases (dec_lt j s.workers) (λ l. by l (m.workers j).operation refl)
       (λ l. rw (step_stranger s m j (omega arith), le-leb s.workers j (omega arith)) refl)
     where
@@ -120,7 +120,7 @@ module _ (s : Settings) (lent : ℕ) (m : Machine) (j : ℕ) where
   takes e = calls_to (machines s lent) m e j and is_update (asked e)
 
   TicketAfter : Entry → Machine → Type 0
-  TicketAfter e m' = (m'.workers j).last ≡ (if takes e then suc (m.workers j).last else (m.workers j).last)
+  TicketAfter e m' = (m'.workers j).last ≡ (when takes e then suc (m.workers j).last else (m.workers j).last)
 
   untouched :
       (e : Entry) (m' : Machine) → calls_to (machines s lent) m e j ≡ false → (m'.workers j).last ≡ (m.workers j).last
@@ -150,7 +150,7 @@ module _ (s : Settings) (lent : ℕ) (m : Machine) (j : ℕ) where
           ∙ taken c.operation c.asks (and_true (eq-eqb i j (sym d)) (ap accepts q)) d
         where
           taken : (o : Operation) → operation_of kind a v ≡ some o → calls_to (machines s lent) m e j ≡ true → j ≡ i
-              → ticket_for (m.workers i) o ≡ (if takes e then suc (m.workers j).last else (m.workers j).last)
+              → ticket_for (m.workers i) o ≡ (when takes e then suc (m.workers j).last else (m.workers j).last)
           taken (update u) f g k = ap (λ (x : ℕ). suc (m.workers x).last) (sym k) ∙ sym (if_true _ _ (and_true g (ap is_update f)))
           taken (lookup c) f g k = ap (λ (x : ℕ). (m.workers x).last) (sym k)
               ∙ sym (if_false _ _ (ap (λ (x : Bool). calls_to (machines s lent) m e j and x) (ap is_update f) ∙ and_right_false _))
@@ -205,7 +205,7 @@ module _ (s : Settings) (lent : ℕ) (m : Machine) (t : Table) (es : List Entry)
   made_is unused zero j = sym (unused j)
   made_is unused (suc i) j =
       sym (next_last s lent _ j (entry_at es i) (refused i)
-      ∙ ap (λ (k : ℕ). if takes s lent (state_at s (machines s lent) m t es i) j (entry_at es i) then suc k else k)
+      ∙ ap (λ (k : ℕ). when takes s lent (state_at s (machines s lent) m t es i) j (entry_at es i) then suc k else k)
       (sym (made_is unused i j)))
 
   pub calls_at :

@@ -16,7 +16,7 @@ use Rattle.interface.specs.declared.Answer.{Answer}
 use Rattle.interface.specs.declared.Stepped.{Stepped}
 use Rattle.interface.specs.declared.Completion.{Completion}
 use Rattle.interface.specs.declared.Called.{Called}
-use Rattle.machine.specs.Choice.{if◌then◌else◌, ◌and◌}
+use Rattle.machine.specs.Choice.{when◌then◌else◌, ◌and◌}
 use Rattle.machine.specs.Sequential.{Table, Operation}
 use Rattle.machine.specs.Records.{Cells, Worker, Machine}
 use Rattle.machine.specs.Steps.{Effect, step, check_of, done, counted, step_reply}
@@ -173,7 +173,7 @@ module _ (s : Settings) (lent : ℕ) (m : Machine) (t : Table) (es : List Entry)
   -- the index of worker j's last accepted call before index i
   pub last_call : ℕ → ℕ → ℕ
   last_call zero j = 0
-  last_call (suc i) j = if is_call s (machines s lent) m t es i j then i else last_call i j
+  last_call (suc i) j = when is_call s (machines s lent) m t es i j then i else last_call i j
 
   pub last_here : (i j : ℕ) → is_call s (machines s lent) m t es i j ≡ true → last_call (suc i) j ≡ i
   unfolding last_call

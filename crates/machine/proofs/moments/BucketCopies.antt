@@ -8,7 +8,7 @@ use mathlib.Core.Logic.{◌≢◌}
 use mathlib.Core.Bool.{Bool, true, false}
 use lib.Dec.{eqb}
 use Rattle.interface.specs.declared.Settings.{Settings}
-use Rattle.machine.specs.Choice.{if◌then◌else◌}
+use Rattle.machine.specs.Choice.{when◌then◌else◌}
 use Rattle.machine.specs.Sequential.{Table, account, first_bits, having}
 use Rattle.machine.specs.Records.{Name, same, Body, Leaf, kept, made, Copy, Cells}
 use Rattle.machine.specs.BucketPass.{holds_back, carry_out}
@@ -76,7 +76,7 @@ pub record BucketCopies (s : Settings) (c : Cells) (H : ℕ → Copy) : Type 0 w
 
 -- the copy C instead of that of account e's bucket
 abbrev pub replace_copy : Cells → ℕ → Copy → (ℕ → Copy) → ℕ → Copy
-replace_copy c e C H a = if same (leaf c a) (leaf c e) then C else H a
+replace_copy c e C H a = when same (leaf c a) (leaf c e) then C else H a
 
 module _ (s : Settings) (small : s.depth ≤ 32) (c : Cells) (g : Partition s.depth (leaf c)) (H : ℕ → Copy)
     (h : BucketCopies s c H) where
@@ -99,7 +99,7 @@ module _ (s : Settings) (small : s.depth ≤ 32) (c : Cells) (g : Partition s.de
   copies_replaced : (e : ℕ) (C : Copy) → SplitFrom s (H e) C → BucketCopies s c (replace_copy c e C H)
   copies_replaced e C z = record {
     one = λ a b q.
-        ap (λ (x : Name). if same x (leaf c e) then C else H b) q ∙ ap (λ (D : Copy). if same (leaf c a) (leaf c e) then C else D)
+        ap (λ (x : Name). when same x (leaf c e) then C else H b) q ∙ ap (λ (D : Copy). when same (leaf c a) (leaf c e) then C else D)
         (h.one a b q);
     coherent = λ a. same_elim (Coherent s.depth) (leaf c a) (leaf c e) C (H a) (λ q. z.coherent) (λ n. h.coherent a);
     low = λ a. same_elim (λ (D : Copy). (leaf c a).depth ≤ depth_at D a) (leaf c a) (leaf c e) C (H a)
@@ -125,7 +125,7 @@ module _ (s : Settings) (small : s.depth ≤ 32) (c : Cells) (tasks : ℕ → Ta
       (C : Copy) → SplitFrom s (H mine) C → (y : Name) (v : Body) → leaf_of C mine ≡ made y v → holds_back s y.depth v ≡ false
       → Linearized s c tasks t (With C) j
       → Linearized s c tasks t (With (replace_leaf y (made y (carried_out v)) C)) (suc j)
-  unfolding if◌then◌else◌
+  unfolding when◌then◌else◌
   carried C z y v at room =
       linearized_carry s c tasks small (copies_partition s small c g K copies_ok) w
       (ap (λ (l : Leaf). holds_back s (name_of l).depth (made_body l)) here ∙ room) names inside outside
@@ -145,12 +145,12 @@ module _ (s : Settings) (small : s.depth ≤ 32) (c : Cells) (tasks : ℕ → Ta
       leaf_in : (a : ℕ) → InBucket y a → With C a ≡ made y v
       leaf_in a i = copies_leaf s small c g K copies_ok mine a (rw here i) ∙ here
 
-      law : (a : ℕ) → With D a ≡ if eqb (first_bits y.depth a) y.prefix then made y (carried_out v) else With C a
+      law : (a : ℕ) → With D a ≡ when eqb (first_bits y.depth a) y.prefix then made y (carried_out v) else With C a
       law a = go (same (leaf c a) (leaf c mine)) refl
         where
           go : (b : Bool) → same (leaf c a) (leaf c mine) ≡ b
-              → leaf_of (if b then D else H a) a
-              ≡ if eqb (first_bits y.depth a) y.prefix then made y (carried_out v) else leaf_of (if b then C else H a) a
+              → leaf_of (when b then D else H a) a
+              ≡ when eqb (first_bits y.depth a) y.prefix then made y (carried_out v) else leaf_of (when b then C else H a) a
           go true x =
               let low : y.depth ≤ C.depth = omega (arith, depth_at_le z.coherent mine, ap (λ (l : Leaf). (name_of l).depth) at) in
               leaf_replaced y _ C a low (omega (arith, z.coherent.bound))

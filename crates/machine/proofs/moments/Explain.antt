@@ -7,7 +7,7 @@ use mathlib.Core.Option.{Option, none, some}
 use lib.Dec.{eqb}
 use Rattle.interface.specs.declared.Settings.{Settings}
 use Rattle.interface.specs.declared.Answer.{Answer}
-use Rattle.machine.specs.Choice.{if◌then◌else◌, assign}
+use Rattle.machine.specs.Choice.{when◌then◌else◌, assign}
 use Rattle.machine.specs.Sequential.{Table, first_bits, find, having, looked, Operation, Ascending}
 use Rattle.machine.specs.Records.{same, Cells}
 use Rattle.machine.specs.BucketPass.{settled_at}
@@ -28,11 +28,11 @@ pub record Parts (c : Cells) (t : Table) : Type 0 where
 
 -- an announced update's answer stands in its bucket once it has had its moment
 abbrev pub settled_status : Cells → ℕ → Task → Option Answer
-settled_status c j k = if settled_at (leaf_body c (target k)) j k.ticket then some ((leaf_body c (target k)).settled j).answer else none
+settled_status c j k = when settled_at (leaf_body c (target k)) j k.ticket then some ((leaf_body c (target k)).settled j).answer else none
 
 -- a lookup has had its moment once the bucket it holds is no longer its account's
 abbrev pub lookup_status : Cells → Task → Option Answer
-lookup_status c k = if same (held k) (leaf c (target k)) then none else some (looked (find (body c (held k)).items (target k)))
+lookup_status c k = when same (held k) (leaf c (target k)) then none else some (looked (find (body c (held k)).items (target k)))
 
 -- the answer that worker j's operation has had from the plain table, if it has had its moment: only an update in a pass, or a lookup that
 -- has read the directory, can have had it
@@ -77,7 +77,7 @@ pub record Explained (s : Settings) (c c' : Cells) (tasks tasks' : ℕ → Task)
 
 -- the answer a, for worker w
 abbrev pub reply_to : ℕ → Option Answer → ℕ → Option Answer
-reply_to w a j = if eqb j w then a else none
+reply_to w a j = when eqb j w then a else none
 
 -- worker w's step from cells c to c', by which its task becomes k, with the answer a
 abbrev pub ExplainedStep : Settings → ℕ → Cells → (ℕ → Task) → Table → Cells → Task → Option Answer → Type 0

@@ -8,7 +8,7 @@ use mathlib.Core.Bool.{Bool, true, false}
 use mathlib.Core.Option.{none, some}
 use borrow.Author.Tests.{eqb-true, not-true}
 use Rattle.interface.specs.declared.Settings.{Settings}
-use Rattle.machine.specs.Choice.{if◌then◌else◌, ◌and◌}
+use Rattle.machine.specs.Choice.{when◌then◌else◌, ◌and◌}
 use Rattle.machine.specs.Sequential.{Table, Update, account, update}
 use Rattle.machine.specs.Records.{Name, Body, Leaf, kept, made, Copy, Slot, empty, announced, Cells}
 use Rattle.machine.specs.DirectoryPass.{leaf_of, name_of, take_update, take_slot, take_slots}
@@ -75,9 +75,9 @@ module _
 
     -- what the round makes of account a's bucket, if it splits it, once the slots of the workers below j are taken
     abbrev copy_after : ℕ → ℕ → Copy
-    copy_after j a = resolved s (leaf c a) (leaf_body c a) slots (if splits a then j else 0)
+    copy_after j a = resolved s (leaf c a) (leaf_body c a) slots (when splits a then j else 0)
 
-    copy_after_made : (j a : ℕ) → Made s (leaf c a) (leaf_body c a) slots (if splits a then j else 0) (copy_after j a)
+    copy_after_made : (j a : ℕ) → Made s (leaf c a) (leaf_body c a) slots (when splits a then j else 0) (copy_after j a)
     copy_after_made j a = resolved_ok s small (leaf c a) a (partition_name partition a) (partition.bound a) (leaf_body c a) slots _
 
     -- ---- the buckets that are split
@@ -99,8 +99,8 @@ module _
     copy_after_ok : (j : ℕ) → BucketCopies s c (copy_after j)
     copy_after_ok j = record {
       one = λ a e q.
-          ap (λ (x : Name). resolved s x (body c x) slots (if splits e then j else 0)) q
-          ∙ ap (λ (b : Bool). resolved s (leaf c a) (leaf_body c a) slots (if b then j else 0)) (splits_same a e q);
+          ap (λ (x : Name). resolved s x (body c x) slots (when splits e then j else 0)) q
+          ∙ ap (λ (b : Bool). resolved s (leaf c a) (leaf_body c a) slots (when b then j else 0)) (splits_same a e q);
       coherent = λ a. (copy_after_made j a).coherent;
       low = λ a. (copy_after_made j a).low a (partition.named a);
     }
@@ -211,7 +211,7 @@ module _
     holds :
         (a : ℕ) → (leaf c' a ≡ name_of (own_leaf (copy_after s.workers) a))
         × (leaf_body c' a ≡ made_body (own_leaf (copy_after s.workers) a))
-    unfolding if◌then◌else◌
+    unfolding when◌then◌else◌
     holds a = go (works a)
       where
         go :

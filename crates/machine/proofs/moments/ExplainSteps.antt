@@ -11,7 +11,7 @@ use mathlib.Core.Option.{Option, none, some}
 use borrow.Author.Tests.{le-leb, lt-leb}
 use Rattle.interface.specs.declared.Settings.{Settings}
 use Rattle.interface.specs.declared.Answer.{Answer}
-use Rattle.machine.specs.Choice.{if◌then◌else◌, assign}
+use Rattle.machine.specs.Choice.{when◌then◌else◌, assign}
 use Rattle.machine.specs.Sequential.{Table, Update, Operation, update, lookup, first_bits, find, having, looked}
 use Rattle.machine.specs.Records.{Name, same, Settled, bucket_of, announced, Cells, Reads}
 use Rattle.machine.specs.BucketPass.{checked}
@@ -74,7 +74,7 @@ module _ (c c' : Cells) (h : SameBuckets c c') where
 
   status_same_buckets : (j : ℕ) (k : Task) (pc : PC) → status_at pc c' j k ≡ status_at pc c j k
   status_same_buckets j k = by_counter (λ pc. status_at pc c' j k ≡ status_at pc c j k) refl refl refl
-      (λ i. if same (held k) (leaf_same_buckets (target k) i) then none else some (looked (find (h.bodies (held k) i).items (target k))))
+      (λ i. when same (held k) (leaf_same_buckets (target k) i) then none else some (looked (find (h.bodies (held k) i).items (target k))))
       refl
       (λ pc u. status_entry c' j k pc u ∙ ap (λ b. entry_status k.ticket (b.settled j)) (leaf_body_same_buckets (target k))
       ∙ sym (status_entry c j k pc u))

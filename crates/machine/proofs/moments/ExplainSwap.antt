@@ -8,7 +8,7 @@ use mathlib.Core.Bool.{true, false}
 use mathlib.Core.Option.{none, some}
 use borrow.Author.Tests.{not-true}
 use Rattle.interface.specs.declared.Settings.{Settings}
-use Rattle.machine.specs.Choice.{if◌then◌else◌}
+use Rattle.machine.specs.Choice.{when◌then◌else◌}
 use Rattle.machine.specs.Sequential.{Table, Update, account, update, find, looked}
 use Rattle.machine.specs.Records.{Name, same, Body, State, Slot, empty, announced, Cells, made}
 use Rattle.machine.specs.BucketPass.{holds_back, carry_out, pending, help, helped}
@@ -32,7 +32,7 @@ use Rattle.machine.proofs.moments.Statuses.{UnsettledUpdate, unsettled_status, l
 
 -- the body of account a's bucket in cells c, but v where that is bucket x
 abbrev body_with : Cells → Name → Body → ℕ → Body
-body_with c x v a = if same (leaf c a) x then v else leaf_body c a
+body_with c x v a = when same (leaf c a) x then v else leaf_body c a
 
 with_in : (c : Cells) (x : Name) (v : Body) (a : ℕ) → leaf c a ≡ x → body_with c x v a ≡ v
 with_in c x v a e = if_true v (leaf_body c a) (eq_same (leaf c a) x e)
@@ -154,7 +154,7 @@ module _ (s : Settings) (small : s.depth ≤ 32) (w : ℕ) (wn : w < s.workers) 
       go : HeldOrSuperseded s c j (tasks j) → lookup_status c' (tasks j) ≡ lookup_status c (tasks j)
       go (inl e) = let z = eq_same (held (tasks j)) (leaf c (target (tasks j))) e in if_true none _ z ∙ sym (if_true none _ z)
       go (inr g) =
-          ap (λ b. if same (held (tasks j)) (leaf c (target (tasks j))) then none else some (looked (find b.items (target (tasks j)))))
+          ap (λ b. when same (held (tasks j)) (leaf c (target (tasks j))) then none else some (looked (find b.items (target (tasks j)))))
           ((kept_bucket s w wn c tasks i p r here fresh j jn).unchanged g.blocked)
 
   pub explained_swap : ExplainedStep s w c tasks t (swapped_cells s c (tasks w)) (goes (tasks w) (after_b p r) (tasks w).reads) none

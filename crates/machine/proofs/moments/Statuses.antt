@@ -11,7 +11,7 @@ use lib.Dec.{eqb, leb}
 use borrow.Author.Tests.{le-leb}
 use Rattle.interface.specs.declared.Settings.{Settings}
 use Rattle.interface.specs.declared.Answer.{Answer}
-use Rattle.machine.specs.Choice.{if◌then◌else◌, assign}
+use Rattle.machine.specs.Choice.{when◌then◌else◌, assign}
 use Rattle.machine.specs.Sequential.{Table, Update, account, update, first_bits, having, tried, Ascending}
 use Rattle.machine.specs.Records.{Name, Settled, Cells, Reads, Leaf, made}
 use Rattle.machine.specs.BucketPass.{full, holds_back, settled_at, carry_out}
@@ -34,7 +34,7 @@ use Rattle.machine.proofs.laws.Serving.{member_left, member_last, member_snoc, d
 
 -- what an update with ticket t has had, by its worker's entry in its bucket
 abbrev pub entry_status : ℕ → Settled → Option Answer
-entry_status t e = if leb t e.ticket then some e.answer else none
+entry_status t e = when leb t e.ticket then some e.answer else none
 
 pub status_entry :
     (c : Cells) (j : ℕ) (k : Task) (pc : PC) → UnderWay pc → status_at pc c j k ≡ entry_status k.ticket ((leaf_body c (target k)).settled j)

@@ -11,7 +11,7 @@ use lib.IntN.{ℤ}
 use lib.ListN.{length, get_or, set, take, drop, replicate, length-append, length-take, length-drop, length-set, length-map}
 use lib.Seq.{take-add, take-suc, take_at, drop-cons, take-set-le, drop-set-lt, get_or-set_same, length-take-le}
 use borrow.Author.Tests.{leb-true, leb-false, lt-ltb, le-ltb, le-leb}
-use Rattle.machine.specs.Choice.{if◌then◌else◌}
+use Rattle.machine.specs.Choice.{when◌then◌else◌}
 use Rattle.machine.specs.Sequential.{Table, find, put, remove, having, first_bits, AccountsAbove, Ascending}
 use Rattle.machine.proofs.laws.Base.{if_elim, if_true, if_false, if_eq, if_ne, if_ap, eq_elim, and_true}
 use Rattle.machine.proofs.laws.Tables.{ascending_put, ascending_remove, ascending_having}
@@ -230,7 +230,7 @@ scan_stands x a (suc m) i e b h =
     let r : x.count - i ≡ suc m = omega arith in
     let f : ℕ = get_or l i 0 in
     rw (drop-cons l i 0 k) (
-    if_elim (Stands x a) (leb a f) (if eqb a f then At i else Before i) (scan (take m (drop (suc i) l)) a (suc i))
+    if_elim (Stands x a) (leb a f) (when eqb a f then At i else Before i) (scan (take m (drop (suc i) l)) a (suc i))
     (λ q. eq_elim (Stands x a) a f (At i) (Before i)
     (λ y. (omega arith, h, sym y))
     (λ n. (omega arith, h, rw (r, drop-cons l i 0 k) (omega (arith, leb-true a f q, n)))))
@@ -442,7 +442,7 @@ having_append : (d q : ℕ) (t r : Table) → having d q (t ++ r) ≡ having d q
 unfolding having
 having_append d q [] r = refl
 having_append d q (e ∷ t) r =
-    ap (λ (y : Table). if eqb (first_bits d e.0) q then e ∷ y else y) (having_append d q t r)
+    ap (λ (y : Table). when eqb (first_bits d e.0) q then e ∷ y else y) (having_append d q t r)
     ∙ sym (if_ap (λ (y : Table). y ++ having d q r) (eqb (first_bits d e.0) q) (e ∷ having d q t) (having d q t))
 
 having_in : (d q : ℕ) (t : Table) (e : ℕ × ℤ) → first_bits d e.0 ≡ q → having d q (t ++ e ∷ []) ≡ having d q t ++ e ∷ []

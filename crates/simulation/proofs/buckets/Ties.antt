@@ -21,7 +21,7 @@ use Rattle.interface.specs.declared.Answer.{Answer}
 use Rattle.interface.specs.declared.Answer.TheVariants.{Added, Replaced, Removed, Absent, Found, None, Posted, Crowded, Overrun}
 use Rattle.interface.specs.declared.Settings.{Settings}
 use Rattle.fields.specs.Fields.{slot_size}
-use Rattle.machine.specs.Choice.{if◌then◌else◌, ◌and◌}
+use Rattle.machine.specs.Choice.{when◌then◌else◌, ◌and◌}
 use Rattle.machine.specs.Sequential.{Table, Update, insert, delete, post, present, total_or0, is_total, sum, result, changed, creates, tried, find, put, having}
 use Rattle.machine.specs.Records.{Name, Settled, Body, State, Slot, empty, announced, no_bits}
 use Rattle.machine.specs.BucketPass.{full, splittable, holds_back, settled_at, carry_out, pending, help, helped, next_state}
@@ -48,7 +48,7 @@ use Rattle.simulation.proofs.buckets.Items.{Becomes, stays_as, find_search, put_
 
 -- every answer without a total is read back from its number
 pub answer_back : (a : Answer) (total : ℕ) → answer_total a ≡ none → answer_of (answer_number a) total ≡ a
-unfolding answer_of answer_total if◌then◌else◌
+unfolding answer_of answer_total when◌then◌else◌
 answer_back Added total e = refl
 answer_back Replaced total e = refl
 answer_back Removed total e = refl
@@ -65,13 +65,13 @@ answer_back Overrun total e = refl
 insert-answer :
     (x : BucketState) (p : Position) (a : ℕ) (z : ℤ) (t : Table) → find t a ≡ total_at x p
     → answer_of (insert_answer p) 0 ≡ result (insert a z) t
-unfolding answer_of insert_answer answer_by result total_at present if◌then◌else◌
+unfolding answer_of insert_answer answer_by result total_at present when◌then◌else◌
 insert-answer x (At i) a z t h = rw h
 insert-answer x (Before i) a z t h = rw h
 
 delete-answer :
     (x : BucketState) (p : Position) (a : ℕ) (t : Table) → find t a ≡ total_at x p → answer_of (delete_answer p) 0 ≡ result (delete a) t
-unfolding answer_of delete_answer answer_by result total_at present if◌then◌else◌
+unfolding answer_of delete_answer answer_by result total_at present when◌then◌else◌
 delete-answer x (At i) a t h = rw h
 delete-answer x (Before i) a t h = rw h
 
@@ -89,13 +89,13 @@ with_body y b = record { body = b; applied = y.applied }
 -- an insert or a post whose account was not found is a new account
 creates_is :
     (x : BucketState) (p : Position) (kind a : ℕ) (z : ℤ) (t : Table) → find t a ≡ total_at x p
-    → creates_by kind p ≡ creates (if eqb kind kind_insert then insert a z else if eqb kind kind_post then post a z else delete a) t
-unfolding creates_by creates total_at if◌then◌else◌
+    → creates_by kind p ≡ creates (when eqb kind kind_insert then insert a z else when eqb kind kind_post then post a z else delete a) t
+unfolding creates_by creates total_at when◌then◌else◌
 creates_is x p kind a z t = go p (eqb kind kind_insert) (eqb kind kind_post) refl refl
   where
     go :
         (p : Position) (b c : Bool) → eqb kind kind_insert ≡ b → eqb kind kind_post ≡ c → find t a ≡ total_at x p
-        → creates_by kind p ≡ creates (if b then insert a z else if c then post a z else delete a) t
+        → creates_by kind p ≡ creates (when b then insert a z else when c then post a z else delete a) t
     go (At i) true c e f h = rw h
     go (At i) false true e f h = rw h
     go (At i) false false e f h = refl
@@ -183,7 +183,7 @@ module _ (s : Settings) (narrow : s.capacity ≤ array_size) (x : BucketState) (
   pub carry_means :
       (j : ℕ) (u : Descriptor) → u.account < 2 ^ 32 → u.total < 2 ^ 64
       → Means (carry_of x s j u) (with_body y (carry_out s j (update_from u) u.ticket y.body)) n
-  unfolding carry_of changed_of crowded_by post_of sum_of posted_of update_from tried creates changed result answer_of signed if◌then◌else◌
+  unfolding carry_of changed_of crowded_by post_of sum_of posted_of update_from tried creates changed result answer_of signed when◌then◌else◌
   carry_means j u small fits = whole (full_by s x.count and creates_by u.kind p) refl
     where
       a : ℕ
@@ -209,7 +209,7 @@ module _ (s : Settings) (narrow : s.capacity ≤ array_size) (x : BucketState) (
 
       -- the update, by the tests of its kind
       of : Bool → Bool → Update
-      of b c = if b then insert a (signed v) else if c then post a (signed v) else delete a
+      of b c = when b then insert a (signed v) else when c then post a (signed v) else delete a
 
       crowded_is : full_by s x.count and creates (update_from u) (items_of x) ≡ full_by s x.count and creates_by u.kind p
       crowded_is = ap (λ (b : Bool). full_by s x.count and b) (sym (creates_is x p u.kind a (signed v) (items_of x) finds))
@@ -217,7 +217,7 @@ module _ (s : Settings) (narrow : s.capacity ≤ array_size) (x : BucketState) (
       -- a post, by whether its sum is a total
       posts :
           (b : Bool) → is_total z ≡ b → full_by s x.count and creates (post a (signed v)) (items_of x) ≡ false
-          → Means (posted_of x j p u (if b then Within (of_z w64 z) else Outside))
+          → Means (posted_of x j p u (when b then Within (of_z w64 z) else Outside))
           (with_body y (carry_out s j (post a (signed v)) t y.body)) n
       posts true e free =
           let f = fits_total z e in
@@ -232,7 +232,7 @@ module _ (s : Settings) (narrow : s.capacity ≤ array_size) (x : BucketState) (
 
       kinds :
           (b c : Bool) → full_by s x.count and creates (of b c) (items_of x) ≡ false
-          → Means (if b then settle_of (put_of x p a v) j t (insert_answer p) 0 else if c then post_of x j p u
+          → Means (when b then settle_of (put_of x p a v) j t (insert_answer p) 0 else when c then post_of x j p u
           else settle_of (remove_of x p) j t (delete_answer p) 0)
           (with_body y (carry_out s j (of b c) t y.body)) n
       kinds true c free =
@@ -247,7 +247,7 @@ module _ (s : Settings) (narrow : s.capacity ≤ array_size) (x : BucketState) (
       -- crowded, or not
       whole :
           (b : Bool) → full_by s x.count and creates_by u.kind p ≡ b
-          → Means (if b then settle_of x j t (answer_number Crowded) 0 else changed_of x j p u)
+          → Means (when b then settle_of x j t (answer_number Crowded) 0 else changed_of x j p u)
           (with_body y (carry_out s j (update_from u) t y.body)) n
       whole true e =
           settle_means x (update_from u) j t (answer_number Crowded) 0 (Crowded, items_of x) (if_true _ _ (crowded_is ∙ e))
@@ -302,7 +302,7 @@ module _ (s : Settings) (d : ℕ) (narrow : s.capacity ≤ array_size) (n : ℕ)
       (x : BucketState) (c : Body) (j : ℕ) (u : Descriptor) → j < n → u.account < 2 ^ 32 → u.total < 2 ^ 64
       → (u.kind ≡ kind_none → u.ticket ≡ 0) → c.settled j ≡ y.body.settled j → Means x (with_body y c) n
       → Means (help_of x s d toggle j u) (with_body y (help s d y bits j (slot_from u) c)) n
-  unfolding help_of help slot_from if◌then◌else◌
+  unfolding help_of help slot_from when◌then◌else◌
   help_means x c j u l small fits quiet same m =
       eq_elim (λ (o : Slot). Means (help_of x s d toggle j u) (with_body y (help s d y bits j o c)) n) u.kind kind_none
       empty (announced (update_from u) u.ticket) idle (λ k. rw tests (go (pending y bits j u.ticket and not (holds_back s d c))))
@@ -317,7 +317,7 @@ module _ (s : Settings) (d : ℕ) (narrow : s.capacity ≤ array_size) (n : ℕ)
 
       go :
           (b : Bool)
-          → Means (if b then carry_of x s j u else x) (with_body y (if b then carry_out s j (update_from u) u.ticket c else c)) n
+          → Means (when b then carry_of x s j u else x) (with_body y (when b then carry_out s j (update_from u) u.ticket c else c)) n
       go true = carry_means s narrow x (with_body y c) n few m j u small fits
       go false = m
 

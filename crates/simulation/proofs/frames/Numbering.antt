@@ -7,7 +7,7 @@ use mathlib.Core.Logic.{◌≢◌}
 use mathlib.Core.Bool.{Bool, true, false}
 use mathlib.Core.List.{List}
 use borrow.Author.Tests.{eq-eqb, eqb-true}
-use Rattle.machine.specs.Choice.{if◌then◌else◌, assign}
+use Rattle.machine.specs.Choice.{when◌then◌else◌, assign}
 use Rattle.machine.proofs.laws.Base.{no_both, is_false, if_elim, and_true, and_parts, assign_at, assign_other}
 use Rattle.layout.specs.Shape.{word}
 use Rattle.fields.specs.Fields.{worker_held, worker_state, worker_directory}
@@ -58,11 +58,11 @@ pub record Some (n : ℕ) (f : ℕ → Bool) : Type 0 where
   pub is : f one ≡ true
 
 pub any_some : (n : ℕ) (f : ℕ → Bool) → any n f ≡ true → Some n f
-unfolding any if◌then◌else◌
+unfolding any when◌then◌else◌
 any_some zero f e = absurd (no_both e refl)
 any_some (suc n) f e = go (any_some n f) (f n) refl e
   where
-    go : (any n f ≡ true → Some n f) → (b : Bool) → f n ≡ b → if b then true else any n f ≡ true → Some (suc n) f
+    go : (any n f ≡ true → Some n f) → (b : Bool) → f n ≡ b → when b then true else any n f ≡ true → Some (suc n) f
     go ih true q h = record { one = n; below = omega arith; is = q }
     go ih false q h = let x = ih h in record { one = x.one; below = omega (arith, x.below); is = x.is }
 

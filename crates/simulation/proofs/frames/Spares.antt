@@ -11,7 +11,7 @@ use mathlib.Core.List.{List}
 use lib.Dec.{ltb, eqb}
 use borrow.Author.Tests.{eq-eqb, eqb-true, lt-ltb, le-ltb, ltb-true, ltb-false}
 use Rattle.interface.specs.declared.Settings.{Settings}
-use Rattle.machine.specs.Choice.{if◌then◌else◌}
+use Rattle.machine.specs.Choice.{when◌then◌else◌}
 use Rattle.machine.proofs.laws.Base.{no_both, if_elim, if_true, if_false}
 use Rattle.fields.specs.Fields.{header_spare, worker_held, record_depth, record_prefix, record_size}
 use Rattle.fields.specs.Regions.{worker_at, directory_start, record_start, pool_size, record', start_of, worker}
@@ -56,7 +56,7 @@ module _ (s : Settings) (l : List ℕ) where
 
   -- all that is named: by the directory, then by workers
   abbrev list : ℕ → ℕ
-  list i = if ltb i entries then named (word l (D + i)) else named (word l (worker_at s.workers (i - entries) + worker_held))
+  list i = when ltb i entries then named (word l (D + i)) else named (word l (worker_at s.workers (i - entries) + worker_held))
 
   used_among : (r : ℕ) → used_at l s r ≡ true → Among (entries + s.workers) list r
   unfolding used_at current_at held_by_any
@@ -107,12 +107,12 @@ module _ (s : Settings) (l : List ℕ) where
   found zero r h a = absurd (elim a [ inl z ↦ omega (arith, z.0, z.1) | inr z ↦ omega (arith, z.0, z.1, h) ])
   found (suc k) r h a =
       if_elim (λ (x : ℕ). used_at l s x ≡ false) (used_at l s r) _ _
-      (λ e. let n = next e in found k (if ltb (suc r) (pool_size s) then suc r else 0) n.0 n.1) (λ e. e)
+      (λ e. let n = next e in found k (when ltb (suc r) (pool_size s) then suc r else 0) n.0 n.1) (λ e. e)
     where
       On : ℕ → Type 0
       On x = (x < pool_size s) × Ahead x k free
 
-      next : used_at l s r ≡ true → On (if ltb (suc r) (pool_size s) then suc r else 0)
+      next : used_at l s r ≡ true → On (when ltb (suc r) (pool_size s) then suc r else 0)
       next e =
           let b = free_within in
           let d : free ≢ r = λ (z : free ≡ r). no_both e (subst (λ (x : ℕ). used_at l s x ≡ false) z free_unused) in

@@ -13,7 +13,7 @@ use mir.Val.{to_z}
 use lib.Seq.{get_or-take, length-take-le}
 use Rattle.interface.specs.declared.Settings.{Settings}
 use Rattle.interface.specs.declared.Answer.{Answer}
-use Rattle.machine.specs.Choice.{if◌then◌else◌, ◌and◌}
+use Rattle.machine.specs.Choice.{when◌then◌else◌, ◌and◌}
 use Rattle.machine.specs.Sequential.{Table, find, looked}
 use Rattle.machine.specs.Records.{Settled, Body, Bucket}
 use Rattle.machine.specs.BucketPass.{full, holds_back, splittable, settled_at, checked}
@@ -127,4 +127,4 @@ module _ (s : Settings) (narrow : s.capacity ≤ array_size) (few : s.workers �
     pub checked_is :
         (p t : ℕ) → word l (p + worker_ticket) ≡ t → checked_at l s p (start_of s (record' r)) w ≡ checked w t x.state.value.body
     unfolding checked_at checked settled_at
-    checked_is p t e = λ i. if leb (e i) (ticket_is i) then some (answer_is i) else none
+    checked_is p t e = λ i. when leb (e i) (ticket_is i) then some (answer_is i) else none

@@ -10,7 +10,7 @@ use Rattle.interface.specs.Numbers.{kind_none}
 use Rattle.interface.proofs.Laws.{range_of}
 use Rattle.interface.specs.declared.Settings.{Settings}
 use Rattle.interface.specs.declared.Answer.{Answer}
-use Rattle.machine.specs.Choice.{if◌then◌else◌, assign}
+use Rattle.machine.specs.Choice.{when◌then◌else◌, assign}
 use Rattle.machine.specs.Sequential.{Operation, lookup, find, looked}
 use Rattle.machine.specs.Records.{Reads, Machine}
 use Rattle.machine.specs.Plan.{check_number}
@@ -71,7 +71,7 @@ module _ {s : Settings} {l : List ℕ} {m : Machine} {w : ℕ} (ready : Ready s 
   ends :
       (a : Answer) (c : ℕ) → check_by s (m.workers w) (m.workers w).operation ≡ c
       → step_in l s w ≡ ended_at l₁ me (m.workers w).steps c a → Ends a
-  unfolding ended_at counted step_reply assign if◌then◌else◌ descriptor_in
+  unfolding ended_at counted step_reply assign when◌then◌else◌ descriptor_in
   ends a c told e y g =
       let read : y ≡ k.reads = ap (λ (q : Task). q.reads) g in
       rw (e, read, add-one, told) (

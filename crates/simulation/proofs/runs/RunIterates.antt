@@ -18,7 +18,7 @@ use Rattle.interface.specs.declared.Answer.{Answer}
 use Rattle.interface.specs.declared.Refusal.{Refusal}
 use Rattle.interface.specs.declared.Stepped.{Stepped}
 use Rattle.interface.specs.declared.Ran.{Ran}
-use Rattle.machine.specs.Choice.{if◌then◌else◌}
+use Rattle.machine.specs.Choice.{when◌then◌else◌}
 use Rattle.machine.specs.Sequential.{Operation, update, lookup}
 use Rattle.machine.specs.Records.{Cells, Machine}
 use Rattle.machine.specs.Steps.{Effect, access, perform, counted, check_of, step_reply, done, step}
@@ -107,15 +107,15 @@ module _ (s : Settings) (range : in_range s.workers s.capacity s.depth ≡ true)
   module _ (l : List ℕ) (m : Machine) (w : ℕ) where
     -- what a step on words that mean a machine is, past the checks of 8 and 3
     step_is : Represents s l m → w < s.workers → step_words l w ≡ step_in l s w
-    unfolding step_words if◌then◌else◌
+    unfolding step_words when◌then◌else◌
     step_is h known = rw (strange_never s range l m h.means, shape_is s range l m h.means, lt-leb s.workers w known)
 
     run_is :
         Represents s l m → w < s.workers → (most : ℕ)
         → run_words l w most ≡ (
-        if eqb (word l (worker_at s.workers w + worker_kind)) kind_none then (l, Ran.Refused Refusal.Idle)
+        when eqb (word l (worker_at s.workers w + worker_kind)) kind_none then (l, Ran.Refused Refusal.Idle)
         else run_in l s w 0 (least most longest_run))
-    unfolding run_words if◌then◌else◌
+    unfolding run_words when◌then◌else◌
     run_is h known most = rw (strange_never s range l m h.means, shape_is s range l m h.means, lt-leb s.workers w known)
 
     module _ (b : Busy s l m w) where
@@ -198,7 +198,7 @@ module _ (s : Settings) (range : in_range s.workers s.capacity s.depth ≡ true)
           ∙ sym (refused_run l w most (step_is l m w h known ∙ idle_enters s range l m h.means h.good w known e))
 
       stranger_run : Represents s l m → s.workers ≤ w → run_words l w most ≡ by_steps l w most
-      unfolding step_words run_words if◌then◌else◌
+      unfolding step_words run_words when◌then◌else◌
       stranger_run h beyond =
           let e : step_words l w ≡ (l, Stepped.Refused Refusal.Stranger) =
           rw (strange_never s range l m h.means, shape_is s range l m h.means, le-leb s.workers w beyond) in

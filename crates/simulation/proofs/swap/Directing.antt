@@ -10,7 +10,7 @@ use lib.Dec.{eqb}
 use lib.ListN.{length, get_or, replicate, length-replicate, get_or-replicate}
 use lib.Pow.{pow_pos, pow-add, high}
 use Rattle.interface.specs.declared.Settings.{Settings}
-use Rattle.machine.specs.Choice.{if◌then◌else◌}
+use Rattle.machine.specs.Choice.{when◌then◌else◌}
 use Rattle.fields.specs.Regions.{directory_start, words_needed, Region, start_of, region_size, Within, entry}
 use Rattle.machine.proofs.laws.Base.{eq_elim}
 use Rattle.lists.specs.Parts.{overlay}
@@ -54,7 +54,7 @@ module _ (s : Settings) (l : List ℕ) (enough : words_needed s ≤ length l) (d
   pub directed_length : length directed ≡ length l
   directed_length = length_overlay l _ (replicate k r) fits
 
-  pub directed_entries : (e : ℕ) → e < 2 ^ s.depth → at s directed (entry e) 0 ≡ if eqb (e / k) q then r else at s l (entry e) 0
+  pub directed_entries : (e : ℕ) → e < 2 ^ s.depth → at s directed (entry e) 0 ≡ when eqb (e / k) q then r else at s l (entry e) 0
   directed_entries e h =
       eq_elim (λ (v : ℕ). at s directed (entry e) 0 ≡ v) (e / k) q r (at s l (entry e) 0)
       here (λ z. by_cases (dec_lt e (q * k)) before

@@ -12,7 +12,7 @@ use Rattle.interface.specs.Limits.{in_range}
 use Rattle.interface.specs.Numbers.{kind_none}
 use Rattle.interface.specs.declared.Settings.{Settings}
 use Rattle.interface.proofs.Laws.{range_of}
-use Rattle.machine.specs.Choice.{if◌then◌else◌, ◌and◌}
+use Rattle.machine.specs.Choice.{when◌then◌else◌, ◌and◌}
 use Rattle.machine.specs.Sequential.{account, first_bits}
 use Rattle.machine.specs.Records.{Name, Body, Bucket, empty, announced}
 use Rattle.machine.specs.BucketPass.{settled_at}
@@ -49,7 +49,7 @@ module _ (l : List ℕ) (s : Settings) (p q : ℕ) where
   dues_clear k = bit_above _ k (dues_below k)
 
   pub dues_bits : (k i : ℕ) → i < k → eqb (bit (dues_at l s p q k) i) 1 ≡ due_at l s p q i
-  unfolding dues_at if◌then◌else◌
+  unfolding dues_at when◌then◌else◌
   dues_bits zero i h = absurd (omega arith)
   dues_bits (suc k) i h = go (dues_bits k i) (ℕ_discrete i k) (due_at l s p q k) refl
     where
@@ -58,7 +58,7 @@ module _ (l : List ℕ) (s : Settings) (p q : ℕ) where
 
       go :
           (i < k → eqb (bit d i) 1 ≡ due_at l s p q i) → Dec (i ≡ k) → (v : Bool) → due_at l s p q k ≡ v
-          → eqb (bit (if v then d + 2 ^ k else d) i) 1 ≡ due_at l s p q i
+          → eqb (bit (when v then d + 2 ^ k else d) i) 1 ≡ due_at l s p q i
       go ih (yes e) true f = rw e (eq-eqb _ 1 (bit_set d k (dues_clear k)) ∙ sym f)
       go ih (yes e) false f = rw e (ne_eqb (bit d k) 1 (λ (g : bit d k ≡ 1). omega (arith, dues_clear k)) ∙ sym f)
       go ih (no e) true f = ap (λ (x : ℕ). eqb x 1) (bit_beside d k (dues_clear k) i e) ∙ ih (omega arith)
@@ -78,7 +78,7 @@ module _ (s : Settings) (range : in_range s.workers s.capacity s.depth ≡ true)
   pub due-at :
       (p i : ℕ) → i < s.workers
       → due_at l s p (start_of s (record' r)) i ≡ due x y.state.value.body i (slot_in l (read_at p i))
-  unfolding due_at slot_from descriptor_in settled_at if◌then◌else◌ ◌and◌
+  unfolding due_at slot_from descriptor_in settled_at when◌then◌else◌ ◌and◌
   due-at p i h = go (eqb u.kind kind_none)
     where
       u : Descriptor
@@ -99,6 +99,6 @@ module _ (s : Settings) (range : in_range s.workers s.capacity s.depth ≡ true)
       go :
           (z : Bool)
           → not z and eqb (first_bits (word l (q + record_depth)) u.account) (word l (q + record_prefix))
-          and ltb (settled_ticket l s q i) u.ticket ≡ due x b i (if z then empty else announced (update_from u) u.ticket)
+          and ltb (settled_ticket l s q i) u.ticket ≡ due x b i (when z then empty else announced (update_from u) u.ticket)
       go true = refl
       go false = λ o. belongs o and above o

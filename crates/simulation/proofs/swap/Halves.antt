@@ -8,7 +8,7 @@ use mathlib.Core.List.{List}
 use lib.Dec.{ltb, eqb}
 use lib.ListN.{length}
 use Rattle.interface.specs.declared.Settings.{Settings}
-use Rattle.machine.specs.Choice.{if◌then◌else◌}
+use Rattle.machine.specs.Choice.{when◌then◌else◌}
 use Rattle.machine.specs.Records.{Name, Body, new_bucket}
 use Rattle.machine.specs.DirectoryPass.{half}
 use Rattle.fields.specs.Fields.{header_depth, header_spare, header_size, worker_held, record_depth, record_prefix}
@@ -43,7 +43,7 @@ module _ (s : Settings) where
   -- l' is l with the directory's depth at least d
   pub record Deepened (l l' : List ℕ) (d : ℕ) : Type 0 where
     pub frame : Frame l l'
-    pub depth : word l' header_depth ≡ if ltb (word l header_depth) d then d else word l header_depth
+    pub depth : word l' header_depth ≡ when ltb (word l header_depth) d then d else word l header_depth
     pub entries : (e : ℕ) → e < 2 ^ s.depth → at s l' (entry e) 0 ≡ at s l (entry e) 0
     pub records : (t : ℕ) → t < pool_size s → SameRecord l l' t
 
@@ -64,7 +64,7 @@ module _ (s : Settings) where
     pub spare : Spare l r
     pub entries :
         (e : ℕ) → e < 2 ^ s.depth
-        → at s l' (entry e) 0 ≡ if eqb (e / 2 ^ (s.depth - x.depth)) x.prefix then start_of s (record' r) else at s l (entry e) 0
+        → at s l' (entry e) 0 ≡ when eqb (e / 2 ^ (s.depth - x.depth)) x.prefix then start_of s (record' r) else at s l (entry e) 0
     pub others : (t : ℕ) → t < pool_size s → t ≢ r → SameRecord l l' t
     pub name : name_in s l' r ≡ x
     pub keeps : Keeps s l' r (new_bucket (half x b))

@@ -11,7 +11,7 @@ use lib.ListN.{length, set, replicate}
 use lib.Seq.{get_or-set_other}
 use Rattle.interface.specs.Limits.{in_range}
 use Rattle.interface.specs.declared.Settings.{Settings}
-use Rattle.machine.specs.Choice.{if◌then◌else◌}
+use Rattle.machine.specs.Choice.{when◌then◌else◌}
 use Rattle.machine.specs.Records.{Name, State, new_bucket}
 use Rattle.fields.specs.Fields.{header_depth, header_spare, header_size, record_toggle, record_depth, record_prefix, record_number, record_accounts}
 use Rattle.fields.specs.Regions.{pool_size, words_needed, Region, record', start_of, region_size, Within, header, entry}
@@ -181,7 +181,7 @@ module _ (s : Settings) (range : in_range s.workers s.capacity s.depth ≡ true)
     unheld = spare_unheld s l;
     spare = spare_unnamed s l;
     entries = λ e k. directed_entries s l₆ enough₆ x.depth x.prefix R low short e k
-        ∙ ap (λ (w : ℕ). if eqb (e / 2 ^ (s.depth - x.depth)) x.prefix then R else w)
+        ∙ ap (λ (w : ℕ). when eqb (e / 2 ^ (s.depth - x.depth)) x.prefix then R else w)
         (head_entries s l₅ enough₅ header_spare (suc r) (omega arith) e k ∙ record_entries s r i₅ e k);
     others = λ t k d i b. records₇ t k i b ∙ record_others s r i₅ t k d i b;
     name = λ o. record {

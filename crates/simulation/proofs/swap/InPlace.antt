@@ -12,7 +12,7 @@ use lib.Pow.{shl_lt}
 use native.Mathlib.Nat.{mod-eq_of_lt, pow-suc}
 use borrow.Author.Tests.{ltb-true}
 use Rattle.interface.specs.declared.Settings.{Settings}
-use Rattle.machine.specs.Choice.{if◌then◌else◌}
+use Rattle.machine.specs.Choice.{when◌then◌else◌}
 use Rattle.machine.specs.Sequential.{first_bits}
 use Rattle.machine.specs.Records.{Name, Body, Leaf, kept, made, Copy, Cells, new_bucket}
 use Rattle.machine.specs.BucketPass.{splittable}
@@ -33,8 +33,8 @@ use Rattle.simulation.proofs.swap.Halves.{Spare, Deepened, frame_refers, SameRec
 -- a directory that is not as deep as a bucket's halves doubles once
 doubles :
     (c : Copy) (n : ℕ) → n ≤ c.depth → (v : Bool) → ltb c.depth (suc n) ≡ v
-    → if v then suc n else c.depth ≡ (if v then doubled c else c).depth
-unfolding if◌then◌else◌ doubled
+    → when v then suc n else c.depth ≡ (when v then doubled c else c).depth
+unfolding when◌then◌else◌ doubled
 doubles c n h true e = omega (arith, ltb-true c.depth (suc n) e)
 doubles c n h false e = refl
 
@@ -44,10 +44,10 @@ module _ (s : Settings) (small : s.depth ≤ 32) {l l' : List ℕ} {x : Name} {b
     (a : ℕ) where
   half_entry :
       at s l' (entry (first_bits s.depth a)) 0
-      ≡ if eqb (first_bits x.depth a) x.prefix then start_of s (record' r) else at s l (entry (first_bits s.depth a)) 0
+      ≡ when eqb (first_bits x.depth a) x.prefix then start_of s (record' r) else at s l (entry (first_bits s.depth a)) 0
   half_entry =
       h.entries (first_bits s.depth a) (bits_below s.depth a small)
-      ∙ ap (λ (k : ℕ). if eqb k x.prefix then start_of s (record' r) else at s l (entry (first_bits s.depth a)) 0)
+      ∙ ap (λ (k : ℕ). when eqb k x.prefix then start_of s (record' r) else at s l (entry (first_bits s.depth a)) 0)
       (bits_shorter x.depth s.depth a low small)
 
   entry_inside : InBucket x a → at s l' (entry (first_bits s.depth a)) 0 ≡ start_of s (record' r)
@@ -187,12 +187,12 @@ module _ (s : Settings) (l₀ : List ℕ) (c₀ : Cells) where
 
         abbrev index' : ℕ → ℕ
         index' a =
-            if eqb (first_bits d a) (2 * x.prefix + 1) then r₁ else if eqb (first_bits d a) (2 * x.prefix + 0) then r₀ else mid.index a
+            when eqb (first_bits d a) (2 * x.prefix + 1) then r₁ else when eqb (first_bits d a) (2 * x.prefix + 0) then r₀ else mid.index a
 
         abbrev half-leaf : ℕ → Leaf
         half-leaf i = made (child x i) (half (child x i) b)
 
-        leaf_law : (a : ℕ) → leaf_of c' a ≡ if eqb (first_bits x.depth a) x.prefix then half_leaf x b a else leaf_of c a
+        leaf_law : (a : ℕ) → leaf_of c' a ≡ when eqb (first_bits x.depth a) x.prefix then half_leaf x b a else leaf_of c a
         leaf_law a =
             let k = subst (λ (y : Leaf). (name_of y).depth ≤ c.depth) there (depth_at_le mid.coherent a₀) in
             leaf_split x b c a k (omega (arith, mid.coherent.bound)) (omega (arith, low))
@@ -378,7 +378,7 @@ module _ (s : Settings) (l₀ : List ℕ) (c₀ : Cells) where
         depth_now : word l₃ header_depth ≡ c'.depth
         unfolding split replace_half replace_leaf deepened
         depth_now =
-            second.depth ∙ first.depth ∙ deep.depth ∙ ap (λ (k : ℕ). if ltb k d then d else k) mid.depth
+            second.depth ∙ first.depth ∙ deep.depth ∙ ap (λ (k : ℕ). when ltb k d then d else k) mid.depth
             ∙ doubles c x.depth (subst (λ (y : Leaf). (name_of y).depth ≤ c.depth) there (depth_at_le mid.coherent a₀))
             (ltb c.depth d) refl
 

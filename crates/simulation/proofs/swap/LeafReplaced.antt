@@ -8,7 +8,7 @@ use mathlib.Core.Logic.{◌≢◌}
 use mathlib.Core.List.{List}
 use lib.Dec.{eqb}
 use Rattle.interface.specs.declared.Settings.{Settings}
-use Rattle.machine.specs.Choice.{if◌then◌else◌}
+use Rattle.machine.specs.Choice.{when◌then◌else◌}
 use Rattle.machine.specs.Sequential.{first_bits}
 use Rattle.machine.specs.Records.{Name, Body, Leaf, made, Copy, Cells}
 use Rattle.machine.specs.DirectoryPass.{leaf_of, name_of, replace_leaf}
@@ -28,7 +28,7 @@ module _ (s : Settings) (l₀ : List ℕ) (c₀ : Cells) (small : s.depth ≤ 32
     abbrev c' : Copy
     c' = replace_leaf x (made x b) c
 
-    leaf_law : (a : ℕ) → leaf_of c' a ≡ if eqb (first_bits x.depth a) x.prefix then made x b else leaf_of c a
+    leaf_law : (a : ℕ) → leaf_of c' a ≡ when eqb (first_bits x.depth a) x.prefix then made x b else leaf_of c a
     leaf_law a =
         let k = subst (λ (y : Name). y.depth ≤ c.depth) there (depth_at_le mid.coherent a₀) in
         leaf_replaced x (made x b) c a k (omega (arith, mid.coherent.bound))

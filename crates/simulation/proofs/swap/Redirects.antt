@@ -11,7 +11,7 @@ use lib.Dec.{eqb}
 use lib.ListN.{length, set}
 use borrow.Author.Tests.{le-ltb}
 use Rattle.interface.specs.declared.Settings.{Settings}
-use Rattle.machine.specs.Choice.{if◌then◌else◌, assign}
+use Rattle.machine.specs.Choice.{when◌then◌else◌, assign}
 use Rattle.machine.specs.Records.{Copy, Slot, Cells, Reads, Worker, Machine}
 use Rattle.machine.specs.DirectoryPass.{leaf_of}
 use Rattle.fields.specs.Fields.{header_number, worker_directory, worker_marks}
@@ -101,7 +101,7 @@ module _ {s : Settings} {l : List ℕ} {m : Machine} {w : ℕ} (ready : Ready s 
 
     -- resolved, if there is a mark
     l₂ : List ℕ
-    l₂ = if eqb (word l₁ (q + worker_marks)) 0 then l₁ else resolved_at l₁ s q s.workers
+    l₂ = when eqb (word l₁ (q + worker_marks)) 0 then l₁ else resolved_at l₁ s q s.workers
 
     resolution : Resolved s l₁ c w slots o s.workers l₂
     unfolding l₂

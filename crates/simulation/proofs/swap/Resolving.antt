@@ -10,7 +10,7 @@ use mathlib.Core.List.{List}
 use lib.Dec.{eqb}
 use borrow.Author.Tests.{eqb-true, eqb-false}
 use Rattle.interface.specs.declared.Settings.{Settings}
-use Rattle.machine.specs.Choice.{if◌then◌else◌}
+use Rattle.machine.specs.Choice.{when◌then◌else◌}
 use Rattle.machine.specs.Sequential.{Update, account}
 use Rattle.machine.specs.Records.{bucket_of, Name, Body, kept, made, Copy, Slot, empty, announced, Cells}
 use Rattle.machine.specs.BucketPass.{splittable}
@@ -214,7 +214,7 @@ module _ {s : Settings} {l₀ : List ℕ} {c₀ : Cells} {w : ℕ} {slots : ℕ 
       by :
           Resolved s l₀ c₀ w slots o j l'
           → Resolved s l₀ c₀ w slots o (suc j)
-          (if marked_at l' p j then taken_all l' s p (dues_at l' s p (record_for l' s p j) s.workers) s.workers else l')
+          (when marked_at l' p j then taken_all l' s p (dues_at l' s p (record_for l' s p j) s.workers) s.workers else l')
       by q = if_elim (Resolved s l₀ c₀ w slots o (suc j)) (marked_at l' p j) _ l'
           (λ e. on (slots j) refl (sym same ∙ eqb-true (bit (word l' (p + worker_marks)) j) 1 e))
           (λ e. off (λ f. eqb-false (bit (word l' (p + worker_marks)) j) 1 e (same ∙ f)))

@@ -13,7 +13,7 @@ use borrow.Author.Tests.{eqb-true}
 use Rattle.interface.specs.Limits.{in_range, Range}
 use Rattle.interface.proofs.Laws.{range_of}
 use Rattle.interface.specs.declared.Settings.{Settings}
-use Rattle.machine.specs.Choice.{if◌then◌else◌, ◌and◌}
+use Rattle.machine.specs.Choice.{when◌then◌else◌, ◌and◌}
 use Rattle.machine.specs.Sequential.{Update, account, first_bits}
 use Rattle.machine.specs.Records.{Name, Body, Bucket, Leaf, kept, made, Copy, Slot, empty, announced, Cells, no_bits, new_bucket}
 use Rattle.machine.specs.BucketPass.{settled_at, holds_back, splittable, carry_out}
@@ -195,7 +195,7 @@ module _ {s : Settings} {l₀ : List ℕ} {c₀ : Cells} {w : ℕ} {slots : ℕ 
   Both a l c = Middle l c × IsMade (leaf_of c a)
 
   splits_mid : (f a : ℕ) (l : List ℕ) (c : Copy) → Middle l c → IsMade (leaf_of c a) → Both a (split_while_at l s a f) (split_while s f a c)
-  unfolding split_while_at split_while split_leaf if◌then◌else◌
+  unfolding split_while_at split_while split_leaf when◌then◌else◌
   splits_mid zero a l c mid m = (mid, m)
   splits_mid (suc f) a l c mid m = go (splits_mid f a) (leaf_of c a) refl m
     where
@@ -208,8 +208,8 @@ module _ {s : Settings} {l₀ : List ℕ} {c₀ : Cells} {w : ℕ} {slots : ℕ 
         where
           by :
               (v : Bool) → splittable s x.depth b ≡ v
-              → Both a (if v then split_while_at (split_at l s (start_at l c mid a)) s a f else l)
-              (split_while s f a (if v then split x b c else c))
+              → Both a (when v then split_while_at (split_at l s (start_at l c mid a)) s a f else l)
+              (split_while s f a (when v then split x b c else c))
           by true h = ih (split_at l s (start_at l c mid a)) (split x b c) (split-at l c mid a x b e h) (split_made l c mid a x b e h)
           by false h = let i = split_while_idle f a c (rw (e, h)) in rw i (mid, m)
 
@@ -300,21 +300,21 @@ module _ {s : Settings} {l₀ : List ℕ} {c₀ : Cells} {w : ℕ} {slots : ℕ 
     taken_mid :
         (l : List ℕ) (c : Copy) → Both (account u) l c
         → let q : ℕ = record_of l s (word l (read_at p i + slot_account)) in
-        Middle (if holds_back_at l s q then l else carried_at l s p i q) (carry_leaf s i u t c (leaf_of c (account u)))
-    unfolding carry_leaf if◌then◌else◌ descriptor_in
+        Middle (when holds_back_at l s q then l else carried_at l s p i q) (carry_leaf s i u t c (leaf_of c (account u)))
+    unfolding carry_leaf when◌then◌else◌ descriptor_in
     taken_mid l c m = rw ((slot_is l c m.0).account, record-at l c m.0 (account u)) (go (leaf_of c (account u)) refl m.1)
       where
         q : ℕ
         q = start_at l c m.0 (account u)
 
         go : (y : Leaf) → leaf_of c (account u) ≡ y → IsMade y
-            → Middle (if holds_back_at l s q then l else carried_at l s p i q) (carry_leaf s i u t c (leaf_of c (account u)))
+            → Middle (when holds_back_at l s q then l else carried_at l s p i q) (carry_leaf s i u t c (leaf_of c (account u)))
         go (kept x) e k = absurd k
         go (made x b) e k = rw (holds-back-at l c m.0 (account u) x b e, e) (by (holds_back s x.depth b) refl)
           where
             by :
                 (v : Bool) → holds_back s x.depth b ≡ v
-                → Middle (if v then l else carried_at l s p i q) (if v then c else replace_leaf x (made x (carry_out s i u t b)) c)
+                → Middle (when v then l else carried_at l s p i q) (when v then c else replace_leaf x (made x (carry_out s i u t b)) c)
             by true f = m.0
             by false f = carry_mid l c m.0 x b e f
 
@@ -333,7 +333,7 @@ module _ {s : Settings} {l₀ : List ℕ} {c₀ : Cells} {w : ℕ} {slots : ℕ 
     pub takes_mid :
         (k : ℕ) → k ≤ s.workers → (l : List ℕ) → Middle l (replace_leaf x (made x b) o)
         → Middle (taken_all l s p dues k) (take_slots s x b slots k (replace_leaf x (made x b) o))
-    unfolding taken_all take_slots take_slot if◌then◌else◌
+    unfolding taken_all take_slots take_slot when◌then◌else◌
     takes_mid zero h l mid = mid
     takes_mid (suc k) h l mid = rw (flags k h) (by (takes_mid k (le_of_suc-le h) l mid) (slots k) refl)
       where
@@ -344,13 +344,13 @@ module _ {s : Settings} {l₀ : List ℕ} {c₀ : Cells} {w : ℕ} {slots : ℕ 
         c' = take_slots s x b slots k (replace_leaf x (made x b) o)
 
         Goal : Bool → Copy → Type 0
-        Goal v c = Middle (if v then taken_at l' s p k else l') c
+        Goal v c = Middle (when v then taken_at l' s p k else l') c
 
         by : Middle l' c' → (y : Slot) → slots k ≡ y → Goal (due x b k y) (take_slot s x b k y c')
         by q empty e = q
         by q (announced u t) e = test (due x b k (announced u t)) refl
           where
-            test : (v : Bool) → due x b k (announced u t) ≡ v → Goal v (if v then take_update s k u t c' else c')
+            test : (v : Bool) → due x b k (announced u t) ≡ v → Goal v (when v then take_update s k u t c' else c')
             test true f = take_mid k h u t e l' c' q (made_in x (leaf_of c' (account u))
                 ((refined_take_slots small s (le_refl s.depth) coherent a₀ x there b slots k).inside (account u)
                 (eqb-true (first_bits x.depth (account u)) x.prefix (and_parts _ (not (settled_at b k t)) f).0)))

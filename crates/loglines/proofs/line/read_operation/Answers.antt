@@ -6,7 +6,7 @@ use native.Mathlib.Numerals.{add-one}
 use lib.ListN.{length, take, drop, length-drop, length-set}
 use lib.Seq.{length-take-le, take-suc-set}
 use borrow.Author.Rules.{rules}
-use Rattle.machine.specs.Choice.{if◌then◌else◌}
+use Rattle.machine.specs.Choice.{when◌then◌else◌}
 use Rattle.numerals.proofs.Parts.{part_from}
 use Rattle.numerals.proofs.NumeralLaws.{number_none, number_some}
 use Rattle.loglines.specs.Lines.{row_of}
@@ -17,7 +17,7 @@ pub loop-k-init : goal.loop-k-init
 loop-k-init c = (search rules, (search rules, (refl, no_word_yet _)))
 
 pub returns-then-rest-end : goal.returns-then-rest-end
-unfolding row_of if◌then◌else◌
+unfolding row_of when◌then◌else◌
 returns-then-rest-end c =
     let l = c.args.line.now in
     too_few _ _ _ c.loop-k-test.true
@@ -28,7 +28,7 @@ pub slice_bounds-read_field-end : goal.slice_bounds-read_field-end
 slice_bounds-read_field-end c = sym (length-take-le _ _ (omega arith))
 
 pub returns-in_default : goal.returns-in_default
-unfolding row_of if◌then◌else◌
+unfolding row_of when◌then◌else◌
 returns-in_default c =
     let l = c.args.line.now in
     let from = c.loop-k.from in

@@ -1,14 +1,14 @@
 -- `Line::push`: the byte is kept while there is room.
 -- Rests on the laws that it cites and on the contracts of what is called.
 use borrow.Author.Tests.{lt-ltb, le-ltb}
-use Rattle.machine.specs.Choice.{if◌then◌else◌}
+use Rattle.machine.specs.Choice.{when◌then◌else◌}
 use Rattle.loglines.specs.Holding.{line_room, pushed}
 use Rattle.loglines.proofs.progress.Line.push.Goals as goal
 
 pub returns-then-len-lt-LINE_ROOM : goal.returns-then-len-lt-LINE_ROOM
-unfolding pushed if◌then◌else◌
+unfolding pushed when◌then◌else◌
 returns-then-len-lt-LINE_ROOM c = rw (lt-ltb _ line_room c.if-len-lt-LINE_ROOM.true)
 
 pub returns-else-len-lt-LINE_ROOM : goal.returns-else-len-lt-LINE_ROOM
-unfolding pushed if◌then◌else◌
+unfolding pushed when◌then◌else◌
 returns-else-len-lt-LINE_ROOM c = rw (le-ltb _ line_room c.if-len-lt-LINE_ROOM.false)
