@@ -1,7 +1,7 @@
 -- A log of answered operations, the field's complete history, and when words are one. 02, No. 9: "up to 12 answered
 -- operations, each with worker, kind 1 to 4, account, total, answer with its total, call position and answer position".
 -- Rests on document 01's numbers.
-use Rattle.std.specs.Prelude.{ℕ, zero, suc, ◌+◌, ◌*◌, ◌/◌, ◌%◌, ◌^◌, Bool, true, not, List, eqb, leb, ltb, ℤ, length, get_or}
+use Rattle.std.specs.Prelude.{ℕ, zero, suc, ◌+◌, ◌*◌, ◌/◌, ◌%◌, ◌^◌, Bool, true, false, not, List, eqb, leb, ltb, ℤ, length, get_or}
 use Rattle.std.specs.Int.{w64}
 use Rattle.std.proofs.Common.{to_z}
 use Rattle.interface.specs.Numbers.{kind_insert, greatest_kind}

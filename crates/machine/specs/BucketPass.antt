@@ -1,13 +1,13 @@
 -- What a round of the bucket pass makes of the state, toggle and slots that it has read, and what a check answers.
 -- Rests on the records.
-use Rattle.std.specs.Prelude.{ℕ, zero, suc, Bool, not, leb, ltb, length}
+use Rattle.std.specs.Prelude.{ℕ, zero, suc, Bool, true, false, not, leb, ltb, length}
 use Rattle.std.specs.Bool.{xor}
 use Rattle.std.proofs.Math.Option.{Option, none, some}
 use Rattle.interface.specs.declared.Settings.{Settings}
 use Rattle.interface.specs.declared.Answer.{Answer}
 use Rattle.machine.specs.Choice.{when◌then◌else◌, ◌and◌, assign}
 use Rattle.machine.specs.Sequential.{Update, tried}
-use Rattle.machine.specs.Records.{Body, State, Slot, empty, announced}
+use Rattle.machine.specs.Records.{Settled, Body, State, Slot, empty, announced}
 
 -- ---- a bucket's body
 

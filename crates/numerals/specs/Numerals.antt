@@ -6,8 +6,11 @@ use Rattle.std.proofs.Math.Option.{Option, none, some}
 use Rattle.machine.specs.Choice.{when◌then◌else◌, ◌and◌}
 use Rattle.decimals.specs.Ascii.{minus_sign, zero_digit, nine_digit}
 use Rattle.numerals.specs.declared.Number.{Number}
+use Rattle.numerals.specs.declared.Number.TheVariants as Number
 use Rattle.numerals.specs.declared.Pair.{Pair}
+use Rattle.numerals.specs.declared.Pair.TheVariants as Pair
 use Rattle.numerals.specs.declared.Signed.{Signed}
+use Rattle.numerals.specs.declared.Signed.TheVariants as Signed
 
 unfoldable pub is_digit : ℕ → Bool
 is_digit b = leb zero_digit b and leb b nine_digit

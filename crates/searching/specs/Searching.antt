@@ -3,7 +3,7 @@
 use Rattle.std.specs.Prelude.{ℕ, zero, suc, Bool, true, false, List, eqb, get_or}
 use Rattle.std.proofs.Math.Option.{Option, none, some}
 use Rattle.lists.specs.Parts.{overlay}
-use Rattle.machine.specs.Choice.{when◌then◌else◌}
+use Rattle.machine.specs.Choice.{when◌then◌else◌, ◌and◌}
 use Rattle.memory.specs.Words.{least}
 use Rattle.logs.specs.Log.{word_at, logged_end, log_of, greatest_operations, greatest_word}
 use Rattle.logs.specs.Same.{same_numbers}
