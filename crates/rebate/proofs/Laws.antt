@@ -76,6 +76,7 @@ pub rebate_laws : RebateLaws
 unfolding rebate_on
 rebate_laws =
     record {
+      ascends = ascends;
       whole = λ t. inside_whole _ _ t ascends ∙ sub-zero t;
       by_band = by_band;
       negative = λ t. refl;

@@ -1,7 +1,7 @@
 -- What holds of the rebate, whatever the total is. Rests on its definition.
-use Rattle.std.specs.Prelude.{ℕ, ◌+◌, ◌-◌, ◌*◌, ◌≤◌, ◌≡◌, List, [], ◌∷◌, ℤ, pos, negsuc, ◌≤ℤ◌}
+use Rattle.std.specs.Prelude.{ℕ, ◌+◌, ◌-◌, ◌*◌, ◌≤◌, ◌≡◌, true, List, [], ◌∷◌, ℤ, pos, negsuc, ◌≤ℤ◌}
 use Rattle.rebate.specs.declared.Band.{Band}
-use Rattle.rebate.specs.Bands.{yearly}
+use Rattle.rebate.specs.Bands.{ascending, yearly}
 use Rattle.rebate.specs.Rebate.{inside, due_by, rebate_on}
 
 -- the parts inside these bands, together
@@ -23,6 +23,8 @@ pub record ByBand : Type 0 where
   pub fourth : (t : ℕ) → 20_000_000 ≤ t → due_by yearly.bands t ≡ 4_350_000_000 + (t - 20_000_000) * 350
 
 pub record RebateLaws : Type 0 where
+  -- each band of the table starts above the one before
+  pub ascends : ascending yearly.bands ≡ true
   -- each cent of a total is in one band
   pub whole : (t : ℕ) → inside_all yearly.bands t ≡ t
   pub by_band : ByBand

@@ -29,8 +29,8 @@ fn write(listed: &[u32], totals: &[i64], k: usize, accounts: &mut [u32], rebates
 
 // The accounts in ascending order with the rebates on their totals, nothing past the count: checks 8, 10.
 pub fn rebates(words: &[u64], accounts: &mut [u32], rebates: &mut [u64]) -> Listed
-    ensures { record { accounts = accounts.exit.now; rebates = rebates.new; listed = result }
-        ≡ rebates_words words.now accounts.entry.now rebates.old }
+    ensures { record { accounts = accounts.new; rebates = rebates.new; listed = result }
+        ≡ rebates_words words.now accounts.old rebates.old }
 {
     let mut listed = [0u32; GREATEST_COUNT];
     let mut totals = [0i64; GREATEST_COUNT];

@@ -48,8 +48,8 @@ fn write(words: &[u64], g: Settings, accounts: &mut [u32], totals: &mut [i64])
 
 // The accounts in ascending order with their totals, nothing past the count: checks 8, 10.
 pub fn listing(words: &[u64], accounts: &mut [u32], totals: &mut [i64]) -> Listed
-    ensures { record { accounts = accounts.exit.now; totals = totals.new; listed = result }
-        ≡ listing_words words.now accounts.entry.now totals.old }
+    ensures { record { accounts = accounts.new; totals = totals.new; listed = result }
+        ≡ listing_words words.now accounts.old totals.old }
 {
     if strange_words(words) {
         return Listed::Refused(Refusal::Strange);

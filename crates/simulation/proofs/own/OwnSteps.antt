@@ -272,7 +272,7 @@ module _ {s : Settings} {l : List ℕ} {m : Machine} {w : ℕ} (ready : Ready s 
   step_in_range e f =
       subst (Counter.StepInRange s.workers) (counter_is s m w e f) (counter_in_range s.workers (m.workers w).steps)
 
-  -- slotsB, last_b
+  -- slots_b, last_b
   pub slot_b_means :
       (p r : Two) (i : ℕ) (x : BStep) → k.pc ≡ in_b p r (slot_b i) → Onward ready (in_b p r x) (with_slot k.reads i (m.cells.slots i))
   unfolding update_at with_slot
