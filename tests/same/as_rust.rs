@@ -1,6 +1,6 @@
 //! Makes Rust of the Rattle crates that a static library rests on, for build scripts: a module for each crate inside
-//! one for the library, the contracts left out. The library NAME is the crate NAME_c, which exports to C; which crates it
-//! rests on stands in crates.txt.
+//! one for the library, the contracts left out. The library NAME is the crate NAME_c, which exports to C; which crates
+//! it rests on stands in crates.txt.
 
 use std::path::{Path, PathBuf};
 use std::{env, fs};
