@@ -2,8 +2,7 @@
 -- `I w account total`, `D w account`, `L w account`, `S w k` .., `T` (listing)"; 02, No. 1: "the line is
 -- `P w account amount`, an amount being ranged and read like a total". Rests on specs/Numerals of crate numerals and
 -- the enum of commands.
-use Rattle.std.specs.Prelude.{ℕ, List, eqb, ℤ}
-use Rattle.std.proofs.Math.Option.{Option, none, some}
+use Rattle.std.specs.Prelude.{ℕ, List, eqb, ℤ, Option, Some, None}
 use Rattle.interface.specs.Numbers.{kind_delete, kind_lookup, kind_post}
 use Rattle.machine.specs.Choice.{when◌then◌else◌}
 use Rattle.machine.specs.Script.{Line, O, I, D, L, P, S, T}
@@ -71,15 +70,15 @@ list_letter = 84
 
 -- a command of two fields, or of three, each of which has to be read
 unfoldable pub with2 : {A B : Type 0} → (A → B → Command) → Option A → Option B → Command
-with2 f none b = Unread
-with2 f (some a) none = Unread
-with2 f (some a) (some b) = f a b
+with2 f None b = Unread
+with2 f (Some a) None = Unread
+with2 f (Some a) (Some b) = f a b
 
 unfoldable pub with3 : {A B C : Type 0} → (A → B → C → Command) → Option A → Option B → Option C → Command
-with3 f none b c = Unread
-with3 f (some a) none c = Unread
-with3 f (some a) (some b) none = Unread
-with3 f (some a) (some b) (some c) = f a b c
+with3 f None b c = Unread
+with3 f (Some a) None c = Unread
+with3 f (Some a) (Some b) None = Unread
+with3 f (Some a) (Some b) (Some c) = f a b c
 
 -- `T`
 unfoldable pub one_field : ℕ → Command
@@ -128,11 +127,11 @@ four_fields letter x y z =
 
 -- the line of the machine's script that a command is; none for one that is unread
 unfoldable pub line_of : Command → Option Line
-line_of (Open n b M) = some (O n b M)
-line_of (Insert w a t) = some (I w a t)
-line_of (Delete w a) = some (D w a)
-line_of (Lookup w a) = some (L w a)
-line_of (Post w a v) = some (P w a v)
-line_of (Steps w k) = some (S w k)
-line_of Listing = some T
-line_of Unread = none
+line_of (Open n b M) = Some (O n b M)
+line_of (Insert w a t) = Some (I w a t)
+line_of (Delete w a) = Some (D w a)
+line_of (Lookup w a) = Some (L w a)
+line_of (Post w a v) = Some (P w a v)
+line_of (Steps w k) = Some (S w k)
+line_of Listing = Some T
+line_of Unread = None

@@ -3,7 +3,7 @@ use Prim.Native.Nat.{◌-◌, ◌^◌}
 use Prim.Native.String.{String}
 use mathlib.Core.Path.{◌≡◌, refl}
 use mathlib.Core.List.{List, [], ◌∷◌, map}
-use mathlib.Core.Option.{none, some}
+use Rattle.std.specs.Prelude.{Some, None}
 use lib.IntN.{ℤ, pos, negsuc}
 use Rattle.interface.specs.Numbers.{bytes}
 use Rattle.machine.specs.Choice.{when◌then◌else◌, ◌and◌}
@@ -55,12 +55,12 @@ unfolding read_file behind_header read_rows read_lines behind read_line read_end
     numeral zero_then digits_after is_digit plus minus parts_at before bytes when◌then◌else◌ ◌and◌
 reading = tt
 
-pub two_rows : read_file (bytes "account,total\r\n5,-0.07\r\n0,12.05\r\n") ≡ some ((5, negsuc 6) ∷ (0, pos 1205) ∷ [])
+pub two_rows : read_file (bytes "account,total\r\n5,-0.07\r\n0,12.05\r\n") ≡ Some ((5, negsuc 6) ∷ (0, pos 1205) ∷ [])
 unfolding reading
 two_rows = refl
 
 abbrev pub Unread : List String → Type 0
-Unread texts = map (λ s. read_rows (bytes s)) texts ≡ map (λ s. none) texts
+Unread texts = map (λ s. read_rows (bytes s)) texts ≡ map (λ s. None) texts
 
 -- no carriage return, or one too early
 pub other_ends : Unread ("5,0.07\n" ∷ "5,0.07\r\r\n" ∷ "5,\r0.07\r\n" ∷ [])

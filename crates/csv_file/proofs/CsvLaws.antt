@@ -2,7 +2,7 @@
 use Prim.Native.Nat.{ℕ}
 use mathlib.Core.Path.{◌≡◌, sym, ◌∙◌, ap}
 use mathlib.Core.List.{List, [], ◌∷◌}
-use mathlib.Core.Option.{Option, some}
+use Rattle.std.specs.Prelude.{Option, Some}
 use native.Mathlib.Omega.{arith}
 use lib.IntN.{ℤ}
 use Rattle.decimals.specs.Ascii.{minus_sign}
@@ -16,8 +16,8 @@ use Rattle.csv_file.proofs.ReadBack.{row_read, file_read}
 
 -- what a reader finds in a text was written in no other
 module _ {A : Type 0} (read : List ℕ → Option A) where
-  found : {xs ys : List ℕ} {x y : A} → read xs ≡ some x → read ys ≡ some y → xs ≡ ys → x ≡ y
-  found {xs} {ys} {x} {y} e f q = let p : some x ≡ some y = sym e ∙ ap read q ∙ f in cc
+  found : {xs ys : List ℕ} {x y : A} → read xs ≡ Some x → read ys ≡ Some y → xs ≡ ys → x ≡ y
+  found {xs} {ys} {x} {y} e f q = let p : Some x ≡ Some y = sym e ∙ ap read q ∙ f in cc
 
 one_row : (r q : ℕ × ℤ) → ◌≡◌ {A = List (ℕ × ℤ)} (r ∷ []) (q ∷ []) → (r.0 ≡ q.0) × (r.1 ≡ q.1)
 one_row r q e = let p : r ≡ q = cc in (ap (λ (s : ℕ × ℤ). s.0) p, ap (λ (s : ℕ × ℤ). s.1) p)

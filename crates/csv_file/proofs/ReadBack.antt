@@ -3,7 +3,7 @@ use Prim.Native.Nat.{ℕ, suc, ◌/◌, ◌%◌, ◌<◌}
 use mathlib.Core.Path.{◌≡◌, refl, sym, ◌∙◌, ap}
 use mathlib.Core.Logic.{◌≢◌}
 use mathlib.Core.List.{List, [], ◌∷◌, ◌++◌, append_assoc, append-nil}
-use mathlib.Core.Option.{some}
+use Rattle.std.specs.Prelude.{Some}
 use native.Mathlib.Omega.{arith}
 use lib.IntN.{ℤ, pos, negsuc}
 use borrow.Author.Tests.{ne_eqb}
@@ -30,9 +30,9 @@ cut_two x low xs ys h e f =
 
 -- ---- a total
 
-two-digits : (n : ℕ) → two_digits (digits 2 n) ≡ some (n % 100)
+two-digits : (n : ℕ) → two_digits (digits 2 n) ≡ Some (n % 100)
 unfolding two_digits digits
-two-digits n = digits_read 2 n 0 ∙ ap some (omega arith)
+two-digits n = digits_read 2 n 0 ∙ ap Some (omega arith)
 
 units_cut : (n : ℕ) → parts_at point ([] ∷ []) (in_units n) ≡ decimal (n / 100) ∷ digits 2 n ∷ []
 unfolding in_units
@@ -40,17 +40,17 @@ units_cut n =
     cut_two point zero_digit (decimal (n / 100)) (digits 2 n) (omega arith) (decimal_from zero_digit (n / 100) (omega arith))
     (digits_from zero_digit 2 n (omega arith))
 
-units_read : (n : ℕ) → read_units (in_units n) ≡ some n
+units_read : (n : ℕ) → read_units (in_units n) ≡ Some n
 unfolding read_units cents_of in_cents
-units_read n = rw (units_cut n, numeral_decimal (n / 100), two-digits n) (ap some (omega arith))
+units_read n = rw (units_cut n, numeral_decimal (n / 100), two-digits n) (ap Some (omega arith))
 
 -- what does not start with a minus
-unsigned_read : (xs : List ℕ) (n : ℕ) → From point xs → read_units xs ≡ some n → read_total xs ≡ some (pos n)
+unsigned_read : (xs : List ℕ) (n : ℕ) → From point xs → read_units xs ≡ Some n → read_total xs ≡ Some (pos n)
 unfolding read_total read_units parts_at cents_of plus when◌then◌else◌ Every
 unsigned_read [] n e f = absurd (some_none (sym f))
 unsigned_read (b ∷ xs) n e f = rw (ne_eqb b minus_sign (λ q. omega (arith, e.0)), f)
 
-total_read : (t : ℤ) → read_total (total_field t) ≡ some t
+total_read : (t : ℤ) → read_total (total_field t) ≡ Some t
 unfolding total_field read_total minus when◌then◌else◌
 total_read (pos n) = unsigned_read (in_units n) n (units_from point n (omega arith)) (units_read n)
 total_read (negsuc n) = rw (units_read (suc n))
@@ -80,7 +80,7 @@ module _ (a : ℕ) (t : ℤ) where
   unfolding Every
   end_cut = cut_two carriage_return comma (fields a t) [] (omega arith) fields_from tt
 
-  line_read : read_line (ended a t) ≡ some (a, t)
+  line_read : read_line (ended a t) ≡ Some (a, t)
   unfolding read_line read_ended read_fields row_of
   line_read = rw (end_cut, fields_cut, numeral_decimal a, total_read t)
 
@@ -99,15 +99,15 @@ module _ (a : ℕ) (t : ℤ) where
 
 -- ---- rows
 
-rows_read : (rs : List (ℕ × ℤ)) → read_rows (csv_rows rs) ≡ some rs
+rows_read : (rs : List (ℕ × ℤ)) → read_rows (csv_rows rs) ≡ Some rs
 unfolding read_rows csv_rows parts_at read_lines behind
 rows_read [] = refl
 rows_read (r ∷ rs) = rw (row_cut r.0 r.1 (csv_rows rs), line_read r.0 r.1, rows_read rs)
 
-pub row_read : (a : ℕ) (t : ℤ) → read_rows (csv_row a t) ≡ some ((a, t) ∷ [])
+pub row_read : (a : ℕ) (t : ℤ) → read_rows (csv_row a t) ≡ Some ((a, t) ∷ [])
 unfolding csv_rows
 row_read a t = rw append-nil at (rows_read ((a, t) ∷ []))
 
-pub file_read : (rs : List (ℕ × ℤ)) → read_file (csv_file rs) ≡ some rs
+pub file_read : (rs : List (ℕ × ℤ)) → read_file (csv_file rs) ≡ Some rs
 unfolding read_file csv_file behind_header header csv_record bytes parts_at before when◌then◌else◌ read_rows
 file_read rs = rows_read rs

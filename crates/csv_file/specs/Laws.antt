@@ -1,6 +1,5 @@
 -- What holds of the exported file, whatever the rows are. Rests on the file and on its reader.
-use Rattle.std.specs.Prelude.{ℕ, ◌^◌, ◌≤◌, ◌<◌, ◌≡◌, ◌≢◌, List, [], ◌∷◌, ℤ, length}
-use Rattle.std.proofs.Math.Option.{some}
+use Rattle.std.specs.Prelude.{ℕ, ◌^◌, ◌≤◌, ◌<◌, ◌≡◌, ◌≢◌, List, [], ◌∷◌, ℤ, length, Some}
 use Rattle.std.specs.Int.Signed.{mag}
 use Rattle.lists.specs.Every.{Every}
 use Rattle.decimals.specs.Ascii.{space, quote, comma, tilde}
@@ -20,8 +19,8 @@ pub record CsvLaws : Type 0 where
   pub plain_account : (a : ℕ) → Every TextData (decimal a)
   pub plain_total : (t : ℤ) → Every TextData (total_field t)
   -- "Every exported line must determine its account and total": a reader finds them, for all numbers and all integers
-  pub line : (a : ℕ) (t : ℤ) → read_rows (csv_row a t) ≡ some ((a, t) ∷ [])
-  pub file : (rs : List (ℕ × ℤ)) → read_file (csv_file rs) ≡ some rs
+  pub line : (a : ℕ) (t : ℤ) → read_rows (csv_row a t) ≡ Some ((a, t) ∷ [])
+  pub file : (rs : List (ℕ × ℤ)) → read_file (csv_file rs) ≡ Some rs
   -- so that no two rows have one line, and no two lists of rows one file
   pub one_line : (a b : ℕ) (t u : ℤ) → csv_row a t ≡ csv_row b u → (a ≡ b) × (t ≡ u)
   pub one_file : (rs qs : List (ℕ × ℤ)) → csv_file rs ≡ csv_file qs → rs ≡ qs

@@ -6,7 +6,7 @@ use mathlib.Core.Path.{◌≡◌, refl}
 use mathlib.Core.Logic.{◌≢◌}
 use mathlib.Core.Bool.{false}
 use mathlib.Core.List.{List}
-use mathlib.Core.Option.{some}
+use Rattle.std.specs.Prelude.{Some}
 use lib.Dec.{ltb}
 use lib.IntN.{ℤ}
 use lib.ListN.{length, take}
@@ -45,7 +45,7 @@ as_listed :
     (l out accounts : List ℕ) (totals : List ℤ) (k n : ℕ) → (export_words l out).1 ≡ Exported.Bytes k
     → (listing_words l accounts totals).listed ≡ Listed.Count n
     → read_file (take k (export_words l out).0)
-    ≡ some (rows_at (listing_words l accounts totals).accounts (listing_words l accounts totals).totals 0 n)
+    ≡ Some (rows_at (listing_words l accounts totals).accounts (listing_words l accounts totals).totals 0 n)
 unfolding export_words
 as_listed l out accounts totals k n e f =
     let all = rows_counted l accounts totals n _ refl f in

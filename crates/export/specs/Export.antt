@@ -1,7 +1,6 @@
 -- The listing of a table as a file, for any words. 02, No. 14: "Strange memory is refused first. If the output is too
 -- short, it is refused as narrow and untouched." Rests on the listing's rows, and on the file of rows.
-use Rattle.std.specs.Prelude.{ℕ, ◌+◌, ◌*◌, ◌≤◌, ◌≡◌, ◌≢◌, List, ltb, ℤ, length, take}
-use Rattle.std.proofs.Math.Option.{some}
+use Rattle.std.specs.Prelude.{ℕ, ◌+◌, ◌*◌, ◌≤◌, ◌≡◌, ◌≢◌, List, ltb, ℤ, length, take, Some}
 use Rattle.interface.specs.declared.Refusal.{Refusal}
 use Rattle.interface.specs.declared.Listed.{Listed}
 use Rattle.interface.specs.declared.Exported.{Exported}
@@ -36,7 +35,7 @@ pub record ExportLaws : Type 0 where
       (l out accounts : List ℕ) (totals : List ℤ) (k n : ℕ) → (export_words l out).1 ≡ Exported.Bytes k
       → (listing_words l accounts totals).listed ≡ Listed.Count n
       → read_file (take k (export_words l out).0)
-      ≡ some (rows_at (listing_words l accounts totals).accounts (listing_words l accounts totals).totals 0 n)
+      ≡ Some (rows_at (listing_words l accounts totals).accounts (listing_words l accounts totals).totals 0 n)
   -- An output of so many bytes is never too short.
   pub long_enough :
       (l out : List ℕ) → longest_file ≤ length out → (export_words l out).1 ≢ Exported.Refused Refusal.Narrow

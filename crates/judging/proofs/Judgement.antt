@@ -5,7 +5,7 @@ use native.Mathlib.Omega.{arith}
 use mathlib.Core.Path.{refl, ◌≡◌, sym, ap, ◌∙◌}
 use mathlib.Core.Bool.{Bool, true, false, not}
 use mathlib.Core.List.{List, []}
-use mathlib.Core.Option.{Option, none, some}
+use Rattle.std.specs.Prelude.{Option, Some, None}
 use lib.ListN.{length, replicate}
 use borrow.Author.Tests.{ltb-true, lt-ltb, le-ltb}
 use Rattle.interface.specs.Limits.{least_workers, in_range, built}
@@ -79,26 +79,26 @@ module _ (l : List ℕ) (b M : ℕ) where
   -- ---- verdicts
 
   module _ (places : ℕ) where
-    pub wrong_settings : in_range least_workers b M ≡ false → refusal l b M places ≡ some Refusal.Settings
+    pub wrong_settings : in_range least_workers b M ≡ false → refusal l b M places ≡ Some Refusal.Settings
     unfolding refusal
     wrong_settings e = if_true _ _ (ap not e)
 
     module _ (range : in_range least_workers b M ≡ true) where
-      pub bad_log : are_log l ≡ false → refusal l b M places ≡ some Refusal.BadLog
+      pub bad_log : are_log l ≡ false → refusal l b M places ≡ Some Refusal.BadLog
       unfolding refusal
       bad_log e = if_false _ _ (ap not range) ∙ if_true _ _ (ap not e)
 
       module _ (good : are_log l ≡ true) where
-        pub too_narrow : places < count_of l → refusal l b M places ≡ some Refusal.Narrow
+        pub too_narrow : places < count_of l → refusal l b M places ≡ Some Refusal.Narrow
         unfolding refusal
         too_narrow e = if_false _ _ (ap not range) ∙ if_false _ _ (ap not good) ∙ if_true _ _ (lt-ltb _ _ e)
 
-        no_refusal : count_of l ≤ places → refusal l b M places ≡ none
+        no_refusal : count_of l ≤ places → refusal l b M places ≡ None
         unfolding refusal
         no_refusal room = if_false _ _ (ap not range) ∙ if_false _ _ (ap not good) ∙ if_false _ _ (le-ltb _ _ room)
 
   module _ (before : List ℕ) where
-    pub refused_as : (r : Refusal) → refusal l b M (length before) ≡ some r → (before, Verdict.Refused r) ≡ check_log_words l b M before
+    pub refused_as : (r : Refusal) → refusal l b M (length before) ≡ Some r → (before, Verdict.Refused r) ≡ check_log_words l b M before
     refused_as r e = sym (refused l b M before r e)
 
     module _ (range : in_range least_workers b M ≡ true) (good : are_log l ≡ true) (room : count_of l ≤ length before) (left after : List ℕ)
@@ -113,8 +113,8 @@ module _ (l : List ℕ) (b M : ℕ) where
 
       by_order : (f : Option (List ℕ)) → (written_in before f, when is_found f then Verdict.Accepted else Verdict.No) ≡ verdict_on before f
       unfolding written_in is_found when◌then◌else◌ verdict_on
-      by_order none = refl
-      by_order (some o) = refl
+      by_order None = refl
+      by_order (Some o) = refl
 
       pub answered : after ≡ written_in before found → (r : Bool) → r ≡ is_found found
           → (after, when r then Verdict.Accepted else Verdict.No) ≡ check_log_words l b M before

@@ -7,7 +7,7 @@ use mathlib.Core.Path.{◌≡◌, refl, sym, ap, ◌∙◌, subst}
 use mathlib.Core.Logic.{◌≢◌, ◌⊎◌, inl, inr, ⊎_elim, by_cases}
 use mathlib.Core.Bool.{Bool, true, false}
 use mathlib.Core.List.{List, [], ◌∷◌, map}
-use mathlib.Core.Option.{Option, none, some}
+use Rattle.std.specs.Prelude.{Option, Some, None}
 use lib.IntN.{ℤ, pos, ◌+ℤ◌, +ℤ_assoc, +ℤ_idl, +ℤ_idr}
 use borrow.Author.Tests.{eq-eqb, ne_eqb}
 use Rattle.interface.specs.declared.Settings.{Settings}
@@ -35,21 +35,21 @@ absent_sums (adds v ∷ bs) e = absurd (let z : ◌≡◌ {A = ℕ} 0 1 = cc in 
 absent_sums (closes ∷ bs) e = (refl, refl)
 absent_sums (nothing ∷ bs) e = absent_sums bs e
 
-balance_adds : (v : ℤ) (bs : List Booking) → balance (adds v ∷ bs) ≡ some (total_or0 (balance bs) +ℤ v)
+balance_adds : (v : ℤ) (bs : List Booking) → balance (adds v ∷ bs) ≡ Some (total_or0 (balance bs) +ℤ v)
 unfolding balance is_there last_inserted posted_since when◌then◌else◌ total_or0
 balance_adds v bs = go (is_there bs) refl
   where
     go : (t : Bool) → is_there bs ≡ t
-        → some (last_inserted bs +ℤ (posted_since bs +ℤ v))
-        ≡ some (total_or0 (when t then some (last_inserted bs +ℤ posted_since bs) else none) +ℤ v)
-    go true e = ap some (sym (+ℤ_assoc (last_inserted bs) (posted_since bs) v))
-    go false e = let h = absent_sums bs e in ap some (rw (h.0, h.1) (+ℤ_idl _))
+        → Some (last_inserted bs +ℤ (posted_since bs +ℤ v))
+        ≡ Some (total_or0 (when t then Some (last_inserted bs +ℤ posted_since bs) else None) +ℤ v)
+    go true e = ap Some (sym (+ℤ_assoc (last_inserted bs) (posted_since bs) v))
+    go false e = let h = absent_sums bs e in ap Some (rw (h.0, h.1) (+ℤ_idl _))
 
 -- the booking of an update that was carried out, or of one that changed nothing
 abbrev booked_if : Answer → Update → Booking
 booked_if r u = when carried_out r then booking_of u else nothing
 
-booking_own : (a : ℕ) (u : Update) (r : Answer) → account u ≡ a → booking a (some (update u)) r ≡ booked_if r u
+booking_own : (a : ℕ) (u : Update) (r : Answer) → account u ≡ a → booking a (Some (update u)) r ≡ booked_if r u
 unfolding booking ◌and◌
 booking_own a u r e = rw (eq-eqb (account u) a e) (ap (λ (b : Bool). when b then booking_of u else nothing) (and_same (carried_out r)))
   where
@@ -57,7 +57,7 @@ booking_own a u r e = rw (eq-eqb (account u) a e) (ap (λ (b : Bool). when b the
     and_same true = refl
     and_same false = refl
 
-booking_other : (a : ℕ) (u : Update) (r : Answer) → account u ≢ a → booking a (some (update u)) r ≡ nothing
+booking_other : (a : ℕ) (u : Update) (r : Answer) → account u ≢ a → booking a (Some (update u)) r ≡ nothing
 unfolding booking
 booking_other a u r n = if_false _ _ (rw (ne_eqb (account u) a n) (and_right_false (carried_out r)))
 
@@ -71,19 +71,19 @@ balance_nothing bs = refl
 module _ (t : Table) (a : ℕ) (bs : List Booking) (asc : Ascending t) (same : find t a ≡ balance bs) where
   inserted : (v : ℤ) (o : Option ℤ) → find (put t a v) a ≡ balance (booked_if (present o Replaced Added) (insert a v) ∷ bs)
   unfolding present carried_out booking_of balance is_there last_inserted posted_since when◌then◌else◌
-  inserted v (some w) = find_put_at t a v ∙ ap some (sym (+ℤ_idr v))
-  inserted v none = find_put_at t a v ∙ ap some (sym (+ℤ_idr v))
+  inserted v (Some w) = find_put_at t a v ∙ ap Some (sym (+ℤ_idr v))
+  inserted v None = find_put_at t a v ∙ ap Some (sym (+ℤ_idr v))
 
   removed : (o : Option ℤ) → balance bs ≡ o → find (remove t a) a ≡ balance (booked_if (present o Removed Absent) (delete a) ∷ bs)
   unfolding present carried_out booking_of balance is_there when◌then◌else◌
-  removed (some w) e = find_remove_at t a asc
-  removed none e = find_remove_at t a asc ∙ sym e ∙ sym (balance_nothing bs)
+  removed (Some w) e = find_remove_at t a asc
+  removed None e = find_remove_at t a asc ∙ sym e ∙ sym (balance_nothing bs)
 
   posted :
       (v : ℤ) (b : Bool)
       → find (when b then put t a (sum t a v) else t) a ≡ balance (booked_if (when b then Posted (sum t a v) else Overrun) (post a v) ∷ bs)
   unfolding carried_out booking_of when◌then◌else◌ sum
-  posted v true = find_put_at t a _ ∙ ap (λ (o : Option ℤ). some (total_or0 o +ℤ v)) same ∙ sym (balance_adds v bs)
+  posted v true = find_put_at t a _ ∙ ap (λ (o : Option ℤ). Some (total_or0 o +ℤ v)) same ∙ sym (balance_adds v bs)
   posted v false = same ∙ sym (balance_nothing bs)
 
   booked_own : (u : Update) → account u ≡ a → find (changed u t) a ≡ balance (booked_if (result u t) u ∷ bs)
@@ -92,7 +92,7 @@ module _ (t : Table) (a : ℕ) (bs : List Booking) (asc : Ascending t) (same : f
   booked_own (delete c) e = rw e (removed (find t a) (sym same))
   booked_own (post c v) e = rw e (posted v (is_total (sum t a v)))
 
-  booked : (u : Update) → find (changed u t) a ≡ balance (booking a (some (update u)) (result u t) ∷ bs)
+  booked : (u : Update) → find (changed u t) a ≡ balance (booking a (Some (update u)) (result u t) ∷ bs)
   booked u = by_cases (ℕ_discrete (account u) a)
       (λ e. booked_own u e ∙ ap (λ (b : Booking). balance (b ∷ bs)) (sym (booking_own a u (result u t) e)))
       (λ n. find_changed_other u t a (λ e. n (sym e)) ∙ same ∙ sym (balance_nothing bs)
@@ -104,14 +104,14 @@ module _ (t : Table) (a : ℕ) (bs : List Booking) (asc : Ascending t) (same : f
 
   served_right : (s : Settings) (o : Option Operation) → Right o (serve_if s o t)
   unfolding serve_if serve booking when◌then◌else◌ ◌and◌ carried_out
-  served_right s none = (asc, same ∙ sym (balance_nothing bs))
-  served_right s (some (lookup c)) = (asc, same ∙ sym (balance_nothing bs))
-  served_right s (some (update u)) =
-      tried_elim (Right (some (update u))) (crowds s.capacity s.depth (account u) t) u t
+  served_right s None = (asc, same ∙ sym (balance_nothing bs))
+  served_right s (Some (lookup c)) = (asc, same ∙ sym (balance_nothing bs))
+  served_right s (Some (update u)) =
+      tried_elim (Right (Some (update u))) (crowds s.capacity s.depth (account u) t) u t
       (asc, same ∙ sym (balance_nothing bs) ∙ ap (λ (b : Booking). balance (b ∷ bs)) (sym (crowded_nothing u)))
       (ascending_changed u t asc, booked u)
     where
-      crowded_nothing : (u : Update) → booking a (some (update u)) Crowded ≡ nothing
+      crowded_nothing : (u : Update) → booking a (Some (update u)) Crowded ≡ nothing
       crowded_nothing u = refl
 
 -- ---- a list put in front of another

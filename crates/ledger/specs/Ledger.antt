@@ -1,10 +1,10 @@
 -- What a user reads off demand 3: an account's total is its last insert's, with every amount posted since, each once.
 -- Rests on the claim of demand 3.
-use Rattle.std.specs.Prelude.{ℕ, zero, suc, ◌≤◌, ◌<◌, ◌≡◌, Bool, true, false, List, [], ◌∷◌, map, eqb, length, ℤ, pos, ◌+ℤ◌}
-use Rattle.std.proofs.Math.Option.{Option, none, some}
+use Rattle.std.specs.Prelude.{ℕ, zero, suc, ◌≤◌, ◌<◌, ◌≡◌, Bool, true, false, List, [], ◌∷◌, map, eqb, length, ℤ, pos, ◌+ℤ◌, Option, Some, None}
 use Rattle.interface.specs.declared.Settings.{Settings}
 use Rattle.interface.specs.declared.Answer.{Answer}
-use Rattle.interface.specs.declared.Answer.TheVariants.{Added, Replaced, Removed, Absent, Found, None, Posted, Crowded, Overrun}
+use Rattle.interface.specs.declared.Answer.TheVariants.{Added, Replaced, Removed, Absent, Found, Posted, Crowded, Overrun}
+use Rattle.interface.specs.declared.Answer.TheVariants as Answer
 use Rattle.interface.specs.declared.Completion.{Completion}
 use Rattle.machine.specs.Choice.{when◌then◌else◌, ◌and◌}
 use Rattle.machine.specs.Sequential.{Table, Update, insert, delete, post, account, Operation, update, lookup, find}
@@ -25,7 +25,7 @@ carried_out Replaced = true
 carried_out Removed = true
 carried_out Absent = false
 carried_out (Found total) = false
-carried_out None = false
+carried_out Answer.None = false
 carried_out (Posted total) = true
 carried_out Crowded = false
 carried_out Overrun = false
@@ -44,9 +44,9 @@ booking_of (post a v) = adds v
 
 -- what an operation with this answer did to account a
 unfoldable pub booking : ℕ → Option Operation → Answer → Booking
-booking a none r = nothing
-booking a (some (lookup c)) r = nothing
-booking a (some (update u)) r = when carried_out r and eqb (account u) a then booking_of u else nothing
+booking a None r = nothing
+booking a (Some (lookup c)) r = nothing
+booking a (Some (update u)) r = when carried_out r and eqb (account u) a then booking_of u else nothing
 
 -- ---- an account's total by its bookings, the latest first
 
@@ -76,7 +76,7 @@ posted_since (nothing ∷ older) = posted_since older
 
 -- the account's total, if it is there
 unfoldable pub balance : List Booking → Option ℤ
-balance bs = when is_there bs then some (last_inserted bs +ℤ posted_since bs) else none
+balance bs = when is_there bs then Some (last_inserted bs +ℤ posted_since bs) else None
 
 -- ---- the operations that have taken effect
 

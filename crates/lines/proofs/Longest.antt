@@ -5,7 +5,7 @@ use Prim.Native.Nat.{ℕ, zero, suc, ◌+◌, ◌-◌, ◌*◌, ◌^◌, ◌≤�
 use mathlib.Core.Path.{◌≡◌, refl, sym, ◌∙◌, ap}
 use mathlib.Core.Bool.{Bool, true, false}
 use mathlib.Core.List.{List, [], ◌∷◌}
-use mathlib.Core.Option.{Option, none, some}
+use Rattle.std.specs.Prelude.{Option, Some, None}
 use native.Mathlib.Omega.{arith}
 use native.Mathlib.Nat.{le-add_right, not-le_of_lt, mul-le-mul_right, mul_assoc, pow-succ', pow-le-pow_right, one-mul, mul-one}
 use lib.Dec.{leb, eqb, lit<}
@@ -27,7 +27,7 @@ use Rattle.numerals.proofs.NumeralLaws.{some_none, passed}
 -- ---- the length of a number
 
 -- each digit makes the number ten times as large
-grows : (a : ℕ) (f : List ℕ) (v : ℕ) → digits_after a f ≡ some v → a * 10 ^ length f ≤ v
+grows : (a : ℕ) (f : List ℕ) (v : ℕ) → digits_after a f ≡ Some v → a * 10 ^ length f ≤ v
 unfolding digits_after
 grows a [] v e = let q : a ≡ v = cc in omega (arith, mul-one a)
 grows a (b ∷ f) v e =
@@ -44,12 +44,12 @@ shorter k n h = by (leb (suc k) n) refl
     by true e = absurd (not-le_of_lt h (pow-le-pow_right (lit< tt) (leb-true (suc k) n e)))
     by false e = let z = leb-false (suc k) n e in omega arith
 
-lone_zero : (k : ℕ) (f : List ℕ) (v : ℕ) → zero_then f ≡ some v → suc (length f) ≤ suc k
+lone_zero : (k : ℕ) (f : List ℕ) (v : ℕ) → zero_then f ≡ Some v → suc (length f) ≤ suc k
 unfolding zero_then
 lone_zero k [] v e = omega arith
 lone_zero k (b ∷ f) v e = absurd (some_none (sym e))
 
-first_digit : (k b : ℕ) (f : List ℕ) (v : ℕ) → digits_after 0 (b ∷ f) ≡ some v → (b ≡ zero_digit → ⊥) → v < 10 ^ suc k
+first_digit : (k b : ℕ) (f : List ℕ) (v : ℕ) → digits_after 0 (b ∷ f) ≡ Some v → (b ≡ zero_digit → ⊥) → v < 10 ^ suc k
     → suc (length f) ≤ suc k
 unfolding digits_after is_digit
 first_digit k b f v e z h =
@@ -62,24 +62,24 @@ first_digit k b f v e z h =
     omega arith
 
 -- a number below a power of ten has no more digits than the power says
-numeral_length : (k : ℕ) (f : List ℕ) (v : ℕ) → numeral f ≡ some v → v < 10 ^ suc k → length f ≤ suc k
+numeral_length : (k : ℕ) (f : List ℕ) (v : ℕ) → numeral f ≡ Some v → v < 10 ^ suc k → length f ≤ suc k
 unfolding numeral when◌then◌else◌
 numeral_length k [] v e h = absurd (some_none (sym e))
 numeral_length k (b ∷ f) v e h = by (eqb b zero_digit) refl e
   where
-    by : (t : Bool) → eqb b zero_digit ≡ t → when t then zero_then f else digits_after 0 (b ∷ f) ≡ some v → suc (length f) ≤ suc k
+    by : (t : Bool) → eqb b zero_digit ≡ t → when t then zero_then f else digits_after 0 (b ∷ f) ≡ Some v → suc (length f) ≤ suc k
     by true q p = lone_zero k f v p
     by false q p = first_digit k b f v p (eqb-false b zero_digit q) h
 
 -- within a limit of the grammar
-pub limited_length : (most k : ℕ) (f : List ℕ) (v : ℕ) → most < 10 ^ suc k → up_to most (numeral f) ≡ some v → length f ≤ suc k
+pub limited_length : (most k : ℕ) (f : List ℕ) (v : ℕ) → most < 10 ^ suc k → up_to most (numeral f) ≡ Some v → length f ≤ suc k
 unfolding up_to
 limited_length most k f v h e = by (numeral f) refl e
   where
-    by : (o : Option ℕ) → numeral f ≡ o → up_to most o ≡ some v → length f ≤ suc k
-    by none q p = absurd (some_none (sym p))
-    by (some u) q p =
-        let r = passed (leb u most) (some u) v p in
+    by : (o : Option ℕ) → numeral f ≡ o → up_to most o ≡ Some v → length f ≤ suc k
+    by None q p = absurd (some_none (sym p))
+    by (Some u) q p =
+        let r = passed (leb u most) (Some u) v p in
         let l = leb-true u most r.0 in
         numeral_length k f u q (omega arith)
 
@@ -102,43 +102,43 @@ size_length = 19
 abbrev total_length : ℕ
 total_length = suc size_length
 
-pub small-length : (f : List ℕ) (v : ℕ) → small_of f ≡ some v → length f ≤ small_length
+pub small-length : (f : List ℕ) (v : ℕ) → small_of f ≡ Some v → length f ≤ small_length
 unfolding small_of
 small-length f v e = limited_length greatest_small 4 f v (lit< tt) e
 
-pub account-length : (f : List ℕ) (v : ℕ) → account_of f ≡ some v → length f ≤ account_length
+pub account-length : (f : List ℕ) (v : ℕ) → account_of f ≡ Some v → length f ≤ account_length
 unfolding account_of
 account-length f v e = limited_length greatest_account 9 f v (lit< tt) e
 
-steps-length : (f : List ℕ) (v : ℕ) → steps_of f ≡ some v → length f ≤ steps_length
+steps-length : (f : List ℕ) (v : ℕ) → steps_of f ≡ Some v → length f ≤ steps_length
 unfolding steps_of from
 steps-length f v e = by (up_to greatest_steps (numeral f)) refl e
   where
-    by : (o : Option ℕ) → up_to greatest_steps (numeral f) ≡ o → from least_steps o ≡ some v → length f ≤ steps_length
-    by none q p = absurd (some_none (sym p))
-    by (some u) q p = limited_length greatest_steps 3 f u (lit< tt) q
+    by : (o : Option ℕ) → up_to greatest_steps (numeral f) ≡ o → from least_steps o ≡ Some v → length f ≤ steps_length
+    by None q p = absurd (some_none (sym p))
+    by (Some u) q p = limited_length greatest_steps 3 f u (lit< tt) q
 
-unsigned_length : (f : List ℕ) (o : Option ℕ) (z : ℤ) → numeral f ≡ o → in64 (plus o) ≡ some z → length f ≤ size_length
+unsigned_length : (f : List ℕ) (o : Option ℕ) (z : ℤ) → numeral f ≡ o → in64 (plus o) ≡ Some z → length f ≤ size_length
 unfolding plus in64
-unsigned_length f none z q p = absurd (some_none (sym p))
-unsigned_length f (some n) z q p =
-    let h = leb-true n greatest_total (passed (leb n greatest_total) (some (pos n)) z p).0 in
+unsigned_length f None z q p = absurd (some_none (sym p))
+unsigned_length f (Some n) z q p =
+    let h = leb-true n greatest_total (passed (leb n greatest_total) (Some (pos n)) z p).0 in
     numeral_length 18 f n q (omega arith)
 
-negative_length : (f : List ℕ) (o : Option ℕ) (z : ℤ) → numeral f ≡ o → in64 (minus o) ≡ some z → length f ≤ size_length
+negative_length : (f : List ℕ) (o : Option ℕ) (z : ℤ) → numeral f ≡ o → in64 (minus o) ≡ Some z → length f ≤ size_length
 unfolding minus in64
-negative_length f none z q p = absurd (some_none (sym p))
-negative_length f (some zero) z q p = absurd (some_none (sym p))
-negative_length f (some (suc n)) z q p =
-    let h = leb-true (suc n) least_total_size (passed (leb (suc n) least_total_size) (some (negsuc n)) z p).0 in
+negative_length f None z q p = absurd (some_none (sym p))
+negative_length f (Some zero) z q p = absurd (some_none (sym p))
+negative_length f (Some (suc n)) z q p =
+    let h = leb-true (suc n) least_total_size (passed (leb (suc n) least_total_size) (Some (negsuc n)) z p).0 in
     numeral_length 18 f (suc n) q (omega arith)
 
-pub total-length : (f : List ℕ) (z : ℤ) → total_of f ≡ some z → length f ≤ total_length
+pub total-length : (f : List ℕ) (z : ℤ) → total_of f ≡ Some z → length f ≤ total_length
 unfolding total_of signed_numeral when◌then◌else◌
 total-length [] z e = omega arith
 total-length (b ∷ f) z e = by (eqb b minus_sign) e
   where
-    by : (t : Bool) → in64 (when t then minus (numeral f) else plus (numeral (b ∷ f))) ≡ some z → suc (length f) ≤ total_length
+    by : (t : Bool) → in64 (when t then minus (numeral f) else plus (numeral (b ∷ f))) ≡ Some z → suc (length f) ≤ total_length
     by true p = let h = negative_length f (numeral f) z refl p in omega arith
     by false p = let h = unsigned_length (b ∷ f) (numeral (b ∷ f)) z refl p in omega arith
 
@@ -146,20 +146,20 @@ total-length (b ∷ f) z e = by (eqb b minus_sign) e
 
 -- where the fields are longer together than each may be, one of them is not read
 long2 : {A B : Type 0} (f : A → B → Command) (o : Option A) (p : Option B) (x y a b : ℕ)
-    → ((v : A) → o ≡ some v → x ≤ a) → ((v : B) → p ≡ some v → y ≤ b) → a + b < x + y → with2 f o p ≡ Unread
+    → ((v : A) → o ≡ Some v → x ≤ a) → ((v : B) → p ≡ Some v → y ≤ b) → a + b < x + y → with2 f o p ≡ Unread
 unfolding with2
-long2 f none p x y a b i j h = refl
-long2 f (some u) none x y a b i j h = refl
-long2 f (some u) (some v) x y a b i j h = let k = i u refl in let l = j v refl in absurd (omega arith)
+long2 f None p x y a b i j h = refl
+long2 f (Some u) None x y a b i j h = refl
+long2 f (Some u) (Some v) x y a b i j h = let k = i u refl in let l = j v refl in absurd (omega arith)
 
 long3 : {A B C : Type 0} (f : A → B → C → Command) (o : Option A) (p : Option B) (q : Option C) (x y z a b c : ℕ)
-    → ((v : A) → o ≡ some v → x ≤ a) → ((v : B) → p ≡ some v → y ≤ b) → ((v : C) → q ≡ some v → z ≤ c) → a + b + c < x + y + z → with3 f o
+    → ((v : A) → o ≡ Some v → x ≤ a) → ((v : B) → p ≡ Some v → y ≤ b) → ((v : C) → q ≡ Some v → z ≤ c) → a + b + c < x + y + z → with3 f o
     p q ≡ Unread
 unfolding with3
-long3 f none p q x y z a b c i j k h = refl
-long3 f (some u) none q x y z a b c i j k h = refl
-long3 f (some u) (some v) none x y z a b c i j k h = refl
-long3 f (some u) (some v) (some w) x y z a b c i j k h = let l = i u refl in let m = j v refl in let n = k w refl in absurd (omega arith)
+long3 f None p q x y z a b c i j k h = refl
+long3 f (Some u) None q x y z a b c i j k h = refl
+long3 f (Some u) (Some v) None x y z a b c i j k h = refl
+long3 f (Some u) (Some v) (Some w) x y z a b c i j k h = let l = i u refl in let m = j v refl in let n = k w refl in absurd (omega arith)
 
 -- a choice between commands that are all unread
 none_of : (t : Bool) {x y : Command} → x ≡ Unread → y ≡ Unread → when t then x else y ≡ Unread

@@ -1,7 +1,6 @@
 -- What a whole input is met with: bytes in, bytes out. 01, The driver.
 -- Rests on specs/Grammar, on what is printed and on the machine's script.
-use Rattle.std.specs.Prelude.{ℕ, List, [], ◌∷◌, ◌++◌}
-use Rattle.std.proofs.Math.Option.{Option, none, some}
+use Rattle.std.specs.Prelude.{ℕ, List, [], ◌∷◌, ◌++◌, Option, Some, None}
 use Rattle.machine.specs.Script.{Line, Memory, zeros, Response, driver, response_to}
 use Rattle.commands.specs.Commands.{line_of}
 use Rattle.lines.specs.Grammar.{lines_of, command_of}
@@ -14,8 +13,8 @@ pub record Told : Type 0 where
 
 -- "Any other line .. gives `unread`", and leaves the memory as it was
 unfoldable pub told : Memory → Option Line → Told
-told x none = record { memory = x; text = printed_unread }
-told x (some l) = let y : Response = response_to driver x l in record { memory = y.memory; text = printed y.reply }
+told x None = record { memory = x; text = printed_unread }
+told x (Some l) = let y : Response = response_to driver x l in record { memory = y.memory; text = printed y.reply }
 
 unfoldable pub session_from : Memory → List (List ℕ) → List ℕ
 session_from x [] = []

@@ -2,7 +2,7 @@
 use Prim.Native.Nat.{ℕ, ◌+◌}
 use mathlib.Core.Path.{◌≡◌, sym, ◌∙◌}
 use mathlib.Core.List.{List, ◌∷◌}
-use mathlib.Core.Option.{some}
+use Rattle.std.specs.Prelude.{Some}
 use Rattle.interface.specs.Numbers.{answer_word, answer_number}
 use Rattle.interface.specs.declared.Answer.{Answer}
 use Rattle.machine.specs.Choice.{when◌then◌else◌}
@@ -20,4 +20,4 @@ pub answer_first : (f : List ℕ) (a : Answer) (answers : List Answer) {rest r :
     → r ≡ as_number (number_among f (a ∷ answers))
 unfolding number_among as_number
 answer_first f a answers e g =
-    e ∙ rw g (sym (if_ap as_number (same_numbers f (answer_word a)) (some (answer_base + answer_number a)) (number_among f answers)))
+    e ∙ rw g (sym (if_ap as_number (same_numbers f (answer_word a)) (Some (answer_base + answer_number a)) (number_among f answers)))

@@ -2,7 +2,7 @@
 use Prim.Native.Nat.{ℕ, suc, ◌+◌, ◌≤◌, ◌<◌}
 use mathlib.Core.Path.{◌≡◌, refl, sym, ◌∙◌, ap}
 use mathlib.Core.List.{List, [], ◌∷◌, ◌++◌}
-use mathlib.Core.Option.{Option, none, some}
+use Rattle.std.specs.Prelude.{Option, Some, None}
 use native.Mathlib.Omega.{arith}
 use native.Mathlib.Nat.{zero-add}
 use native.Mathlib.Numerals.{add-one}
@@ -42,37 +42,37 @@ module _ (l : List ℕ) (n : ℕ) (e : n ≡ first_field l) (h : n < length l) w
 
 behind_nothing : (o : Option (List ℕ)) → o ≡ behind [] o
 unfolding behind
-behind_nothing none = refl
-behind_nothing (some ws) = refl
+behind_nothing None = refl
+behind_nothing (Some ws) = refl
 
 pub no_word_yet : (l : List ℕ) → operation_from [] 0 (fields_of l) ≡ operation_line l
 unfolding operation_line operation_in operation_from
 no_word_yet l = rw (zero-add (length (fields_of l)), ← behind_nothing (each_word 0 (fields_of l)))
 
 -- the last field before the eighth
-pub too_few : (ws : List ℕ) (k : ℕ) (l : List ℕ) → k < 7 → length l ≤ first_field l → none ≡ operation_from ws k (fields_of l)
+pub too_few : (ws : List ℕ) (k : ℕ) (l : List ℕ) → k < 7 → length l ≤ first_field l → None ≡ operation_from ws k (fields_of l)
 unfolding operation_from when◌then◌else◌
 too_few ws k l h j = rw (one-field l j, ne_eqb (k + 1) 8 (λ e. omega arith))
 
 -- a space behind the eighth
-pub too_many : (ws l : List ℕ) → first_field l < length l → none ≡ operation_from ws 7 (fields_of l)
+pub too_many : (ws l : List ℕ) → first_field l < length l → None ≡ operation_from ws 7 (fields_of l)
 unfolding operation_from when◌then◌else◌
 too_many ws l h =
     let rest = some_field (drop (first_field l + 1) l) in
     rw (more_fields l (first_field l) refl h, rest.2, ne_eqb (7 + suc (suc (length rest.1))) 8 (λ e. omega arith))
 
 module _ (ws : List ℕ) (k : ℕ) (f : List ℕ) (fs : List (List ℕ)) where
-  pub field_unread : field_word k f ≡ none → none ≡ operation_from ws k (f ∷ fs)
+  pub field_unread : field_word k f ≡ None → None ≡ operation_from ws k (f ∷ fs)
   unfolding operation_from each_word word_then behind
-  field_unread e = rw e (sym (if_same (eqb (k + suc (length fs)) 8) none))
+  field_unread e = rw e (sym (if_same (eqb (k + suc (length fs)) 8) None))
 
   -- the word of a field goes behind those read
-  moved : (w : ℕ) (o : Option (List ℕ)) → behind (ws ++ w ∷ []) o ≡ behind ws (word_then (some w) o)
+  moved : (w : ℕ) (o : Option (List ℕ)) → behind (ws ++ w ∷ []) o ≡ behind ws (word_then (Some w) o)
   unfolding behind word_then
-  moved w none = refl
-  moved w (some xs) = ap some (append_snoc ws w xs)
+  moved w None = refl
+  moved w (Some xs) = ap Some (append_snoc ws w xs)
 
-  pub field_read : (w : ℕ) → field_word k f ≡ some w → operation_from (ws ++ w ∷ []) (k + 1) fs ≡ operation_from ws k (f ∷ fs)
+  pub field_read : (w : ℕ) → field_word k f ≡ Some w → operation_from (ws ++ w ∷ []) (k + 1) fs ≡ operation_from ws k (f ∷ fs)
   unfolding operation_from each_word
   field_read w e =
       let n : k + 1 + length fs ≡ k + suc (length fs) = omega arith in
@@ -80,12 +80,12 @@ module _ (ws : List ℕ) (k : ℕ) (f : List ℕ) (fs : List (List ℕ)) where
 
 -- the next field of a line, from some byte on
 module _ (ws l : List ℕ) (from k n : ℕ) (e : n ≡ first_field (drop from l)) (h : n < length (drop from l)) where
-  pub next_unread : field_word k (take n (drop from l)) ≡ none → none ≡ operation_from ws k (fields_of (drop from l))
+  pub next_unread : field_word k (take n (drop from l)) ≡ None → None ≡ operation_from ws k (fields_of (drop from l))
   next_unread f =
       field_unread ws k (take n (drop from l)) (fields_of (drop (n + 1) (drop from l))) f
       ∙ ap (operation_from ws k) (sym (more_fields (drop from l) n e h))
 
-  pub next_read : (w : ℕ) → field_word k (take n (drop from l)) ≡ some w
+  pub next_read : (w : ℕ) → field_word k (take n (drop from l)) ≡ Some w
       → operation_from (ws ++ w ∷ []) (k + 1) (fields_of (drop (from + n + 1) l)) ≡ operation_from ws k (fields_of (drop from l))
   next_read w f =
       let m : from + n + 1 ≡ from + (n + 1) = omega arith in
@@ -94,10 +94,10 @@ module _ (ws l : List ℕ) (from k n : ℕ) (e : n ≡ first_field (drop from l)
       ∙ ap (operation_from ws k) (sym (more_fields (drop from l) n e h)))
 
 -- the eighth
-pub last_read : (ws l : List ℕ) (w : ℕ) → length l ≤ first_field l → field_word 7 l ≡ some w
-    → some (ws ++ w ∷ []) ≡ operation_from ws 7 (fields_of l)
+pub last_read : (ws l : List ℕ) (w : ℕ) → length l ≤ first_field l → field_word 7 l ≡ Some w
+    → Some (ws ++ w ∷ []) ≡ operation_from ws 7 (fields_of l)
 unfolding operation_from each_word word_then behind when◌then◌else◌
 last_read ws l w h e = rw (one-field l h, e)
 
-pub last_unread : (ws l : List ℕ) → length l ≤ first_field l → field_word 7 l ≡ none → none ≡ operation_from ws 7 (fields_of l)
+pub last_unread : (ws l : List ℕ) → length l ≤ first_field l → field_word 7 l ≡ None → None ≡ operation_from ws 7 (fields_of l)
 last_unread ws l h e = field_unread ws 7 l [] e ∙ ap (operation_from ws 7) (sym (one-field l h))

@@ -3,7 +3,7 @@
 use Prim.Native.Nat.{ℕ, suc, ◌+◌, ◌*◌, ◌≤◌, ◌<◌}
 use mathlib.Core.Path.{◌≡◌, refl, sym, ◌∙◌, ap}
 use mathlib.Core.List.{List, [], ◌∷◌}
-use mathlib.Core.Option.{Option, none, some}
+use Rattle.std.specs.Prelude.{Option, Some, None}
 use native.Mathlib.Omega.{arith}
 use lib.Dec.{eqb, lit<}
 use lib.IntN.{ℤ}
@@ -11,7 +11,8 @@ use lib.ListN.{length}
 use borrow.Author.Tests.{eqb-true}
 use Rattle.interface.specs.Numbers.{bytes, answer_word}
 use Rattle.interface.specs.declared.Answer.{Answer}
-use Rattle.interface.specs.declared.Answer.TheVariants.{Added, Replaced, Removed, Absent, Found, None, Posted, Crowded, Overrun}
+use Rattle.interface.specs.declared.Answer.TheVariants.{Added, Replaced, Removed, Absent, Found, Posted, Crowded, Overrun}
+use Rattle.interface.specs.declared.Answer.TheVariants as Answer
 use Rattle.machine.proofs.laws.Base.{if_elim}
 use Rattle.numerals.specs.declared.Pair.{Pair}
 use Rattle.numerals.specs.declared.Pair.TheVariants.{Values, Nothing}
@@ -33,14 +34,14 @@ use Rattle.loglines.specs.Holding.{longest_line}
 abbrev field_length : ℕ
 field_length = 20
 
-number_length : (f : List ℕ) (w : ℕ) → number64 f ≡ some w → length f ≤ field_length
+number_length : (f : List ℕ) (w : ℕ) → number64 f ≡ Some w → length f ≤ field_length
 unfolding number64
 number_length f w e = limited_length greatest_word 19 f w (lit< tt) e
 
-word_length : (f : List ℕ) (o : Option ℤ) (w : ℕ) → total_of f ≡ o → as_word o ≡ some w → length f ≤ field_length
+word_length : (f : List ℕ) (o : Option ℤ) (w : ℕ) → total_of f ≡ o → as_word o ≡ Some w → length f ≤ field_length
 unfolding as_word
-word_length f none w q e = absurd (some_none (sym e))
-word_length f (some t) w q e = total-length f t q
+word_length f None w q e = absurd (some_none (sym e))
+word_length f (Some t) w q e = total-length f t q
 
 answer_length : (a : Answer) → length (answer_word a) ≤ field_length
 unfolding answer_word bytes
@@ -49,22 +50,22 @@ answer_length Replaced = omega arith
 answer_length Removed = omega arith
 answer_length Absent = omega arith
 answer_length (Found t) = omega arith
-answer_length None = omega arith
+answer_length Answer.None = omega arith
 answer_length (Posted t) = omega arith
 answer_length Crowded = omega arith
 answer_length Overrun = omega arith
 
-named_length : (f : List ℕ) (answers : List Answer) (w : ℕ) → number_among f answers ≡ some w → length f ≤ field_length
+named_length : (f : List ℕ) (answers : List Answer) (w : ℕ) → number_among f answers ≡ Some w → length f ≤ field_length
 unfolding number_among
 named_length f [] w e = absurd (some_none (sym e))
 named_length f (a ∷ answers) w e =
-    if_elim (λ o. o ≡ some w → length f ≤ field_length) (same_numbers f (answer_word a)) _ _
+    if_elim (λ o. o ≡ Some w → length f ≤ field_length) (same_numbers f (answer_word a)) _ _
     (λ t _. let n = answer_length a in omega (arith, ap length (same-numbers f (answer_word a) t))) (λ _ d. named_length f answers w d) e
 
-field-length : (k : ℕ) (f : List ℕ) (w : ℕ) → field_word k f ≡ some w → length f ≤ field_length
+field-length : (k : ℕ) (f : List ℕ) (w : ℕ) → field_word k f ≡ Some w → length f ≤ field_length
 unfolding field_word answer_named
 field-length k f w e =
-    let P : Option ℕ → Type 0 = λ o. o ≡ some w → length f ≤ field_length in
+    let P : Option ℕ → Type 0 = λ o. o ≡ Some w → length f ≤ field_length in
     if_elim P (eqb k logged_account) _ _ (λ _ d. let n = account-length f w d in omega arith)
     (λ _. if_elim P (eqb k logged_total) _ _ (λ _. word_length f (total_of f) w refl)
     (λ _. if_elim P (eqb k logged_answer) _ _ (λ _. named_length f all_answers w)
@@ -73,23 +74,23 @@ field-length k f w e =
 -- ---- operations
 
 -- each field is read, and has a word
-each_read : (k : ℕ) (fs : List (List ℕ)) (ws : List ℕ) → each_word k fs ≡ some ws → (length ws ≡ length fs) × (span fs ≤ 21 * length fs)
+each_read : (k : ℕ) (fs : List (List ℕ)) (ws : List ℕ) → each_word k fs ≡ Some ws → (length ws ≡ length fs) × (span fs ≤ 21 * length fs)
 unfolding each_word word_then
 each_read k [] ws e = let q : [] ≡ ws = cc in (sym (ap length q), omega arith)
 each_read k (f ∷ fs) ws e = by (field_word k f) (each_word (suc k) fs) refl refl (each_read (suc k) fs) e
   where
     by : (o : Option ℕ) (p : Option (List ℕ)) → field_word k f ≡ o → each_word (suc k) fs ≡ p
-        → ((vs : List ℕ) → each_word (suc k) fs ≡ some vs → (length vs ≡ length fs) × (span fs ≤ 21 * length fs)) → word_then o p ≡ some ws
+        → ((vs : List ℕ) → each_word (suc k) fs ≡ Some vs → (length vs ≡ length fs) × (span fs ≤ 21 * length fs)) → word_then o p ≡ Some ws
         → (length ws ≡ suc (length fs)) × (suc (length f) + span fs ≤ 21 * suc (length fs))
-    by none p q r ih d = absurd (some_none (sym d))
-    by (some w) none q r ih d = absurd (some_none (sym d))
-    by (some w) (some vs) q r ih d =
+    by None p q r ih d = absurd (some_none (sym d))
+    by (Some w) None q r ih d = absurd (some_none (sym d))
+    by (Some w) (Some vs) q r ih d =
         let n = ih vs r in
         let m = field-length k f w q in
         let c : w ∷ vs ≡ ws = cc in
         (sym (ap length c) ∙ ap suc n.0, omega (arith, n.1))
 
-operation_read : (fs : List (List ℕ)) (ws : List ℕ) → operation_in fs ≡ some ws → (length ws ≡ operation_words) × (span fs ≤ suc longest_line)
+operation_read : (fs : List (List ℕ)) (ws : List ℕ) → operation_in fs ≡ Some ws → (length ws ≡ operation_words) × (span fs ≤ suc longest_line)
 unfolding operation_in
 operation_read fs ws e =
     let p = passed (eqb (length fs) operation_words) (each_word 0 fs) ws e in
@@ -97,17 +98,17 @@ operation_read fs ws e =
     let r = each_read 0 fs ws p.1 in
     (r.0 ∙ n, omega (arith, r.1))
 
-pub eight_words : (l ws : List ℕ) → operation_line l ≡ some ws → length ws ≡ operation_words
+pub eight_words : (l ws : List ℕ) → operation_line l ≡ Some ws → length ws ≡ operation_words
 unfolding operation_line
 eight_words l ws e = (operation_read (fields_of l) ws e).0
 
-pub no_operation : (l : List ℕ) → longest_line < length l → operation_line l ≡ none
+pub no_operation : (l : List ℕ) → longest_line < length l → operation_line l ≡ None
 unfolding operation_line
 no_operation l h = by (operation_in (fields_of l)) refl
   where
-    by : (o : Option (List ℕ)) → operation_in (fields_of l) ≡ o → o ≡ none
-    by none e = refl
-    by (some ws) e = let n = (operation_read (fields_of l) ws e).1 in absurd (omega (arith, span_of l))
+    by : (o : Option (List ℕ)) → operation_in (fields_of l) ≡ o → o ≡ None
+    by None e = refl
+    by (Some ws) e = let n = (operation_read (fields_of l) ws e).1 in absurd (omega (arith, span_of l))
 
 -- ---- settings
 

@@ -4,7 +4,7 @@ use Prim.Native.Nat.{ℕ, suc, ◌+◌, ◌*◌, ◌≤◌, ◌<◌}
 use mathlib.Core.Path.{◌≡◌, refl, sym, ◌∙◌, ap}
 use mathlib.Core.Bool.{Bool, true, false}
 use mathlib.Core.List.{List, [], ◌∷◌, ◌++◌}
-use mathlib.Core.Option.{Option, none, some}
+use Rattle.std.specs.Prelude.{Option, Some, None}
 use native.Mathlib.Omega.{arith}
 use native.Mathlib.Numerals.{add-one}
 use lib.Dec.{leb}
@@ -176,9 +176,9 @@ operations_read p n ws (l ∷ ls) r h =
         → read_so_far (all_lines q ls) ≡ kept_of (read_operations q.capacity q.depth (ws ++ xs) (suc (suc (suc n))) ls))
         → read_so_far (all_lines (with_operation p o) ls)
         ≡ kept_of (or_unread (suc (suc n)) o (λ xs. read_operations p.capacity p.depth (ws ++ xs) (suc (suc (suc n))) ls))
-    by none e ih = bad_read (with_operation p none) ls (suc n) refl line
-    by (some xs) e ih =
-        ih (with_operation p (some xs)) xs
+    by None e ih = bad_read (with_operation p None) ls (suc n) refl line
+    by (Some xs) e ih =
+        ih (with_operation p (Some xs)) xs
         (record { good = refl; lines = line; keeps = keeps_next p.kept ws xs r.keeps (eight_words l xs e) })
 
 pub lines_kept : (ls : List (List ℕ)) → length ls ≤ greatest_word → read_so_far (all_lines start ls) ≡ kept_of (read_lines ls)

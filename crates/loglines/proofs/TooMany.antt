@@ -4,7 +4,7 @@ use Prim.Native.Nat.{ℕ, ◌/◌, ◌≤◌, ◌<◌}
 use mathlib.Core.Path.{◌≡◌, refl, sym, ◌∙◌, ap}
 use mathlib.Core.Bool.{Bool, true, false, not}
 use mathlib.Core.List.{List, []}
-use mathlib.Core.Option.{some}
+use Rattle.std.specs.Prelude.{Some}
 use native.Mathlib.Omega.{arith}
 use lib.Dec.{leb}
 use lib.ListN.{length, take, replicate}
@@ -33,9 +33,9 @@ count_taken l n h = rw (length-take-le n l h)
 abbrev many_refusal : ℕ → ℕ → Refusal
 many_refusal b M = when not (in_range least_workers b M) then Settings else BadLog
 
-many_refused : (l : List ℕ) (b M places : ℕ) → greatest_operations < count_of l → refusal l b M places ≡ some (many_refusal b M)
+many_refused : (l : List ℕ) (b M places : ℕ) → greatest_operations < count_of l → refusal l b M places ≡ Some (many_refusal b M)
 unfolding refusal when◌then◌else◌
-many_refused l b M places h = rw (no_log l h) (sym (if_ap some (not (in_range least_workers b M)) Settings BadLog))
+many_refused l b M places h = rw (no_log l h) (sym (if_ap Some (not (in_range least_workers b M)) Settings BadLog))
 
 -- an accepted log has no more than 12
 pub accepted_few :

@@ -1,13 +1,13 @@
 -- What a field of an operation's line says, in the format of `judge` that docs/USING.md has: worker, kind, account,
 -- total, answer, answer-total, call, end; numbers as in `totals`, the answer by its word. Rests on crate commands, and
 -- on document 01's words.
-use Rattle.std.specs.Prelude.{ℕ, ◌+◌, List, [], ◌∷◌, eqb, ℤ, pos}
-use Rattle.std.proofs.Math.Option.{Option, none, some}
+use Rattle.std.specs.Prelude.{ℕ, ◌+◌, List, [], ◌∷◌, eqb, ℤ, pos, Option, Some, None}
 use Rattle.std.specs.Int.{w64}
 use Rattle.std.proofs.Common.{of_z}
 use Rattle.interface.specs.Numbers.{answer_word, answer_number}
 use Rattle.interface.specs.declared.Answer.{Answer}
-use Rattle.interface.specs.declared.Answer.TheVariants.{Added, Replaced, Removed, Absent, Found, None, Posted, Crowded, Overrun}
+use Rattle.interface.specs.declared.Answer.TheVariants.{Added, Replaced, Removed, Absent, Found, Posted, Crowded, Overrun}
+use Rattle.interface.specs.declared.Answer.TheVariants as Answer
 use Rattle.machine.specs.Choice.{when◌then◌else◌}
 use Rattle.numerals.specs.Numerals.{numeral, up_to}
 use Rattle.commands.specs.Commands.{account_of, total_of}
@@ -21,21 +21,21 @@ number64 f = up_to greatest_word (numeral f)
 
 -- a total as a word of two's complement
 unfoldable pub as_word : Option ℤ → Option ℕ
-as_word none = none
-as_word (some t) = some (of_z w64 t)
+as_word None = None
+as_word (Some t) = Some (of_z w64 t)
 
 -- ---- answers
 
 -- the number of the first of the answers whose word the field is
 unfoldable pub number_among : List ℕ → List Answer → Option ℕ
-number_among f [] = none
+number_among f [] = None
 number_among f (a ∷ answers) =
-    when same_numbers f (answer_word a) then some (answer_base + answer_number a) else number_among f answers
+    when same_numbers f (answer_word a) then Some (answer_base + answer_number a) else number_among f answers
 
 -- each answer once; neither word nor number depends on a total
 unfoldable pub all_answers : List Answer
 all_answers =
-    Added ∷ Replaced ∷ Removed ∷ Absent ∷ Found (pos 0) ∷ None ∷ Posted (pos 0) ∷ Crowded ∷ Overrun ∷ []
+    Added ∷ Replaced ∷ Removed ∷ Absent ∷ Found (pos 0) ∷ Answer.None ∷ Posted (pos 0) ∷ Crowded ∷ Overrun ∷ []
 
 -- an answer by its word
 unfoldable pub answer_named : List ℕ → Option ℕ

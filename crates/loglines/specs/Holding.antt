@@ -1,6 +1,5 @@
 -- What is held of an input so far, after each byte. Rests on specs/Lines, specs/Inputs and the structs of the source.
-use Rattle.std.specs.Prelude.{ℕ, ◌+◌, true, false, List, [], ◌∷◌, leb, ltb, eqb, take, set, replicate}
-use Rattle.std.proofs.Math.Option.{Option, none, some}
+use Rattle.std.specs.Prelude.{ℕ, ◌+◌, true, false, List, [], ◌∷◌, leb, ltb, eqb, take, set, replicate, Option, Some, None}
 use Rattle.machine.specs.Choice.{when◌then◌else◌}
 use Rattle.lists.specs.Parts.{overlay}
 use Rattle.numerals.specs.declared.Pair.{Pair}
@@ -65,9 +64,9 @@ with_settings p Nothing =
 with_settings p (Values b M) = record { lines = 1; bad = false; capacity = b; depth = M; kept = p.kept }
 
 unfoldable pub with_operation : Progress → Option (List ℕ) → Progress
-with_operation p none =
+with_operation p None =
     record { lines = next_line p.lines; bad = true; capacity = p.capacity; depth = p.depth; kept = p.kept }
-with_operation p (some ws) =
+with_operation p (Some ws) =
     record {
       lines = next_line p.lines;
       bad = false;

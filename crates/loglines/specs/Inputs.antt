@@ -1,8 +1,7 @@
 -- A whole input of `judge`, and what is printed for it, as docs/USING.md has them: the first line is `b M`, each
 -- further one an operation; the first line that is no such line is unread, counted from 1. Rests on specs/Lines,
 -- specs/Texts and on crate logs' verdicts.
-use Rattle.std.specs.Prelude.{ℕ, suc, List, [], ◌∷◌, ◌++◌, take, replicate}
-use Rattle.std.proofs.Math.Option.{Option, none, some}
+use Rattle.std.specs.Prelude.{ℕ, suc, List, [], ◌∷◌, ◌++◌, take, replicate, Option, Some, None}
 use Rattle.interface.specs.declared.Verdict.{Verdict}
 use Rattle.numerals.specs.declared.Pair.{Pair}
 use Rattle.numerals.specs.declared.Pair.TheVariants.{Values, Nothing}
@@ -21,8 +20,8 @@ pub data Input : Type 0 where
 
 -- an operation's words handed on, or the line that is none
 unfoldable pub or_unread : ℕ → Option (List ℕ) → (List ℕ → Input) → Input
-or_unread n none next = unread n
-or_unread n (some ws) next = next ws
+or_unread n None next = unread n
+or_unread n (Some ws) next = next ws
 
 -- the operations from line n on, after those of the words given
 unfoldable pub read_operations : ℕ → ℕ → List ℕ → ℕ → List (List ℕ) → Input

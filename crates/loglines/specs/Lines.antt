@@ -1,7 +1,6 @@
 -- What a line of a log means, in the format of `judge` that docs/USING.md has: `b M`, or an operation's eight fields,
 -- one space apart. Rests on specs/Fields and on crate lines' fields.
-use Rattle.std.specs.Prelude.{ℕ, suc, ◌+◌, List, [], ◌∷◌, ◌++◌, eqb, length}
-use Rattle.std.proofs.Math.Option.{Option, none, some}
+use Rattle.std.specs.Prelude.{ℕ, suc, ◌+◌, List, [], ◌∷◌, ◌++◌, eqb, length, Option, Some, None}
 use Rattle.machine.specs.Choice.{when◌then◌else◌}
 use Rattle.numerals.specs.Numerals.{as_pair}
 use Rattle.numerals.specs.declared.Pair.{Pair}
@@ -28,17 +27,17 @@ settings_line line = settings_of (fields_of line)
 
 -- a word and others behind it, where all are read
 unfoldable pub word_then : Option ℕ → Option (List ℕ) → Option (List ℕ)
-word_then none ws = none
-word_then (some w) none = none
-word_then (some w) (some ws) = some (w ∷ ws)
+word_then None ws = None
+word_then (Some w) None = None
+word_then (Some w) (Some ws) = Some (w ∷ ws)
 
 -- the words of fields, of which the first is that at k
 unfoldable pub each_word : ℕ → List (List ℕ) → Option (List ℕ)
-each_word k [] = some []
+each_word k [] = Some []
 each_word k (f ∷ fs) = word_then (field_word k f) (each_word (suc k) fs)
 
 unfoldable pub operation_in : List (List ℕ) → Option (List ℕ)
-operation_in fs = when eqb (length fs) operation_words then each_word 0 fs else none
+operation_in fs = when eqb (length fs) operation_words then each_word 0 fs else None
 
 -- `worker kind account total answer answer-total call end`: the eight words
 unfoldable pub operation_line : List ℕ → Option (List ℕ)
@@ -48,12 +47,12 @@ operation_line line = operation_in (fields_of line)
 
 -- words behind others, where they are read
 unfoldable pub behind : List ℕ → Option (List ℕ) → Option (List ℕ)
-behind ws none = none
-behind ws (some xs) = some (ws ++ xs)
+behind ws None = None
+behind ws (Some xs) = Some (ws ++ xs)
 
 -- an operation of the words of k fields and of the fields that are left
 unfoldable pub operation_from : List ℕ → ℕ → List (List ℕ) → Option (List ℕ)
-operation_from ws k fs = when eqb (k + length fs) operation_words then behind ws (each_word k fs) else none
+operation_from ws k fs = when eqb (k + length fs) operation_words then behind ws (each_word k fs) else None
 
 unfoldable pub row_of : Row → Option (List ℕ)
-row_of r = when r.read then some r.words else none
+row_of r = when r.read then Some r.words else None

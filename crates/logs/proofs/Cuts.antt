@@ -6,7 +6,7 @@ use mathlib.Core.Path.{◌≡◌, refl, sym, ap, ◌∙◌, subst}
 use mathlib.Core.Logic.{◌≢◌, ◌⊎◌, inl, inr, ⊎_elim, by_cases}
 use mathlib.Core.Bool.{Bool, true, false, not}
 use mathlib.Core.List.{List, [], ◌∷◌}
-use mathlib.Core.Option.{Option, none, some}
+use Rattle.std.specs.Prelude.{Option, Some, None}
 use borrow.Author.Tests.{not-true, ltb-true}
 use Rattle.machine.specs.Choice.{assign}
 use Rattle.machine.proofs.laws.Base.{no_both, none_some, below_suc, if_elim, and_parts}
@@ -32,22 +32,22 @@ module _ (T : Type 0) (n : ℕ) (fits : T → ℕ → Option T) (earlier : ℕ �
   abbrev LostFrom : (ℕ → Bool) → T → ℕ → Type 0
   LostFrom left t i = (o : List ℕ) → Order left t (i ∷ o) → ⊥
 
-  none_of : {A : Type 0} (v : Option A) → ((x : A) → v ≡ some x → ⊥) → v ≡ none
-  none_of none h = refl
-  none_of (some x) h = absurd (h x refl)
+  none_of : {A : Type 0} (v : Option A) → ((x : A) → v ≡ Some x → ⊥) → v ≡ None
+  none_of None h = refl
+  none_of (Some x) h = absurd (h x refl)
 
-  lost_none : (m : ℕ) (left : ℕ → Bool) (t : T) → count_left n left ≡ m → Lost left t → search T n fits earlier m left t ≡ none
+  lost_none : (m : ℕ) (left : ℕ → Bool) (t : T) → count_left n left ≡ m → Lost left t → search T n fits earlier m left t ≡ None
   lost_none m left t z lost =
       none_of (search T n fits earlier m left t) (λ o e. lost o (sound_at T n fits earlier m left t o z e))
 
-  none_lost : (m : ℕ) (left : ℕ → Bool) (t : T) → count_left n left ≡ m → search T n fits earlier m left t ≡ none → Lost left t
+  none_lost : (m : ℕ) (left : ℕ → Bool) (t : T) → count_left n left ≡ m → search T n fits earlier m left t ≡ None → Lost left t
   none_lost m left t z e o c = none_some e (first_at T n fits earlier m left t o z c).1.0
 
-  closed_lost : (left : ℕ → Bool) (t : T) (i : ℕ) → Opened left t i ≡ none → LostFrom left t i
+  closed_lost : (left : ℕ → Bool) (t : T) (i : ℕ) → Opened left t i ≡ None → LostFrom left t i
   closed_lost left t i w o c =
       none_some w (opened_is T n fits earlier left t i c.1.1.1.0 c.1.0 c.1.1.0 c.1.1.1.1.0)
 
-  opened_lost : (left : ℕ → Bool) (t : T) (i : ℕ) (u : T) → Opened left t i ≡ some u
+  opened_lost : (left : ℕ → Bool) (t : T) (i : ℕ) (u : T) → Opened left t i ≡ Some u
       → Lost (assign left i false) u → LostFrom left t i
   opened_lost left t i u w lost o c =
       let f = (opened_parts T n fits earlier left t i u w).1.1 in
@@ -57,7 +57,7 @@ module _ (T : Type 0) (n : ℕ) (fits : T → ℕ → Option T) (earlier : ℕ �
 
   -- ---- for cut 2: an operation that leaves every table as it is may come first
 
-  to_front : (i : ℕ) → i < n → ((t u : T) → fits t i ≡ some u → u ≡ t) → (o : List ℕ) (left : ℕ → Bool) (t : T) → left i ≡ true
+  to_front : (i : ℕ) → i < n → ((t u : T) → fits t i ≡ Some u → u ≡ t) → (o : List ℕ) (left : ℕ → Bool) (t : T) → left i ≡ true
       → Order left t o → (p : List ℕ) × Order (assign left i false) t p
   to_front i l idle [] left t e c = absurd (no_both e (c i l))
   to_front i l idle (j ∷ o) left t e c =
@@ -87,7 +87,7 @@ module _ (T : Type 0) (n : ℕ) (fits : T → ℕ → Option T) (earlier : ℕ �
   -- ---- for cut 1: two operations exchanged
 
   exchange : (left : ℕ → Bool) (t t₁ t₂ : T) (i j : ℕ) (o : List ℕ) → i < n → left i ≡ true → IsReady left i → j < n
-      → assign left i false j ≡ true → IsReady (assign left i false) j → earlier i j ≡ false → fits t j ≡ some t₁ → fits t₁ i ≡ some t₂
+      → assign left i false j ≡ true → IsReady (assign left i false) j → earlier i j ≡ false → fits t j ≡ Some t₁ → fits t₁ i ≡ Some t₂
       → Order (assign (assign left i false) j false) t₂ o → Order left t (j ∷ i ∷ o)
   exchange left t t₁ t₂ i j o li ei ri lj ej rj x f g c =
       (lj, (left_before left i j ej, (first, (t₁, (f, (li, (i_left, (second, (t₂, (g, rest))))))))))
@@ -105,47 +105,47 @@ module _ (T : Type 0) (n : ℕ) (fits : T → ℕ → Option T) (earlier : ℕ �
       rest : Order (assign (assign left j false) i false) t₂ o
       rest = subst (λ h. Order h t₂ o) (taken_both left i j) c
 
-  module _ (still : ℕ → Bool) (same : T → T → Bool) (idle : (i : ℕ) (t u : T) → still i ≡ true → fits t i ≡ some u → u ≡ t)
+  module _ (still : ℕ → Bool) (same : T → T → Bool) (idle : (i : ℕ) (t u : T) → still i ≡ true → fits t i ≡ Some u → u ≡ t)
       (equal : (t u : T) → same t u ≡ true → t ≡ u) where
     abbrev Exchanged : T → ℕ → T → ℕ → Type 0
     Exchanged t₀ last u i = exchanged T n fits earlier still same t₀ last u i ≡ true
 
     -- the operation at i, which leaves u, unless it could be exchanged
     abbrev Cut1 : T → ℕ → ℕ → T → Option T
-    Cut1 t₀ last i u = unless_exchanged T n fits earlier still same t₀ last i (some u)
+    Cut1 t₀ last i u = unless_exchanged T n fits earlier still same t₀ last i (Some u)
 
     exchanged_parts : (t₀ : T) (last : ℕ) (u : T) (i : ℕ) → Exchanged t₀ last u i
-        → (earlier last i ≡ false) × ((t₁ : T) × ((fits t₀ i ≡ some t₁) × (fits t₁ last ≡ some u)))
+        → (earlier last i ≡ false) × ((t₁ : T) × ((fits t₀ i ≡ Some t₁) × (fits t₁ last ≡ Some u)))
     unfolding exchanged exchanged_from is_same
     exchanged_parts t₀ last u i e = (not-true (earlier last i) z.0, one (fits t₀ i) refl z.1)
       where
         z : (not (earlier last i) ≡ true) × (exchanged_from T n fits earlier still same last u (fits t₀ i) ≡ true)
         z = and_parts (not (earlier last i)) (exchanged_from T n fits earlier still same last u (fits t₀ i)) e
 
-        two : (t₁ : T) (v : Option T) → fits t₁ last ≡ v → is_same T n fits earlier still same u v ≡ true → fits t₁ last ≡ some u
-        two t₁ none w e = absurd (no_both e refl)
-        two t₁ (some x) w e = w ∙ ap some (sym (equal u x e))
+        two : (t₁ : T) (v : Option T) → fits t₁ last ≡ v → is_same T n fits earlier still same u v ≡ true → fits t₁ last ≡ Some u
+        two t₁ None w e = absurd (no_both e refl)
+        two t₁ (Some x) w e = w ∙ ap Some (sym (equal u x e))
 
         one : (v : Option T) → fits t₀ i ≡ v → exchanged_from T n fits earlier still same last u v ≡ true
-            → (t₁ : T) × ((fits t₀ i ≡ some t₁) × (fits t₁ last ≡ some u))
-        one none w e = absurd (no_both e refl)
-        one (some t₁) w e = (t₁, (w, two t₁ (fits t₁ last) refl e))
+            → (t₁ : T) × ((fits t₀ i ≡ Some t₁) × (fits t₁ last ≡ Some u))
+        one None w e = absurd (no_both e refl)
+        one (Some t₁) w e = (t₁, (w, two t₁ (fits t₁ last) refl e))
 
     -- cut 1 leaves out lower places only
     cut_parts : (t₀ : T) (last i : ℕ) (u : T)
-        → (Cut1 t₀ last i u ≡ some u) ⊎ ((Cut1 t₀ last i u ≡ none) × ((i < last) × Exchanged t₀ last u i))
+        → (Cut1 t₀ last i u ≡ Some u) ⊎ ((Cut1 t₀ last i u ≡ None) × ((i < last) × Exchanged t₀ last u i))
     unfolding unless_exchanged
     cut_parts t₀ last i u =
-        if_elim (λ (x : Option T). (x ≡ some u) ⊎ ((x ≡ none) × ((i < last) × Exchanged t₀ last u i))) _ none (some u)
+        if_elim (λ (x : Option T). (x ≡ Some u) ⊎ ((x ≡ None) × ((i < last) × Exchanged t₀ last u i))) _ None (Some u)
         (λ e. let z = and_parts _ _ e in inr (refl, (ltb-true i last z.0, z.1))) (λ e. inl refl)
 
     -- the invariant: what cut 1 leaves out at a node leads to no order
     abbrev Passed : T → ℕ → (ℕ → Bool) → T → Type 0
-    Passed t₀ last left t = (i : ℕ) → i < last → i < n → (u : T) → Opened left t i ≡ some u → Exchanged t₀ last u i
+    Passed t₀ last left t = (i : ℕ) → i < last → i < n → (u : T) → Opened left t i ≡ Some u → Exchanged t₀ last u i
         → Lost (assign left i false) u
 
     passed_child : (left : ℕ → Bool) (t : T) (i : ℕ) → i < n → ((j : ℕ) → j < i → LostFrom left t j) → (u : T)
-        → Opened left t i ≡ some u → Passed t i (assign left i false) u
+        → Opened left t i ≡ Some u → Passed t i (assign left i false) u
     passed_child left t i l tried u w j below lj t₂ v x o c =
         let z = opened_parts T n fits earlier left t i u w in
         let y = opened_parts T n fits earlier (assign left i false) u j t₂ v in
@@ -169,17 +169,17 @@ module _ (T : Type 0) (n : ℕ) (fits : T → ℕ → Option T) (earlier : ℕ �
       one_less i l e = let k = left_less n left i l e in omega arith
 
       -- cut 2: no order at all
-      none_later : (k i : ℕ) (u : T) → suc i + k ≡ n → Opened left t i ≡ some u → Lost (assign left i false) u
-          → still i ≡ true → Later k (suc i) ≡ none
+      none_later : (k i : ℕ) (u : T) → suc i + k ≡ n → Opened left t i ≡ Some u → Lost (assign left i false) u
+          → still i ≡ true → Later k (suc i) ≡ None
       none_later k i u a w lost s = none_of (Later k (suc i)) (λ p e. let f = front p (order p e) in lost_here f.0 f.1)
         where
-          parts : (left i ≡ true) × (IsReady left i × (fits t i ≡ some u))
+          parts : (left i ≡ true) × (IsReady left i × (fits t i ≡ Some u))
           parts = opened_parts T n fits earlier left t i u w
 
           lost_here : Lost (assign left i false) t
           lost_here = subst (Lost (assign left i false)) (idle i t u s parts.1.1) lost
 
-          order : (p : List ℕ) → Later k (suc i) ≡ some p → Order left t p
+          order : (p : List ℕ) → Later k (suc i) ≡ Some p → Order left t p
           order =
               tries_order T n fits earlier (Plain m) left t
               (λ j v o l e. sound_at T n fits earlier m (assign left j false) v o (one_less j l e)) k (suc i) a
@@ -188,15 +188,15 @@ module _ (T : Type 0) (n : ℕ) (fits : T → ℕ → Option T) (earlier : ℕ �
           front p = to_front i (omega arith) (λ x y. idle i x y s) p left t parts.0
 
       -- a place that is tried, with what its branch finds
-      after_branch : (k i : ℕ) (u : T) → suc i + k ≡ n → Opened left t i ≡ some u → (cut_later : Option (List ℕ))
+      after_branch : (k i : ℕ) (u : T) → suc i + k ≡ n → Opened left t i ≡ Some u → (cut_later : Option (List ℕ))
           → (LostFrom left t i → cut_later ≡ Later k (suc i)) → (v : Option (List ℕ)) → Plain m (assign left i false) u ≡ v
           → unless_still T n fits earlier still same i v cut_later ≡ or_else (starting i v) (Later k (suc i))
       unfolding unless_still or_else starting
-      after_branch k i u a w cut_later later (some o) e = refl
-      after_branch k i u a w cut_later later none e =
+      after_branch k i u a w cut_later later (Some o) e = refl
+      after_branch k i u a w cut_later later None e =
           let c = one_less i (omega arith) (opened_parts T n fits earlier left t i u w).0 in
           let lost = none_lost m (assign left i false) u c e in
-          if_elim (λ x. x ≡ Later k (suc i)) (still i) none cut_later (λ s. sym (none_later k i u a w lost s))
+          if_elim (λ x. x ≡ Later k (suc i)) (still i) None cut_later (λ s. sym (none_later k i u a w lost s))
           (λ s. later (opened_lost left t i u w lost))
 
       module _ (t₀ : T) (last : ℕ) (passed : Passed t₀ last left t)
@@ -217,18 +217,18 @@ module _ (T : Type 0) (n : ℕ) (fits : T → ℕ → Option T) (earlier : ℕ �
             → CutBegun k i (unless_exchanged T n fits earlier still same t₀ last i v)
             ≡ or_else (begun T n fits earlier (Plain m) left i v) (Later k (suc i))
         unfolding cut_begun unless_exchanged or_else begun starting
-        at_place k i a tried later none w = later (closed_lost left t i w)
-        at_place k i a tried later (some u) w = ⊎_elim taken out (cut_parts t₀ last i u)
+        at_place k i a tried later None w = later (closed_lost left t i w)
+        at_place k i a tried later (Some u) w = ⊎_elim taken out (cut_parts t₀ last i u)
           where
             count_child : count_left n (assign left i false) ≡ m
             count_child = one_less i (omega arith) (opened_parts T n fits earlier left t i u w).0
 
-            out : (Cut1 t₀ last i u ≡ none) × ((i < last) × Exchanged t₀ last u i) → CutBegun k i (Cut1 t₀ last i u) ≡ From k i u
+            out : (Cut1 t₀ last i u ≡ None) × ((i < last) × Exchanged t₀ last u i) → CutBegun k i (Cut1 t₀ last i u) ≡ From k i u
             out (e, (below, x)) =
                 let lost = passed i below (omega arith) u w x in
                 rw (e, lost_none m (assign left i false) u count_child lost) (later (opened_lost left t i u w lost))
 
-            taken : Cut1 t₀ last i u ≡ some u → CutBegun k i (Cut1 t₀ last i u) ≡ From k i u
+            taken : Cut1 t₀ last i u ≡ Some u → CutBegun k i (Cut1 t₀ last i u) ≡ From k i u
             taken e =
                 rw (e, child i u count_child (passed_child left t i (omega arith) tried u w))
                 (after_branch k i u a w (CutLater k (suc i)) later (Plain m (assign left i false) u) refl)

@@ -6,7 +6,8 @@ use mathlib.Core.Path.{◌≡◌, refl, sym, ap, ◌∙◌, subst}
 use mathlib.Core.Logic.{inl, inr, by_cases}
 use mathlib.Core.Bool.{Bool, true, false}
 use mathlib.Core.List.{List, [], ◌∷◌}
-use mathlib.Core.Option.{some, some-injective}
+use Rattle.std.specs.Prelude.{Some}
+use Rattle.std.proofs.lemmas.Option.{same_Some}
 use lib.Dec.{leb}
 use lib.ListN.{length}
 use borrow.Author.Tests.{leb-true, ltb-true, lt-ltb, le-ltb}
@@ -158,25 +159,25 @@ one_first b M log o p x y = both_first o p (x.before_others p y.explains) (y.bef
 
 module _ (b M : ℕ) (log : Log) (good : is_log log ≡ true) where
   -- where an order explains the log, the search finds one that is not after it
-  found_by : (o : List ℕ) → Explains b M log o → (p : List ℕ) × ((order_of b M log ≡ some p) × NotAfter p o)
+  found_by : (o : List ℕ) → Explains b M log o → (p : List ℕ) × ((order_of b M log ≡ Some p) × NotAfter p o)
   unfolding order_of
   found_by o x =
       first_at Table greatest_operations (served_at b M log) (earlier_in log) log.count (places_of log) [] o (count b M log good)
       (explains_order b M log good o x)
 
-  found_explains : (o : List ℕ) → order_of b M log ≡ some o → Explains b M log o
+  found_explains : (o : List ℕ) → order_of b M log ≡ Some o → Explains b M log o
   unfolding order_of
   found_explains o e =
       order_explains b M log good o
       (sound_at Table greatest_operations (served_at b M log) (earlier_in log) log.count (places_of log) [] o (count b M log good) e)
 
-  found_first : (o : List ℕ) → order_of b M log ≡ some o → First b M log o
+  found_first : (o : List ℕ) → order_of b M log ≡ Some o → First b M log o
   found_first o e =
       record {
         explains = found_explains o e;
         before_others = λ p x.
             let f = found_by p x in
-            subst (λ q. NotAfter q p) (some-injective f.0 o (sym f.1.0 ∙ e)) f.1.1;
+            subst (λ q. NotAfter q p) (same_Some f.0 o (sym f.1.0 ∙ e)) f.1.1;
       }
 
 pub all_first : AllFirst
@@ -185,6 +186,6 @@ all_first b M log good =
       found_first = found_first b M log good;
       first_found = λ o x.
           let f = found_by b M log good o x.explains in
-          f.1.0 ∙ ap some (one_first b M log f.0 o (found_first b M log good f.0 f.1.0) x);
+          f.1.0 ∙ ap Some (one_first b M log f.0 o (found_first b M log good f.0 f.1.0) x);
       none_explains = λ e o x. none_some e (found_by b M log good o x).1.0;
     }

@@ -4,7 +4,7 @@ use native.Mathlib.Omega.{arith}
 use mathlib.Core.Path.{◌≡◌, refl, sym, ap, ◌∙◌, subst}
 use mathlib.Core.Bool.{Bool, true, false, not}
 use mathlib.Core.List.{List}
-use mathlib.Core.Option.{Option, none, some}
+use Rattle.std.specs.Prelude.{Option, Some, None}
 use lib.Dec.{ltb, eqb}
 use lib.ListN.{length}
 use borrow.Author.Tests.{eqb-true, leb-true}
@@ -40,21 +40,21 @@ module _ (l : List ℕ) where
 
 module _ (l : List ℕ) (b M : ℕ) where
   -- a log that passes the checks is one, and its places have room
-  pub passes : (places : ℕ) → refusal l b M places ≡ none → (are_log l ≡ true) × (ltb places (count_of l) ≡ false)
+  pub passes : (places : ℕ) → refusal l b M places ≡ None → (are_log l ≡ true) × (ltb places (count_of l) ≡ false)
   unfolding refusal when◌then◌else◌
   passes places = go (in_range least_workers b M) (are_log l) (ltb places (count_of l))
     where
       go :
           (r a w : Bool)
-          → (when not r then some Refusal.Settings else when not a then some Refusal.BadLog else when w then some Refusal.Narrow else none)
-          ≡ none → (a ≡ true) × (w ≡ false)
+          → (when not r then Some Refusal.Settings else when not a then Some Refusal.BadLog else when w then Some Refusal.Narrow else None)
+          ≡ None → (a ≡ true) × (w ≡ false)
       go false a w e = absurd (none_some e refl)
       go true false w e = absurd (none_some e refl)
       go true true true e = absurd (none_some e refl)
       go true true false e = (refl, refl)
 
   module _ (before : List ℕ) where
-    pub is-log : refusal l b M (length before) ≡ none → is_log (log_of l) ≡ true
+    pub is-log : refusal l b M (length before) ≡ None → is_log (log_of l) ≡ true
     is-log e = (log_parts l (passes (length before) e).0).1
 
     abbrev Done : List ℕ × Verdict → Type 0
@@ -64,20 +64,20 @@ module _ (l : List ℕ) (b M : ℕ) where
     unfolding check_log_words refused_or verdict_on
     judged = by (refusal l b M (length before)) refl
       where
-        on : refusal l b M (length before) ≡ none → (f : Option (List ℕ)) → order_of b M (log_of l) ≡ f → Done (verdict_on before f)
-        on e none f = (e, ((all_first b M (log_of l) (is-log e)).none_explains f, refl))
-        on e (some o) f = (e, (o, ((all_first b M (log_of l) (is-log e)).found_first o f, refl)))
+        on : refusal l b M (length before) ≡ None → (f : Option (List ℕ)) → order_of b M (log_of l) ≡ f → Done (verdict_on before f)
+        on e None f = (e, ((all_first b M (log_of l) (is-log e)).none_explains f, refl))
+        on e (Some o) f = (e, (o, ((all_first b M (log_of l) (is-log e)).found_first o f, refl)))
 
         by : (r : Option Refusal) → refusal l b M (length before) ≡ r → Done (refused_or before r (verdict_on before (order_of b M (log_of l))))
-        by none e = on e (order_of b M (log_of l)) refl
-        by (some r) e = (e, refl)
+        by None e = on e (order_of b M (log_of l)) refl
+        by (Some r) e = (e, refl)
 
     -- the answer to a log that is not refused, and to one that is
-    pub unrefused : refusal l b M (length before) ≡ none → check_log_words l b M before ≡ verdict_on before (order_of b M (log_of l))
+    pub unrefused : refusal l b M (length before) ≡ None → check_log_words l b M before ≡ verdict_on before (order_of b M (log_of l))
     unfolding check_log_words refused_or
     unrefused e = rw e
 
-    pub refused : (r : Refusal) → refusal l b M (length before) ≡ some r → check_log_words l b M before ≡ (before, Refused r)
+    pub refused : (r : Refusal) → refusal l b M (length before) ≡ Some r → check_log_words l b M before ≡ (before, Refused r)
     unfolding check_log_words refused_or
     refused r e = rw e
 
@@ -92,9 +92,9 @@ module _ (l : List ℕ) (b M : ℕ) where
         sym (unrefused h.0 ∙ ap (verdict_on before) (none_found (order_of b M (log_of l)) refl)
         ∙ ap (λ (x : List ℕ). (x, No)) (sym h.1.1))
       where
-        none_found : (f : Option (List ℕ)) → order_of b M (log_of l) ≡ f → f ≡ none
-        none_found none e = refl
-        none_found (some o) e = absurd (h.1.0 o ((all_first b M (log_of l) (is-log h.0)).found_first o e).explains)
+        none_found : (f : Option (List ℕ)) → order_of b M (log_of l) ≡ f → f ≡ None
+        none_found None e = refl
+        none_found (Some o) e = absurd (h.1.0 o ((all_first b M (log_of l) (is-log h.0)).found_first o e).explains)
 
 pub all_judged : AllJudged
 all_judged =

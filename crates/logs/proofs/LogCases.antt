@@ -7,11 +7,12 @@ use mathlib.Core.Path.{◌≡◌, refl}
 use mathlib.Core.Logic.{◌≢◌, inl, inr, ⊎_elim, by_cases}
 use mathlib.Core.Bool.{true}
 use mathlib.Core.List.{List, [], ◌∷◌}
-use mathlib.Core.Option.{none, some}
+use Rattle.std.specs.Prelude.{Some, None}
 use lib.IntN.{ℤ, pos}
 use lib.ListN.{length, get_or}
 use Rattle.interface.specs.Numbers.{kind_insert, kind_lookup, answer_number, answer_total}
-use Rattle.interface.specs.declared.Answer.TheVariants.{Added, Found, None, Crowded}
+use Rattle.interface.specs.declared.Answer.TheVariants.{Added, Found, Crowded}
+use Rattle.interface.specs.declared.Answer.TheVariants as Answer
 use Rattle.machine.specs.Computing.{computing}
 use Rattle.report.specs.Report.{answer_base}
 use Rattle.logs.specs.Log.{Logged, Log, all, is_operation, apart, precedes, in_turn, is_log}
@@ -47,43 +48,43 @@ abbrev found : ℕ
 found = answer_base + answer_number (Found (pos 0))
 
 abbrev missing : ℕ
-missing = answer_base + answer_number None
+missing = answer_base + answer_number Answer.None
 
 abbrev crowded : ℕ
 crowded = answer_base + answer_number Crowded
 
 -- ---- with b 4, M 2
 
-pub empty_log : order_of 4 2 (logged []) ≡ some []
+pub empty_log : order_of 4 2 (logged []) ≡ Some []
 unfolding judging
 empty_log = refl
 
 -- a lookup finds the total of an insert that it overlaps
-pub found_meanwhile : order_of 4 2 (logged (insert 0 7 (pos 50) added 0 2 ∷ lookup 1 7 found (pos 50) 1 3 ∷ [])) ≡ some (0 ∷ 1 ∷ [])
+pub found_meanwhile : order_of 4 2 (logged (insert 0 7 (pos 50) added 0 2 ∷ lookup 1 7 found (pos 50) 1 3 ∷ [])) ≡ Some (0 ∷ 1 ∷ [])
 unfolding judging
 found_meanwhile = refl
 
 -- also listed the other way round
-pub found_first : order_of 4 2 (logged (lookup 1 7 found (pos 50) 1 3 ∷ insert 0 7 (pos 50) added 0 2 ∷ [])) ≡ some (1 ∷ 0 ∷ [])
+pub found_first : order_of 4 2 (logged (lookup 1 7 found (pos 50) 1 3 ∷ insert 0 7 (pos 50) added 0 2 ∷ [])) ≡ Some (1 ∷ 0 ∷ [])
 unfolding judging
 found_first = refl
 
 -- a lookup that found another total
-pub wrong_total : order_of 4 2 (logged (insert 0 7 (pos 50) added 0 2 ∷ lookup 1 7 found (pos 51) 1 3 ∷ [])) ≡ none
+pub wrong_total : order_of 4 2 (logged (insert 0 7 (pos 50) added 0 2 ∷ lookup 1 7 found (pos 51) 1 3 ∷ [])) ≡ None
 unfolding judging
 wrong_total = refl
 
 -- a lookup that found it, answered before the insert's call
-pub found_too_early : order_of 4 2 (logged (insert 0 7 (pos 50) added 2 3 ∷ lookup 1 7 found (pos 50) 0 1 ∷ [])) ≡ none
+pub found_too_early : order_of 4 2 (logged (insert 0 7 (pos 50) added 2 3 ∷ lookup 1 7 found (pos 50) 0 1 ∷ [])) ≡ None
 unfolding judging
 found_too_early = refl
 
 -- a lookup that missed it, called after the insert was answered
-pub missed_too_late : order_of 4 2 (logged (insert 0 7 (pos 50) added 0 1 ∷ lookup 1 7 missing (pos 0) 2 3 ∷ [])) ≡ none
+pub missed_too_late : order_of 4 2 (logged (insert 0 7 (pos 50) added 0 1 ∷ lookup 1 7 missing (pos 0) 2 3 ∷ [])) ≡ None
 unfolding judging
 missed_too_late = refl
 
-pub added_twice : order_of 4 2 (logged (insert 0 7 (pos 50) added 0 2 ∷ insert 1 7 (pos 60) added 1 3 ∷ [])) ≡ none
+pub added_twice : order_of 4 2 (logged (insert 0 7 (pos 50) added 0 2 ∷ insert 1 7 (pos 60) added 1 3 ∷ [])) ≡ None
 unfolding judging
 added_twice = refl
 
@@ -92,7 +93,7 @@ added_twice = refl
 pub crowded_last :
     order_of 2 0
     (logged (insert 0 1 (pos 10) crowded 0 3 ∷ insert 1 2 (pos 20) added 1 4 ∷ insert 2 3 (pos 30) added 2 5 ∷ []))
-    ≡ some (1 ∷ 2 ∷ 0 ∷ [])
+    ≡ Some (1 ∷ 2 ∷ 0 ∷ [])
 unfolding judging
 crowded_last = refl
 
@@ -101,7 +102,7 @@ crowded_last = refl
 abbrev two_lookups : Log
 two_lookups = logged (lookup 0 7 missing (pos 0) 0 2 ∷ lookup 1 7 missing (pos 0) 1 3 ∷ [])
 
-pub first_of_two : order_of 4 2 two_lookups ≡ some (0 ∷ 1 ∷ [])
+pub first_of_two : order_of 4 2 two_lookups ≡ Some (0 ∷ 1 ∷ [])
 unfolding judging
 first_of_two = refl
 

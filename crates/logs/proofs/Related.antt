@@ -3,7 +3,7 @@ use Prim.Native.Nat.{ℕ, zero, suc}
 use mathlib.Core.Path.{◌≡◌, refl, ap}
 use mathlib.Core.Bool.{Bool, true, false}
 use mathlib.Core.List.{List}
-use mathlib.Core.Option.{Option, none, some}
+use Rattle.std.specs.Prelude.{Option, Some, None}
 use Rattle.machine.specs.Choice.{◌and◌, assign}
 use Rattle.machine.proofs.laws.Base.{if_elim₂, and_parts}
 use Rattle.logs.specs.Search.{starting, ready, begun, opened, tries, search}
@@ -11,10 +11,10 @@ use Rattle.logs.proofs.Left.{left_before}
 
 -- neither fits, or both fit and leave related tables
 abbrev pub SameFit : {A B : Type 0} → (A → B → Type 0) → Option A → Option B → Type 0
-SameFit R none none = Unit {0}
-SameFit R none (some y) = ⊥
-SameFit R (some x) none = ⊥
-SameFit R (some x) (some y) = R x y
+SameFit R None None = Unit {0}
+SameFit R None (Some y) = ⊥
+SameFit R (Some x) None = ⊥
+SameFit R (Some x) (Some y) = R x y
 
 module _ (T T' : Type 0) (n : ℕ) (fits : T → ℕ → Option T) (fits' : T' → ℕ → Option T') (earlier : ℕ → ℕ → Bool)
     (R : T → T' → Type 0) (P : ℕ → Bool)
@@ -27,7 +27,7 @@ module _ (T T' : Type 0) (n : ℕ) (fits : T → ℕ → Option T) (fits' : T' �
       → SameFit R (opened T n fits earlier left t i) (opened T' n fits' earlier left t' i)
   unfolding opened ready
   opened_alike left within t t' i r =
-      if_elim₂ (SameFit R) (left i and ready T n fits earlier left i) (fits t i) none (fits' t' i) none
+      if_elim₂ (SameFit R) (left i and ready T n fits earlier left i) (fits t i) None (fits' t' i) None
       (λ e. alike t t' i r (within i (and_parts (left i) (ready T n fits earlier left i) e).0)) (λ e. tt)
 
   module _ (next : (ℕ → Bool) → T → Option (List ℕ)) (next' : (ℕ → Bool) → T' → Option (List ℕ)) (left : ℕ → Bool)
@@ -36,10 +36,10 @@ module _ (T T' : Type 0) (n : ℕ) (fits : T → ℕ → Option T) (fits' : T' �
     begun_alike : (i : ℕ) (u : Option T) (u' : Option T') → SameFit R u u'
         → begun T n fits earlier next left i u ≡ begun T' n fits' earlier next' left i u'
     unfolding begun
-    begun_alike i none none r = refl
-    begun_alike i none (some t') r = absurd r
-    begun_alike i (some t) none r = absurd r
-    begun_alike i (some t) (some t') r = ap (starting i) (same i t t' r)
+    begun_alike i None None r = refl
+    begun_alike i None (Some t') r = absurd r
+    begun_alike i (Some t) None r = absurd r
+    begun_alike i (Some t) (Some t') r = ap (starting i) (same i t t' r)
 
     tries_alike : (t : T) (t' : T') → R t t' → (k i : ℕ)
         → tries T n fits earlier next left t k i ≡ tries T' n fits' earlier next' left t' k i

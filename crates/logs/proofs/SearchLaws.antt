@@ -7,7 +7,8 @@ use mathlib.Core.Path.{◌≡◌, refl, sym, ap, ◌∙◌, subst}
 use mathlib.Core.Logic.{by_cases}
 use mathlib.Core.Bool.{Bool, true, false, not}
 use mathlib.Core.List.{List, [], ◌∷◌}
-use mathlib.Core.Option.{Option, none, some, some-injective}
+use Rattle.std.specs.Prelude.{Option, Some, None}
+use Rattle.std.proofs.lemmas.Option.{same_Some}
 use lib.ListN.{length}
 use borrow.Author.Tests.{not-true}
 use Rattle.machine.specs.Choice.{◌and◌, assign}
@@ -47,18 +48,18 @@ module _ (T : Type 0) (n : ℕ) (fits : T → ℕ → Option T) (earlier : ℕ �
   pub ready_fewer : (f g : ℕ → Bool) (i : ℕ) → ((j : ℕ) → g j ≡ true → f j ≡ true) → IsReady f i → IsReady g i
   ready_fewer f g i h r = ready_of g i (λ j l e. ready_at f i r j l (h j e))
 
-  pub opened_parts : (left : ℕ → Bool) (t : T) (i : ℕ) (u : T) → opened T n fits earlier left t i ≡ some u
-      → (left i ≡ true) × (IsReady left i × (fits t i ≡ some u))
+  pub opened_parts : (left : ℕ → Bool) (t : T) (i : ℕ) (u : T) → opened T n fits earlier left t i ≡ Some u
+      → (left i ≡ true) × (IsReady left i × (fits t i ≡ Some u))
   unfolding opened
-  opened_parts left t i u = if_elim (λ o. o ≡ some u → (left i ≡ true) × (IsReady left i × (fits t i ≡ some u)))
-      (left i and ready T n fits earlier left i) (fits t i) none
+  opened_parts left t i u = if_elim (λ o. o ≡ Some u → (left i ≡ true) × (IsReady left i × (fits t i ≡ Some u)))
+      (left i and ready T n fits earlier left i) (fits t i) None
       (λ e f. let z = and_parts (left i) (ready T n fits earlier left i) e in (z.0, (z.1, f)))
       (λ e f. absurd (none_some refl f))
 
-  pub opened_is : (left : ℕ → Bool) (t : T) (i : ℕ) (u : T) → left i ≡ true → IsReady left i → fits t i ≡ some u
-      → opened T n fits earlier left t i ≡ some u
+  pub opened_is : (left : ℕ → Bool) (t : T) (i : ℕ) (u : T) → left i ≡ true → IsReady left i → fits t i ≡ Some u
+      → opened T n fits earlier left t i ≡ Some u
   unfolding opened
-  opened_is left t i u l r f = if_true (fits t i) none (and_true l r) ∙ f
+  opened_is left t i u l r f = if_true (fits t i) None (and_true l r) ∙ f
 
   -- ---- the places of one node, where `next` searches for the rest
 
@@ -66,85 +67,85 @@ module _ (T : Type 0) (n : ℕ) (fits : T → ℕ → Option T) (earlier : ℕ �
     abbrev Begun : ℕ → Option (List ℕ)
     Begun i = begun T n fits earlier next left i (opened T n fits earlier left t i)
 
-    pub begun_is : (i : ℕ) (u : T) (o : List ℕ) → opened T n fits earlier left t i ≡ some u → next (assign left i false) u ≡ some o
-        → Begun i ≡ some (i ∷ o)
+    pub begun_is : (i : ℕ) (u : T) (o : List ℕ) → opened T n fits earlier left t i ≡ Some u → next (assign left i false) u ≡ Some o
+        → Begun i ≡ Some (i ∷ o)
     unfolding begun starting
     begun_is i u o f e = rw (f, e)
 
-    begun_head : (i : ℕ) (q : List ℕ) → Begun i ≡ some q → (o : List ℕ) × (q ≡ i ∷ o)
+    begun_head : (i : ℕ) (q : List ℕ) → Begun i ≡ Some q → (o : List ℕ) × (q ≡ i ∷ o)
     unfolding begun starting
     begun_head i q = on (opened T n fits earlier left t i)
       where
-        rest : (v : Option (List ℕ)) → starting i v ≡ some q → (o : List ℕ) × (q ≡ i ∷ o)
-        rest none e = absurd (none_some refl e)
-        rest (some o) e = (o, cc)
+        rest : (v : Option (List ℕ)) → starting i v ≡ Some q → (o : List ℕ) × (q ≡ i ∷ o)
+        rest None e = absurd (none_some refl e)
+        rest (Some o) e = (o, cc)
 
-        on : (u : Option T) → begun T n fits earlier next left i u ≡ some q → (o : List ℕ) × (q ≡ i ∷ o)
-        on none e = absurd (none_some refl e)
-        on (some u) e = rest (next (assign left i false) u) e
+        on : (u : Option T) → begun T n fits earlier next left i u ≡ Some q → (o : List ℕ) × (q ≡ i ∷ o)
+        on None e = absurd (none_some refl e)
+        on (Some u) e = rest (next (assign left i false) u) e
 
     -- the lowest place decides, where it begins an order
-    tries_here : (k i : ℕ) (q : List ℕ) → Begun i ≡ some q → tries T n fits earlier next left t (suc k) i ≡ some q
+    tries_here : (k i : ℕ) (q : List ℕ) → Begun i ≡ Some q → tries T n fits earlier next left t (suc k) i ≡ Some q
     unfolding tries or_else
     tries_here k i q w = rw w
 
-    tries_past : (k i : ℕ) → Begun i ≡ none → tries T n fits earlier next left t (suc k) i ≡ tries T n fits earlier next left t k (suc i)
+    tries_past : (k i : ℕ) → Begun i ≡ None → tries T n fits earlier next left t (suc k) i ≡ tries T n fits earlier next left t k (suc i)
     unfolding tries or_else
     tries_past k i w = rw w
 
     -- one place that begins an order is enough; the order found is not after that one
-    pub tries_found : (y : ℕ) (p o : List ℕ) → Begun y ≡ some (y ∷ p) → NotAfter p o → (k i : ℕ) → i ≤ y → y < i + k
-        → (q : List ℕ) × ((tries T n fits earlier next left t k i ≡ some q) × NotAfter q (y ∷ o))
+    pub tries_found : (y : ℕ) (p o : List ℕ) → Begun y ≡ Some (y ∷ p) → NotAfter p o → (k i : ℕ) → i ≤ y → y < i + k
+        → (q : List ℕ) × ((tries T n fits earlier next left t k i ≡ Some q) × NotAfter q (y ∷ o))
     tries_found y p o e f zero i a b = absurd (omega arith)
     tries_found y p o e f (suc k) i a b =
         go (Begun i) refl (λ z. tries_found y p o e f k (suc i) (omega arith) (omega arith))
       where
         Result : ℕ → ℕ → Type 0
-        Result k i = (q : List ℕ) × ((tries T n fits earlier next left t k i ≡ some q) × NotAfter q (y ∷ o))
+        Result k i = (q : List ℕ) × ((tries T n fits earlier next left t k i ≡ Some q) × NotAfter q (y ∷ o))
 
-        here : (q : List ℕ) → Begun i ≡ some q → NotAfter q (y ∷ o)
+        here : (q : List ℕ) → Begun i ≡ Some q → NotAfter q (y ∷ o)
         here q w =
             by_cases (ℕ_discrete i y)
-            (λ z. subst (λ x. NotAfter x (y ∷ o)) (some-injective (y ∷ p) q (sym e ∙ ap Begun (sym z) ∙ w)) (same_first y p o f))
+            (λ z. subst (λ x. NotAfter x (y ∷ o)) (same_Some (y ∷ p) q (sym e ∙ ap Begun (sym z) ∙ w)) (same_first y p o f))
             (λ z. let h = begun_head i q w in rw h.1 (lower_first i y h.0 o (omega arith)))
 
         go : (v : Option (List ℕ)) → Begun i ≡ v → (suc i ≤ y → Result k (suc i)) → Result (suc k) i
-        go (some q) w later = (q, (tries_here k i q w, here q w))
-        go none w later =
+        go (Some q) w later = (q, (tries_here k i q w, here q w))
+        go None w later =
             by_cases (ℕ_discrete i y) (λ z. absurd (none_some w (ap Begun z ∙ e)))
             (λ z. let r = later (omega arith) in (r.0, (tries_past k i w ∙ r.1.0, r.1.1)))
 
     module _
-        (good : (i : ℕ) (u : T) (o : List ℕ) → i < n → left i ≡ true → next (assign left i false) u ≡ some o
+        (good : (i : ℕ) (u : T) (o : List ℕ) → i < n → left i ≡ true → next (assign left i false) u ≡ Some o
         → Order (assign left i false) u o) where
-      pub begun_order : (i : ℕ) → i < n → (p : List ℕ) → Begun i ≡ some p → Order left t p
+      pub begun_order : (i : ℕ) → i < n → (p : List ℕ) → Begun i ≡ Some p → Order left t p
       unfolding begun starting
       begun_order i l p = on (opened T n fits earlier left t i) refl
         where
-          on : (u : Option T) → opened T n fits earlier left t i ≡ u → begun T n fits earlier next left i u ≡ some p → Order left t p
-          on none w e = absurd (none_some refl e)
-          on (some u) w e = go (next (assign left i false) u) refl e
+          on : (u : Option T) → opened T n fits earlier left t i ≡ u → begun T n fits earlier next left i u ≡ Some p → Order left t p
+          on None w e = absurd (none_some refl e)
+          on (Some u) w e = go (next (assign left i false) u) refl e
             where
-              go : (v : Option (List ℕ)) → next (assign left i false) u ≡ v → starting i v ≡ some p → Order left t p
-              go none q e = absurd (none_some refl e)
-              go (some o) q e =
+              go : (v : Option (List ℕ)) → next (assign left i false) u ≡ v → starting i v ≡ Some p → Order left t p
+              go None q e = absurd (none_some refl e)
+              go (Some o) q e =
                   let z = opened_parts left t i u w in
                   let h : i ∷ o ≡ p = cc in
                   subst (Order left t) h (l, (z.0, (z.1.0, (u, (z.1.1, good i u o l z.0 q)))))
 
-      pub tries_order : (k i : ℕ) → i + k ≡ n → (p : List ℕ) → tries T n fits earlier next left t k i ≡ some p → Order left t p
+      pub tries_order : (k i : ℕ) → i + k ≡ n → (p : List ℕ) → tries T n fits earlier next left t k i ≡ Some p → Order left t p
       unfolding tries or_else
       tries_order zero i a p e = absurd (none_some refl e)
       tries_order (suc k) i a p e = go (Begun i) refl e (tries_order k (suc i) (omega arith) p)
         where
-          go : (v : Option (List ℕ)) → Begun i ≡ v → or_else v (tries T n fits earlier next left t k (suc i)) ≡ some p
-              → (tries T n fits earlier next left t k (suc i) ≡ some p → Order left t p) → Order left t p
-          go none w e later = later e
-          go (some q) w e later = begun_order i (omega arith) p (w ∙ e)
+          go : (v : Option (List ℕ)) → Begun i ≡ v → or_else v (tries T n fits earlier next left t k (suc i)) ≡ Some p
+              → (tries T n fits earlier next left t k (suc i) ≡ Some p → Order left t p) → Order left t p
+          go None w e later = later e
+          go (Some q) w e later = begun_order i (omega arith) p (w ∙ e)
 
   -- ---- the whole search, with m left
 
-  pub sound_at : (m : ℕ) (left : ℕ → Bool) (t : T) (p : List ℕ) → count_left n left ≡ m → search T n fits earlier m left t ≡ some p
+  pub sound_at : (m : ℕ) (left : ℕ → Bool) (t : T) (p : List ℕ) → count_left n left ≡ m → search T n fits earlier m left t ≡ Some p
       → Order left t p
   unfolding search
   sound_at zero left t p z e = let h : [] ≡ p = cc in subst (Order left t) h (none_left n left z)
@@ -153,7 +154,7 @@ module _ (T : Type 0) (n : ℕ) (fits : T → ℕ → Option T) (earlier : ℕ �
       (λ i u o l f. sound_at m (assign left i false) u o (let k = left_less n left i l f in omega arith)) n 0 (omega arith) p e
 
   pub first_at : (m : ℕ) (left : ℕ → Bool) (t : T) (o : List ℕ) → count_left n left ≡ m → Order left t o
-      → (p : List ℕ) × ((search T n fits earlier m left t ≡ some p) × NotAfter p o)
+      → (p : List ℕ) × ((search T n fits earlier m left t ≡ Some p) × NotAfter p o)
   unfolding search
   first_at zero left t o z h = ([], (refl, nothing_first o))
   first_at (suc m) left t [] z h = let k = all_taken n left h in absurd (omega arith)

@@ -1,8 +1,7 @@
 -- What judging a log answers. 02, No. 9: "It accepts, showing one such order, exactly if some order ..; Otherwise it
 -- answers no. An empty log is accepted. Checks: 14, bad log, ..; b and M outside 01's ranges give 1 before it." No. 10:
 -- "The checker shall show the first". Rests on specs/Orders, specs/Comparing and specs/Search.
-use Rattle.std.specs.Prelude.{ℕ, ◌≡◌, Bool, true, not, List, [], ltb, length}
-use Rattle.std.proofs.Math.Option.{Option, none, some}
+use Rattle.std.specs.Prelude.{ℕ, ◌≡◌, Bool, true, not, List, [], ltb, length, Option, Some, None}
 use Rattle.interface.specs.Limits.{least_workers, in_range}
 use Rattle.interface.specs.declared.Refusal.{Refusal}
 use Rattle.interface.specs.declared.Verdict.{Verdict}
@@ -39,9 +38,9 @@ pub record First (b M : ℕ) (log : Log) (o : List ℕ) : Type 0 where
 
 -- for a good log: the search finds exactly the first order, and none where no order explains the log
 pub record SearchFindsFirst (b M : ℕ) (log : Log) : Type 0 where
-  pub found_first : (o : List ℕ) → order_of b M log ≡ some o → First b M log o
-  pub first_found : (o : List ℕ) → First b M log o → order_of b M log ≡ some o
-  pub none_explains : order_of b M log ≡ none → (o : List ℕ) → Explains b M log o → ⊥
+  pub found_first : (o : List ℕ) → order_of b M log ≡ Some o → First b M log o
+  pub first_found : (o : List ℕ) → First b M log o → order_of b M log ≡ Some o
+  pub none_explains : order_of b M log ≡ None → (o : List ℕ) → Explains b M log o → ⊥
 
 abbrev pub AllFirst : Type 0
 AllFirst = (b M : ℕ) (log : Log) → is_log log ≡ true → SearchFindsFirst b M log
@@ -52,20 +51,20 @@ AllFirst = (b M : ℕ) (log : Log) → is_log log ≡ true → SearchFindsFirst 
 -- places
 unfoldable pub refusal : List ℕ → ℕ → ℕ → ℕ → Option Refusal
 refusal l b M places =
-    when not (in_range least_workers b M) then some Refusal.Settings
-    else when not (are_log l) then some Refusal.BadLog
-    else when ltb places (count_of l) then some Refusal.Narrow
-    else none
+    when not (in_range least_workers b M) then Some Refusal.Settings
+    else when not (are_log l) then Some Refusal.BadLog
+    else when ltb places (count_of l) then Some Refusal.Narrow
+    else None
 
 -- the list for the order, and the verdict, by what was found
 unfoldable pub verdict_on : List ℕ → Option (List ℕ) → List ℕ × Verdict
-verdict_on before none = (before, No)
-verdict_on before (some o) = (overlay before 0 o, Accepted)
+verdict_on before None = (before, No)
+verdict_on before (Some o) = (overlay before 0 o, Accepted)
 
 -- a refusal leaves the list as it was
 unfoldable pub refused_or : List ℕ → Option Refusal → List ℕ × Verdict → List ℕ × Verdict
-refused_or before none judged = judged
-refused_or before (some r) judged = (before, Refused r)
+refused_or before None judged = judged
+refused_or before (Some r) judged = (before, Refused r)
 
 -- what judging leaves of the list for the order, and its verdict
 unfoldable pub check_log_words : List ℕ → ℕ → ℕ → List ℕ → List ℕ × Verdict
@@ -75,12 +74,12 @@ check_log_words l b M before =
 -- The same told without the search: a log is accepted with the first of all orders that explain it written at the start
 -- of the list, or none does; else the list is as it was.
 abbrev pub Judged : List ℕ → ℕ → ℕ → List ℕ → List ℕ → Verdict → Type 0
-Judged l b M before after (Refused r) = (refusal l b M (length before) ≡ some r) × (after ≡ before)
+Judged l b M before after (Refused r) = (refusal l b M (length before) ≡ Some r) × (after ≡ before)
 Judged l b M before after Accepted =
-    (refusal l b M (length before) ≡ none)
+    (refusal l b M (length before) ≡ None)
     × ((o : List ℕ) × (First b M (log_of l) o × (after ≡ overlay before 0 o)))
 Judged l b M before after No =
-    (refusal l b M (length before) ≡ none)
+    (refusal l b M (length before) ≡ None)
     × (((o : List ℕ) → Explains b M (log_of l) o → ⊥) × (after ≡ before))
 
 -- for any words: judging does that, and nothing else is that

@@ -1,8 +1,7 @@
 -- When an order explains a log. 02, No. 9: "exactly if some order of a plain table with the crowding rule gives all the
 -- answers and never puts an operation before one that was answered before its call": the field's linearization of a
 -- history. Rests on the sequential specification and on specs/Log.
-use Rattle.std.specs.Prelude.{ℕ, ◌+◌, ◌<◌, ◌≡◌, Bool, true, false, List, [], ◌∷◌, eqb, ℤ, pos, negsuc}
-use Rattle.std.proofs.Math.Option.{Option, none, some}
+use Rattle.std.specs.Prelude.{ℕ, ◌+◌, ◌<◌, ◌≡◌, Bool, true, false, List, [], ◌∷◌, eqb, ℤ, pos, negsuc, Option, Some, None}
 use Rattle.interface.specs.Numbers.{answer_number, answer_total}
 use Rattle.interface.specs.declared.Answer.{Answer}
 use Rattle.machine.specs.Choice.{when◌then◌else◌, ◌and◌}
@@ -22,8 +21,8 @@ equal_z (negsuc m) (negsuc n) = eqb m n
 
 -- the answer's total, if it has one, is the one logged: "The answer's total counts for found and posted only."
 unfoldable pub same_total : Option ℤ → ℤ → Bool
-same_total none v = true
-same_total (some w) v = equal_z w v
+same_total None v = true
+same_total (Some w) v = equal_z w v
 
 -- the answer is the one logged
 unfoldable pub gives : Logged → Answer → Bool
@@ -31,12 +30,12 @@ gives x r = eqb x.answer (answer_base + answer_number r) and same_total (answer_
 
 -- the table afterwards, where the answer is the one logged
 unfoldable pub after_giving : Logged → Answer × Table → Option Table
-after_giving x r = when gives x r.0 then some r.1 else none
+after_giving x r = when gives x r.0 then Some r.1 else None
 
 -- the plain table, with b and M, fed a logged operation: the table afterwards, where it gives the answer logged
 unfoldable pub served_if : ℕ → ℕ → Logged → Table → Option Operation → Option Table
-served_if b M x t none = none
-served_if b M x t (some o) = after_giving x (serve b M o t)
+served_if b M x t None = None
+served_if b M x t (Some o) = after_giving x (serve b M o t)
 
 unfoldable pub served_at : ℕ → ℕ → Log → Table → ℕ → Option Table
 served_at b M log t i =
@@ -58,7 +57,7 @@ InTime log (i ∷ o) = ((j : ℕ) → Member j o → precedes (log.at j) (log.at
 -- the plain table, fed in this order, gives each answer
 abbrev pub GivesAll : ℕ → ℕ → Log → Table → List ℕ → Type 0
 GivesAll b M log t [] = Unit {0}
-GivesAll b M log t (i ∷ o) = (t' : Table) × ((served_at b M log t i ≡ some t') × GivesAll b M log t' o)
+GivesAll b M log t (i ∷ o) = (t' : Table) × ((served_at b M log t i ≡ Some t') × GivesAll b M log t' o)
 
 -- "The plain table starts empty."
 pub record Explains (b M : ℕ) (log : Log) (o : List ℕ) : Type 0 where

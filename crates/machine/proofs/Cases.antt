@@ -3,10 +3,11 @@
 use Prim.Native.Nat.{ℕ}
 use mathlib.Core.Path.{◌≡◌, refl}
 use mathlib.Core.List.{List, [], ◌∷◌, ◌++◌}
-use mathlib.Core.Option.{Option, none, some}
+use Rattle.std.specs.Prelude.{Option, Some, None}
 use lib.IntN.{pos, neg_ℤ}
 use Rattle.interface.specs.declared.Answer.{Answer}
-use Rattle.interface.specs.declared.Answer.TheVariants.{Added, Replaced, Removed, Absent, Found, None, Crowded}
+use Rattle.interface.specs.declared.Answer.TheVariants.{Added, Replaced, Removed, Absent, Found, Crowded}
+use Rattle.interface.specs.declared.Answer.TheVariants as Answer
 use Rattle.machine.specs.Sequential.{account_at}
 use Rattle.machine.specs.Computing.{computing}
 use Rattle.machine.specs.Script.{Line, O, I, D, L, P, S, T, Reply, ok, refused, moved, answered, listed}
@@ -153,7 +154,7 @@ unfolding computing
 lookup_after_delete =
     driver_case (
     O 2 2 1 ⟶ ok ∷ [] ++ I 0 5 (pos 50) gets Added at 15
-    ++ L 1 5 ⟶ ok ∷ S 1 1 ⟶ moved 1 ∷ [] ++ D 0 5 gets Removed at 15 ++ S 1 1 ⟶ answered None 2 ∷ [])
+    ++ L 1 5 ⟶ ok ∷ S 1 1 ⟶ moved 1 ∷ [] ++ D 0 5 gets Removed at 15 ++ S 1 1 ⟶ answered Answer.None 2 ∷ [])
     refl
 
 -- "P: n 2, b 2, M 1, empty. Worker 1 calls insert 9, 3 steps. Worker 0 inserts 5, 15 steps. The listing has 5 and 9; worker 1
@@ -234,10 +235,10 @@ unfoldable pub every_answer : Case
 unfolding computing
 every_answer =
     driver_case (
-    O 1 3 1 ⟶ ok ∷ [] ++ D 0 5 gets Absent at 13 ++ L 0 5 gets None at 2 ++ I 0 5 (pos 1) gets Added at 13 ++ I 0 4 (pos 3) gets Added at 13
+    O 1 3 1 ⟶ ok ∷ [] ++ D 0 5 gets Absent at 13 ++ L 0 5 gets Answer.None at 2 ++ I 0 5 (pos 1) gets Added at 13 ++ I 0 4 (pos 3) gets Added at 13
     ++ I 0 5 (pos 2) gets Replaced at 13 ++ L 0 5 gets Found (pos 2) at 2 ++ D 0 6 gets Absent at 13
     ++ T ⟶ listed ((4, pos 3) ∷ (5, pos 2) ∷ []) ∷ []
-    ++ D 0 5 gets Removed at 13 ++ L 0 5 gets None at 2 ++ T ⟶ listed ((4, pos 3) ∷ []) ∷ [])
+    ++ D 0 5 gets Removed at 13 ++ L 0 5 gets Answer.None at 2 ++ T ⟶ listed ((4, pos 3) ∷ []) ∷ [])
     refl
 
 -- "An account is a 32-bit unsigned number, a total a 64-bit signed number": both ends of both
@@ -281,7 +282,7 @@ superseded_lookup =
     driver_case (
     O 2 2 1 ⟶ ok ∷ [] ++ I 0 ⟨ 5 ⟩ (pos 50) gets Added at 15 ++ I 0 ⟨ 2_147_483_648 ⟩ (pos 1) gets Added at 15
     ++ L 1 ⟨ 2_147_483_648 ⟩ ⟶ ok ∷ S 1 1 ⟶ moved 1 ∷ [] ++ I 0 ⟨ 6 ⟩ (pos 60) gets Added at 29 ++ D 0 ⟨ 2_147_483_648 ⟩ gets Removed at 15
-    ++ S 1 1 ⟶ answered (Found (pos 1)) 2 ∷ [] ++ L 1 ⟨ 2_147_483_648 ⟩ gets None at 2)
+    ++ S 1 1 ⟶ answered (Found (pos 1)) 2 ∷ [] ++ L 1 ⟨ 2_147_483_648 ⟩ gets Answer.None at 2)
     refl
 
 -- ---- wrong machines: each row says what one would do instead
@@ -563,19 +564,19 @@ table_right = all_right cases
 -- ---- the depth of the directory that a script leaves
 
 abbrev pub depth_of : Memory → Option ℕ
-depth_of zeros = none
-depth_of (holding s m) = some m.cells.directory.value.depth
+depth_of zeros = None
+depth_of (holding s m) = Some m.cells.directory.value.depth
 
-pub not_split_before : depth_of (memory_after driver zeros (lines one_holding_5_6)) ≡ some 0
+pub not_split_before : depth_of (memory_after driver zeros (lines one_holding_5_6)) ≡ Some 0
 unfolding computing
 not_split_before = refl
 
 -- "crowded in 23, and the split stays"
-pub split_stays : depth_of (memory_after driver zeros (lines straight_after)) ≡ some 1
+pub split_stays : depth_of (memory_after driver zeros (lines straight_after)) ≡ Some 1
 unfolding computing
 split_stays = refl
 
 -- "The directory doubles when d+1 exceeds its depth": once for two buckets of depth 1 that are split
-pub doubled_once : depth_of (memory_after driver zeros (lines two_splits)) ≡ some 2
+pub doubled_once : depth_of (memory_after driver zeros (lines two_splits)) ≡ Some 2
 unfolding computing
 doubled_once = refl

@@ -7,7 +7,7 @@ use mathlib.Core.Path.{◌≡◌, refl, sym, ap, ◌∙◌, subst}
 use mathlib.Core.Logic.{inl, inr}
 use mathlib.Core.Bool.{true, false}
 use mathlib.Core.List.{List, [], ◌∷◌, map}
-use mathlib.Core.Option.{Option, none, some}
+use Rattle.std.specs.Prelude.{Option, Some, None}
 use lib.ListN.{length}
 use borrow.Author.Tests.{eq-eqb, eqb-true}
 use Rattle.interface.specs.Limits.{in_range, Range}
@@ -75,14 +75,14 @@ module _ (s : Settings) (m : Machine) (t : Table) (es : List Entry) (tasks : ℕ
       inr (subst (λ (o : Option Operation). Member (f j, r) (answers_to s es (serve_if s o p).1 (map f js))) (sym (h i (inl refl)))
       (answers_serve_all js (serve_if s (tasks i).operation p).1 (λ x y. h x (inr y)) j r k))
 
-same_answer : {a b : Answer} → some a ≡ some b → a ≡ b
+same_answer : {a b : Answer} → Some a ≡ Some b → a ≡ b
 same_answer e = cc
 
 -- ---- from a good machine whose workers are idle
 
 module _ (s : Settings) (range : in_range s.workers s.capacity s.depth ≡ true) (lent : ℕ) (m : Machine) (t : Table)
     (es : List Entry) (refused : OpeningsRefused s (machines s lent) m t es) (good : Good s m)
-    (idle : (j : ℕ) → (m.workers j).operation ≡ none) (unused : (j : ℕ) → (m.workers j).last ≡ 0) (parts : Parts m.cells t) where
+    (idle : (j : ℕ) → (m.workers j).operation ≡ None) (unused : (j : ℕ) → (m.workers j).last ≡ 0) (parts : Parts m.cells t) where
   abbrev at : ℕ → Machine
   at i = state_at s (machines s lent) m t es i
 
@@ -129,7 +129,7 @@ module _ (s : Settings) (range : in_range s.workers s.capacity s.depth ≡ true)
   -- the operation that takes effect, and the call it came from
   effect_from :
       (i j : ℕ) → Member j (adv i).effects
-      → (o : Operation) × (((at i).workers j).operation ≡ some o) × From s lent m t es (last_call_at i j) i j o
+      → (o : Operation) × (((at i).workers j).operation ≡ Some o) × From s lent m t es (last_call_at i j) i j o
   effect_from i j h =
       let x = ((adv i).waiting j h).2 in
       (x.0, x.1, under-way s lent m t es refused idle i j x.0 (omega (arith, effect_within i j h)) x.1)
@@ -189,8 +189,8 @@ module _ (s : Settings) (range : in_range s.workers s.capacity s.depth ≡ true)
 
   -- worker j's operation under way at index i, from the call at index c: without its moment, or with its answer
   record MomentStatus (c i j : ℕ) : Type 0 where
-    before : status_here i j ≡ none → (k : ℕ) → k < i → Member c (moments k) → ⊥
-    after : (r : Answer) → status_here i j ≡ some r → (k : ℕ) × (k < i) × Member (c, r) (answers_here k)
+    before : status_here i j ≡ None → (k : ℕ) → k < i → Member c (moments k) → ⊥
+    after : (r : Answer) → status_here i j ≡ Some r → (k : ℕ) × (k < i) × Member (c, r) (answers_here k)
 
   -- with the answer that the entry at index i gives worker j, or else its status afterwards
   abbrev ending : ℕ → ℕ → Option Answer → Option Answer
@@ -198,12 +198,12 @@ module _ (s : Settings) (range : in_range s.workers s.capacity s.depth ≡ true)
 
   -- after an entry that gives worker j no answer
   gained_status :
-      (i j : ℕ) (r : Answer) → answer_to s (at i) (entry i) j ≡ none → Member (j, r) (answers_at i) → status_here (suc i) j ≡ some r
+      (i j : ℕ) (r : Answer) → answer_to s (at i) (entry i) j ≡ None → Member (j, r) (answers_at i) → status_here (suc i) j ≡ Some r
   unfolding state_at
-  gained_status i j r a h = subst (λ (x : Option Answer). ending i j x ≡ some r) a ((adv i).gained j r h)
+  gained_status i j r a h = subst (λ (x : Option Answer). ending i j x ≡ Some r) a ((adv i).gained j r h)
 
   other_status :
-      (i j : ℕ) → j < s.workers → answer_to s (at i) (entry i) j ≡ none → (Member j (adv i).effects → ⊥)
+      (i j : ℕ) → j < s.workers → answer_to s (at i) (entry i) j ≡ None → (Member j (adv i).effects → ⊥)
       → status_here (suc i) j ≡ status_here i j
   unfolding state_at
   other_status i j l a h = subst (λ (x : Option Answer). ending i j x ≡ status_here i j) a ((adv i).others j l h)
@@ -211,7 +211,7 @@ module _ (s : Settings) (range : in_range s.workers s.capacity s.depth ≡ true)
   module _ (i j : ℕ) (o : Operation) (l : i < length es) (jn : j < s.workers) where
     -- the call has just been made
     moment_new :
-        is_call s (machines s lent) m t es i j ≡ true → ((at i).workers j).operation ≡ none → answer_to s (at i) (entry i) j ≡ none
+        is_call s (machines s lent) m t es i j ≡ true → ((at i).workers j).operation ≡ None → answer_to s (at i) (entry i) j ≡ None
         → MomentStatus i (suc i) j
     moment_new c b a = record {
       before = λ e k p h. let x = moment_of k i h in omega (arith, (effect_from k x.0 x.1).2.before, x.2);
@@ -220,7 +220,7 @@ module _ (s : Settings) (range : in_range s.workers s.capacity s.depth ≡ true)
 
     -- it was under way, and still is
     moment_on :
-        ((at i).workers j).operation ≡ some o → answer_to s (at i) (entry i) j ≡ none → MomentStatus (last_call_at i j) i j
+        ((at i).workers j).operation ≡ Some o → answer_to s (at i) (entry i) j ≡ None → MomentStatus (last_call_at i j) i j
         → MomentStatus (last_call_at i j) (suc i) j
     moment_on e a st = go (member_dec j (adv i).effects)
       where
@@ -228,7 +228,7 @@ module _ (s : Settings) (range : in_range s.workers s.capacity s.depth ≡ true)
         u = under-way s lent m t es refused idle i j o (omega arith) e
 
         other :
-            (Member j (adv i).effects → ⊥) → (k : ℕ) → k < suc i → Dec (k ≡ i) → status_here i j ≡ none
+            (Member j (adv i).effects → ⊥) → (k : ℕ) → k < suc i → Dec (k ≡ i) → status_here i j ≡ None
             → Member (last_call_at i j) (moments k) → ⊥
         other h k p (no d) q x = st.before q k (omega arith) x
         other h k p (yes d) q x =
@@ -239,7 +239,7 @@ module _ (s : Settings) (range : in_range s.workers s.capacity s.depth ≡ true)
         go : Dec (Member j (adv i).effects) → MomentStatus (last_call_at i j) (suc i) j
         go (yes h) =
             let x = member_answers s (tasks_of s (at i)) (plain_table i).table (adv i).effects j h in
-            let g : status_here (suc i) j ≡ some x.0 = gained_status i j x.0 a x.1 in
+            let g : status_here (suc i) j ≡ Some x.0 = gained_status i j x.0 a x.1 in
             record {
               before = λ q. absurd (none_some q g);
               after = λ r q. (
@@ -257,20 +257,20 @@ module _ (s : Settings) (range : in_range s.workers s.capacity s.depth ≡ true)
             }
 
   moment_status :
-      (i j : ℕ) (o : Operation) → i ≤ length es → j < s.workers → ((at i).workers j).operation ≡ some o → MomentStatus (last_call_at i j) i j
+      (i j : ℕ) (o : Operation) → i ≤ length es → j < s.workers → ((at i).workers j).operation ≡ Some o → MomentStatus (last_call_at i j) i j
   unfolding state_at
   moment_status zero j o l jn e = absurd (none_some (idle j) e)
   moment_status (suc i) j o l jn e = go (moment_status i j o (omega arith) jn) (at_next s lent m t es refused idle i j)
     where
       same :
-          is_call s (machines s lent) m t es i j ≡ false → ((at i).workers j).operation ≡ some o → answer_to s (at i) (entry i) j ≡ none
+          is_call s (machines s lent) m t es i j ≡ false → ((at i).workers j).operation ≡ Some o → answer_to s (at i) (entry i) j ≡ None
           → MomentStatus (last_call_at i j) i j
           → MomentStatus (last_call_at (suc i) j) (suc i) j
       same f q a st =
           subst (λ (c : ℕ). MomentStatus c (suc i) j) (sym (last_before s lent m t es i j f)) (moment_on i j o (omega arith) jn q a st)
 
       go :
-          (((at i).workers j).operation ≡ some o → MomentStatus (last_call_at i j) i j)
+          (((at i).workers j).operation ≡ Some o → MomentStatus (last_call_at i j) i j)
           → WorkerChange s lent (at i) (entry i) j ((at (suc i)).workers j)
           → MomentStatus (last_call_at (suc i) j) (suc i) j
       go h (begins c b q z a) =
@@ -300,13 +300,13 @@ module _ (s : Settings) (range : in_range s.workers s.capacity s.depth ≡ true)
 
   -- the step that ends an operation gives the answer that the plain table gave
   module _ (c i j : ℕ) (o : Operation) (r : Completion) (e : Ended s (machines s lent) m t es c i j o r) where
-    ended : (((at i).workers j).operation ≡ some o) × (last_call_at i j ≡ c) × From s lent m t es c i j o
+    ended : (((at i).workers j).operation ≡ Some o) × (last_call_at i j ≡ c) × From s lent m t es c i j o
     ended = last s range lent m t es refused good idle c i j o r e
 
     worker : j < s.workers
     worker = known s range lent m t es refused good idle c i j o r e
 
-    given : answer_to s (at i) (entry i) j ≡ some r.answer
+    given : answer_to s (at i) (entry i) j ≡ Some r.answer
     given = ap (λ (x : Entry). answer_to s (at i) x j) e.entry ∙ if_true _ _ (eq-eqb j j refl) ∙ ap answer_in e.answered
 
     abbrev AnswerFound : Type 0
@@ -318,15 +318,15 @@ module _ (s : Settings) (range : in_range s.workers s.capacity s.depth ≡ true)
         go : Dec (Member j (adv i).effects) → (k : ℕ) × (k ≤ i) × Member (last_call_at i j, r.answer) (answers_here k)
         go (yes h) =
             let x = member_answers s (tasks_of s (at i)) (plain_table i).table (adv i).effects j h in
-            let g : some r.answer ≡ some x.0 =
-            subst (λ (y : Option Answer). ending i j y ≡ some x.0) given ((adv i).gained j x.0 x.1) in (
+            let g : Some r.answer ≡ Some x.0 =
+            subst (λ (y : Option Answer). ending i j y ≡ Some x.0) given ((adv i).gained j x.0 x.1) in (
               i,
               omega arith,
               subst (λ (y : Answer). Member (last_call_at i j, y) (answers_here i)) (sym (same_answer g))
                   (answer_gained i j x.0 x.1),
             )
         go (no h) =
-            let g : some r.answer ≡ status_here i j = subst (λ (y : Option Answer). ending i j y ≡ status_here i j) given
+            let g : Some r.answer ≡ status_here i j = subst (λ (y : Option Answer). ending i j y ≡ status_here i j) given
             ((adv i).others j worker h) in
             let x = (moment_status i j o (omega (arith, e.in_list)) worker ended.0).after r.answer (sym g) in
             (x.0, omega (arith, x.1), x.2)
@@ -393,7 +393,7 @@ opened_parts : Parts opened.cells []
 unfolding opened first_cells new_bucket having
 opened_parts = record { ascending = tt; part = λ a. refl }
 
-opened_idle : (j : ℕ) → (opened.workers j).operation ≡ none
+opened_idle : (j : ℕ) → (opened.workers j).operation ≡ None
 unfolding opened
 opened_idle j = refl
 

@@ -3,7 +3,7 @@
 use Prim.Native.Nat.{ℕ, zero, suc}
 use mathlib.Core.Path.{◌≡◌, refl}
 use mathlib.Core.List.{List, [], ◌∷◌, ◌++◌}
-use mathlib.Core.Option.{none}
+use Rattle.std.specs.Prelude.{None}
 use lib.IntN.{pos}
 use Rattle.interface.specs.declared.Answer.TheVariants.{Added, Found}
 use Rattle.machine.specs.Computing.{computing}
@@ -23,7 +23,7 @@ numbers_used x y =
     holding (settings 2 2 1) (record {
       cells = opened.cells;
       workers =
-          λ j. record { last = last_ticket x y j; operation = none; steps = 0; reads = (opened.workers j).reads };
+          λ j. record { last = last_ticket x y j; operation = None; steps = 0; reads = (opened.workers j).reads };
     })
 
 -- the tickets of workers 0 and 1 that are settled in an account's bucket

@@ -7,7 +7,7 @@ use mathlib.Core.Path.{◌≡◌, refl}
 use mathlib.Core.Logic.{inl}
 use mathlib.Core.Bool.{false}
 use mathlib.Core.List.{List, [], ◌∷◌, ◌++◌}
-use mathlib.Core.Option.{Option, none, some}
+use Rattle.std.specs.Prelude.{Option, Some, None}
 use lib.IntN.{pos}
 use lib.ListN.{get_or, replicate}
 use Rattle.interface.specs.Numbers.{kind_insert}
@@ -80,29 +80,29 @@ Repeating = Machine × Option Completion
 
 -- a step after that, refused for want of an operation, is answered once more, as one step later
 abbrev repeated : Option Completion → Machine × Stepped → Repeating × Stepped
-repeated last (m, Stepped.Moved) = ((m, none), Stepped.Moved)
-repeated last (m, Stepped.Answered c) = ((m, some c), Stepped.Answered c)
-repeated none (m, Stepped.Refused r) = ((m, none), Stepped.Refused r)
-repeated (some c) (m, Stepped.Refused r) =
-    ((m, none), Stepped.Answered (record { answer = c.answer; steps = suc c.steps; check = c.check }))
+repeated last (m, Stepped.Moved) = ((m, None), Stepped.Moved)
+repeated last (m, Stepped.Answered c) = ((m, Some c), Stepped.Answered c)
+repeated None (m, Stepped.Refused r) = ((m, None), Stepped.Refused r)
+repeated (Some c) (m, Stepped.Refused r) =
+    ((m, None), Stepped.Answered (record { answer = c.answer; steps = suc c.steps; check = c.check }))
 
 abbrev answering_twice : System
 answering_twice = record {
   State = Repeating;
-  opening = λ x n b M. let r = (machines small lent).opening x.0 n b M in ((r.0, none), r.1);
-  call = λ x j kind a v. let r = call small x.0 j kind a v in ((r.0, none), r.1);
+  opening = λ x n b M. let r = (machines small lent).opening x.0 n b M in ((r.0, None), r.1);
+  call = λ x j kind a v. let r = call small x.0 j kind a v in ((r.0, None), r.1);
   step = λ x j. repeated x.1 (step small x.0 j);
   listing = λ x. listing x.0;
 }
 
 -- the insert is answered at its step 13, and again at the next
-pub answering_twice_fails : AlwaysLinearizable small answering_twice (opened, none) → ⊥
+pub answering_twice_fails : AlwaysLinearizable small answering_twice (opened, None) → ⊥
 unfolding computing state_at next entry_at calls_to ends_by under_way step_refusal refusal_in
 answering_twice_fails h =
     let es : List Entry = inserting 14 in
     let l = h es (λ i. opens_nothing answering_twice es (λ m. tt, steps_open_nothing answering_twice 14 [] tt)
-    (state_at small answering_twice (opened, none) [] es i) i) in
-    let wrong : none ≡ some Refusal.Idle = l.steps 14 0 (omega arith) refl in
+    (state_at small answering_twice (opened, None) [] es i) i) in
+    let wrong : None ≡ Some Refusal.Idle = l.steps 14 0 (omega arith) refl in
     let z : ◌≡◌ {A = ℕ} 0 1 = cc in omega arith
 
 -- ---- one that tells no check

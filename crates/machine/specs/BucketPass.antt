@@ -1,8 +1,7 @@
 -- What a round of the bucket pass makes of the state, toggle and slots that it has read, and what a check answers.
 -- Rests on the records.
-use Rattle.std.specs.Prelude.{ℕ, zero, suc, Bool, true, false, not, leb, ltb, length}
+use Rattle.std.specs.Prelude.{ℕ, zero, suc, Bool, true, false, not, leb, ltb, length, Option, Some, None}
 use Rattle.std.specs.Bool.{xor}
-use Rattle.std.proofs.Math.Option.{Option, none, some}
 use Rattle.interface.specs.declared.Settings.{Settings}
 use Rattle.interface.specs.declared.Answer.{Answer}
 use Rattle.machine.specs.Choice.{when◌then◌else◌, ◌and◌, assign}
@@ -62,4 +61,4 @@ next_state s d x toggle slots = record { body = helped s d x toggle slots s.work
 
 -- "The checks then answer only from settled tickets": worker j, its ticket t.
 unfoldable pub checked : ℕ → ℕ → Body → Option Answer
-checked j t x = when settled_at x j t then some (x.settled j).answer else none
+checked j t x = when settled_at x j t then Some (x.settled j).answer else None

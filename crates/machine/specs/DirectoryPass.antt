@@ -1,7 +1,6 @@
 -- The working copy of a round of the directory pass: splits, and the updates carried out on what it makes.
 -- Rests on the records and on what an update does to a bucket's body.
-use Rattle.std.specs.Prelude.{ℕ, zero, suc, ◌+◌, ◌*◌, ◌-◌, ◌/◌, ◌^◌, Bool, true, false, not, leb, ltb, eqb}
-use Rattle.std.proofs.Math.Option.{Option, none, some}
+use Rattle.std.specs.Prelude.{ℕ, zero, suc, ◌+◌, ◌*◌, ◌-◌, ◌/◌, ◌^◌, Bool, true, false, not, leb, ltb, eqb, Option, Some, None}
 use Rattle.interface.specs.declared.Settings.{Settings}
 use Rattle.machine.specs.Choice.{when◌then◌else◌, ◌and◌}
 use Rattle.machine.specs.Sequential.{Update, account, first_bits, having}
@@ -100,8 +99,8 @@ unfoldable pub directory_of : Copy → Directory
 directory_of c = record { depth = c.depth; entries = λ e. name_of (c.leaves e) }
 
 abbrev pub body_if : Name → Leaf → Option Body
-body_if x (kept y) = none
-body_if x (made y b) = when same y x then some b else none
+body_if x (kept y) = None
+body_if x (made y b) = when same y x then Some b else None
 
 -- the body of bucket x, if it was made in this round; its first entry is its prefix followed by zeros
 unfoldable pub body_made : Copy → Name → Option Body

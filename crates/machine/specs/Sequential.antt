@@ -1,10 +1,10 @@
 -- The sequential specification: document 01's plain table, with document 02's posts, rule of crowding and places of
 -- accounts. Rests on the enum of answers alone.
-use Rattle.std.specs.Prelude.{ℕ, ◌-◌, ◌*◌, ◌/◌, ◌%◌, ◌^◌, ◌<◌, Bool, true, false, ◌&&◌, List, [], ◌∷◌, ltb, leb, eqb, length, ℤ, pos, negsuc, ◌+ℤ◌}
-use Rattle.std.proofs.Math.Option.{Option, none, some}
+use Rattle.std.specs.Prelude.{ℕ, ◌-◌, ◌*◌, ◌/◌, ◌%◌, ◌^◌, ◌<◌, Bool, true, false, ◌&&◌, List, [], ◌∷◌, ltb, leb, eqb, length, ℤ, pos, negsuc, ◌+ℤ◌, Option, Some, None}
 use Rattle.std.specs.Int.Signed.{le_z}
 use Rattle.interface.specs.declared.Answer.{Answer}
-use Rattle.interface.specs.declared.Answer.TheVariants.{Added, Replaced, Removed, Absent, Found, None, Posted, Crowded, Overrun}
+use Rattle.interface.specs.declared.Answer.TheVariants.{Added, Replaced, Removed, Absent, Found, Posted, Crowded, Overrun}
+use Rattle.interface.specs.declared.Answer.TheVariants as Answer
 use Rattle.machine.specs.Choice.{when◌then◌else◌, ◌and◌}
 
 -- ---- operations
@@ -55,8 +55,8 @@ Table = List (ℕ × ℤ)
 
 -- the account's total, if the account is there
 unfoldable pub find : Table → ℕ → Option ℤ
-find [] a = none
-find (e ∷ t) a = when eqb e.0 a then some e.1 else find t a
+find [] a = None
+find (e ∷ t) a = when eqb e.0 a then Some e.1 else find t a
 
 -- the table with the account's total set
 unfoldable pub put : Table → ℕ → ℤ → Table
@@ -77,13 +77,13 @@ having d q (e ∷ t) = when eqb (first_bits d e.0) q then e ∷ having d q t els
 
 -- one answer where the account is there, the other where it is missing
 unfoldable pub present : Option ℤ → Answer → Answer → Answer
-present (some v) there missing = there
-present none there missing = missing
+present (Some v) there missing = there
+present None there missing = missing
 
 -- "an account not there starts from 0"
 unfoldable pub total_or0 : Option ℤ → ℤ
-total_or0 (some v) = v
-total_or0 none = pos 0
+total_or0 (Some v) = v
+total_or0 None = pos 0
 
 -- "the 64-bit signed range"
 abbrev pub least_total : ℤ
@@ -117,12 +117,12 @@ changed (post a v) t = when is_total (sum t a v) then put t a (sum t a v) else t
 
 -- "Lookup answers found with the account's total, or none where the account isn't there."
 unfoldable pub looked : Option ℤ → Answer
-looked (some v) = Found v
-looked none = None
+looked (Some v) = Found v
+looked None = Answer.None
 
 abbrev pub is_none : Option ℤ → Bool
-is_none (some v) = false
-is_none none = true
+is_none (Some v) = false
+is_none None = true
 
 -- "a new account" (02, No. 2): an insert or a post whose account is not there
 unfoldable pub creates : Update → Table → Bool

@@ -1,8 +1,7 @@
 -- One step of a worker. What the worker has read says which shared cell its next step touches and what it does there,
 -- so that "one step reads or changes at most one shared cell" holds by construction. Rests on the two passes and the
 -- plan.
-use Rattle.std.specs.Prelude.{ℕ, zero, suc, Bool, not, ltb, eqb}
-use Rattle.std.proofs.Math.Option.{Option, none, some}
+use Rattle.std.specs.Prelude.{ℕ, zero, suc, Bool, not, ltb, eqb, Option, Some, None}
 use Rattle.interface.specs.declared.Settings.{Settings}
 use Rattle.interface.specs.declared.Answer.{Answer}
 use Rattle.interface.specs.declared.Refusal.{Refusal}
@@ -37,11 +36,11 @@ pub data Access : Type 0 where
 
 -- the contents c, what was read r, no answer
 abbrev pub leaving : {A : Type 0} → A → Reads → Effect A
-leaving c r = record { contents = c; reads = r; answer = none }
+leaving c r = record { contents = c; reads = r; answer = None }
 
 -- the directory's cell unchanged
 abbrev pub unchanged : Stamped Directory → Directed
-unchanged d = record { directory = d; created = λ x. none }
+unchanged d = record { directory = d; created = λ x. None }
 
 -- ---- what has been read, with one thing more
 
@@ -154,7 +153,7 @@ unfoldable pub lookup_access : Reads → ℕ → ℕ → Access
 lookup_access r a zero = directory_reading r
 lookup_access r a (suc k) =
     state_cell (own_name r a)
-    (λ x. record { contents = x; reads = r; answer = some (looked (find x.value.body.items a)) })
+    (λ x. record { contents = x; reads = r; answer = Some (looked (find x.value.body.items a)) })
 
 -- worker j's next step, from what it keeps itself
 unfoldable pub access : Settings → ℕ → Worker → Operation → Access
@@ -165,8 +164,8 @@ access s j w (update u) = update_access s j w.reads u w.last (phase s.workers w.
 
 -- a bucket that becomes current with a directory is new; the others are as they were
 abbrev pub created : Bucket → Option Body → Bucket
-created x none = x
-created x (some b) = new_bucket b
+created x None = x
+created x (Some b) = new_bucket b
 
 unfoldable pub direct : Cells → Directed → Cells
 direct c e = record { directory = e.directory; slots = c.slots; buckets = λ x. created (c.buckets x) (e.created x) }
@@ -199,8 +198,8 @@ perform (toggle_cell x f) c = after (assign_toggle c x) (f (c.buckets x).toggle)
 
 -- one step more, and the operation's end where it is answered
 unfoldable pub counted : Worker → Reads → Option Answer → Worker
-counted w r none = record { last = w.last; operation = w.operation; steps = suc w.steps; reads = r }
-counted w r (some a) = record { last = w.last; operation = none; steps = 0; reads = r }
+counted w r None = record { last = w.last; operation = w.operation; steps = suc w.steps; reads = r }
+counted w r (Some a) = record { last = w.last; operation = None; steps = 0; reads = r }
 
 -- "the step that answers it returns which, as 1 to 4, and 0 with any other operation's answer" (02, No. 4)
 unfoldable pub check_of : Settings → Worker → Operation → ℕ
@@ -209,8 +208,8 @@ check_of s w (lookup a) = 0
 
 -- after k steps, this one included, which is check c
 unfoldable pub step_reply : ℕ → ℕ → Option Answer → Stepped
-step_reply k c none = Stepped.Moved
-step_reply k c (some a) = Stepped.Answered (record { answer = a; steps = k; check = c })
+step_reply k c None = Stepped.Moved
+step_reply k c (Some a) = Stepped.Answered (record { answer = a; steps = k; check = c })
 
 unfoldable pub done : Machine → ℕ → ℕ → Effect Cells → Machine × Stepped
 done m j c e =
@@ -221,8 +220,8 @@ done m j c e =
 
 -- a worker without operation is idle
 unfoldable pub step_of : Settings → Machine → ℕ → Option Operation → Machine × Stepped
-step_of s m j none = (m, Stepped.Refused Refusal.Idle)
-step_of s m j (some o) =
+step_of s m j None = (m, Stepped.Refused Refusal.Idle)
+step_of s m j (Some o) =
     let w : Worker = m.workers j in done m j (check_of s w o) (perform (access s j w o) m.cells)
 
 -- "A step checks 8, 3, 5": the machine and what worker j is answered. 8 is a matter of the memory.

@@ -1,7 +1,6 @@
 -- What demand 3's lists are made of and given to: an entry, a system with its opening, call, step and listing, and what
 -- an entry leaves and is replied there. The machine is such a system. Rests on the machine's opening, calls and steps.
-use Rattle.std.specs.Prelude.{ℕ, ◌≡◌, Bool, true, false, eqb, ℤ}
-use Rattle.std.proofs.Math.Option.{Option, none, some}
+use Rattle.std.specs.Prelude.{ℕ, ◌≡◌, Bool, true, false, eqb, ℤ, Option, Some, None}
 use Rattle.interface.specs.declared.Settings.{Settings}
 use Rattle.interface.specs.declared.Refusal.{Refusal}
 use Rattle.interface.specs.declared.Stepped.{Stepped}
@@ -75,14 +74,14 @@ OpensNothing x m (reopening n b M) = (r : Refusal) × ((x.opening m n b M).1 ≡
 -- the operation that an entry asks for
 unfoldable pub asked : Entry → Option Operation
 asked (calling j kind a v) = operation_of kind a v
-asked (stepping j) = none
-asked (showing x y) = none
-asked (reopening n b M) = none
+asked (stepping j) = None
+asked (showing x y) = None
+asked (reopening n b M) = None
 
 abbrev pub is_update : Option Operation → Bool
-is_update none = false
-is_update (some (update u)) = true
-is_update (some (lookup a)) = false
+is_update None = false
+is_update (Some (update u)) = true
+is_update (Some (lookup a)) = false
 
 abbrev pub accepts : Called → Bool
 accepts Called.Accepted = true

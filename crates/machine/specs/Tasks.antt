@@ -1,7 +1,6 @@
 -- A worker as its task: the step to come, its operation, its last ticket and what it has read; the bucket that it
 -- holds, and what of its reads is still current. Rests on the program counter and on the machine's records.
-use Rattle.std.specs.Prelude.{ℕ, zero, suc, ◌≡◌}
-use Rattle.std.proofs.Math.Option.{Option, none, some}
+use Rattle.std.specs.Prelude.{ℕ, zero, suc, ◌≡◌, Option, Some, None}
 use Rattle.machine.specs.Sequential.{account, Operation, update, lookup}
 use Rattle.machine.specs.Records.{Name, Bucket, bucket_of, Leaf, kept, made, Cells, Reads, Worker, Machine}
 use Rattle.machine.specs.Counter.{PC, idle, look₁, look₂, over, counter}
@@ -16,9 +15,9 @@ pub record Task : Type 0 where
 
 -- the account that an operation is about
 abbrev pub about : Option Operation → ℕ
-about none = 0
-about (some (update u)) = account u
-about (some (lookup a)) = a
+about None = 0
+about (Some (update u)) = account u
+about (Some (lookup a)) = a
 
 abbrev pub target : Task → ℕ
 target k = about k.operation
@@ -56,9 +55,9 @@ lookup_counter (suc (suc k)) = over
 
 -- the counter of an operation that has made k steps
 abbrev pub counter_of : ℕ → Option Operation → ℕ → PC
-counter_of n none k = idle
-counter_of n (some (lookup a)) k = lookup_counter k
-counter_of n (some (update u)) k = counter n k
+counter_of n None k = idle
+counter_of n (Some (lookup a)) k = lookup_counter k
+counter_of n (Some (update u)) k = counter n k
 
 abbrev pub task_of : ℕ → Worker → Task
 task_of n w =

@@ -3,7 +3,7 @@ use Prim.Native.Nat.{ℕ, zero, suc, ◌+◌, ◌-◌, ◌*◌, ◌≤◌, ◌<�
 use mathlib.Core.Path.{◌≡◌, refl, sym, ◌∙◌, ap}
 use mathlib.Core.Bool.{Bool, true, false}
 use mathlib.Core.List.{List, [], ◌∷◌}
-use mathlib.Core.Option.{Option, none, some}
+use Rattle.std.specs.Prelude.{Option, Some, None}
 use native.Mathlib.Omega.{arith}
 use native.Mathlib.Numerals.{add-one}
 use lib.Dec.{leb}
@@ -19,70 +19,70 @@ use Rattle.numerals.specs.Numerals.{is_digit, digits_after, zero_then, numeral, 
 
 -- ---- the source's enums
 
-pub number_none : (o : Option ℕ) → Number.Nothing ≡ as_number o → o ≡ none
+pub number_none : (o : Option ℕ) → Number.Nothing ≡ as_number o → o ≡ None
 unfolding as_number
-number_none none e = refl
-number_none (some v) e = let z : ◌≡◌ {A = ℕ} 0 1 = cc in absurd (omega arith)
+number_none None e = refl
+number_none (Some v) e = let z : ◌≡◌ {A = ℕ} 0 1 = cc in absurd (omega arith)
 
-pub number_some : (o : Option ℕ) (v : ℕ) → Number.Value v ≡ as_number o → o ≡ some v
+pub number_some : (o : Option ℕ) (v : ℕ) → Number.Value v ≡ as_number o → o ≡ Some v
 unfolding as_number
-number_some none v e = let z : ◌≡◌ {A = ℕ} 0 1 = cc in absurd (omega arith)
-number_some (some u) v e = cc
+number_some None v e = let z : ◌≡◌ {A = ℕ} 0 1 = cc in absurd (omega arith)
+number_some (Some u) v e = cc
 
-pub signed_none : (o : Option ℤ) → Signed.Nothing ≡ as_signed o → o ≡ none
+pub signed_none : (o : Option ℤ) → Signed.Nothing ≡ as_signed o → o ≡ None
 unfolding as_signed
-signed_none none e = refl
-signed_none (some v) e = let z : ◌≡◌ {A = ℕ} 0 1 = cc in absurd (omega arith)
+signed_none None e = refl
+signed_none (Some v) e = let z : ◌≡◌ {A = ℕ} 0 1 = cc in absurd (omega arith)
 
-pub signed_some : (o : Option ℤ) (v : ℤ) → Signed.Value v ≡ as_signed o → o ≡ some v
+pub signed_some : (o : Option ℤ) (v : ℤ) → Signed.Value v ≡ as_signed o → o ≡ Some v
 unfolding as_signed
-signed_some none v e = let z : ◌≡◌ {A = ℕ} 0 1 = cc in absurd (omega arith)
-signed_some (some u) v e = cc
+signed_some None v e = let z : ◌≡◌ {A = ℕ} 0 1 = cc in absurd (omega arith)
+signed_some (Some u) v e = cc
 
-pub nothing : (o : Option ℕ) → o ≡ none → Number.Nothing ≡ as_number o
+pub nothing : (o : Option ℕ) → o ≡ None → Number.Nothing ≡ as_number o
 unfolding as_number
 nothing o e = rw e
 
-pub value : (o : Option ℕ) (v : ℕ) → o ≡ some v → Number.Value v ≡ as_number o
+pub value : (o : Option ℕ) (v : ℕ) → o ≡ Some v → Number.Value v ≡ as_number o
 unfolding as_number
 value o v e = rw e
 
-pub no_signed : (o : Option ℤ) → o ≡ none → Signed.Nothing ≡ as_signed o
+pub no_signed : (o : Option ℤ) → o ≡ None → Signed.Nothing ≡ as_signed o
 unfolding as_signed
 no_signed o e = rw e
 
-pub signed_value : (o : Option ℤ) (v : ℤ) → o ≡ some v → Signed.Value v ≡ as_signed o
+pub signed_value : (o : Option ℤ) (v : ℤ) → o ≡ Some v → Signed.Value v ≡ as_signed o
 unfolding as_signed
 signed_value o v e = rw e
 
 -- ---- limits
 
-pub up-to : (most v : ℕ) → v ≤ most → up_to most (some v) ≡ some v
+pub up-to : (most v : ℕ) → v ≤ most → up_to most (Some v) ≡ Some v
 unfolding up_to when◌then◌else◌
 up-to most v h = rw (le-leb v most h)
 
-pub past : (most v : ℕ) → most < v → up_to most (some v) ≡ none
+pub past : (most v : ℕ) → most < v → up_to most (Some v) ≡ None
 unfolding up_to when◌then◌else◌
 past most v h = rw (lt-leb v most h)
 
 module _ {A : Type 0} where
-  pub some_none : {a : A} → some a ≡ none → ⊥
+  pub some_none : {a : A} → Some a ≡ None → ⊥
   some_none {a} e = let z : ◌≡◌ {A = ℕ} 0 1 = cc in omega arith
 
   -- a test that lets something through
-  pub passed : (t : Bool) (o : Option A) (v : A) → when t then o else none ≡ some v → (t ≡ true) × (o ≡ some v)
+  pub passed : (t : Bool) (o : Option A) (v : A) → when t then o else None ≡ Some v → (t ≡ true) × (o ≡ Some v)
   unfolding when◌then◌else◌
   passed true o v e = (refl, e)
   passed false o v e = absurd (some_none (sym e))
 
 -- what is read within a limit is within it, and was read
-pub limited : (most : ℕ) (o : Option ℕ) (v : ℕ) → up_to most o ≡ some v → v ≤ most
+pub limited : (most : ℕ) (o : Option ℕ) (v : ℕ) → up_to most o ≡ Some v → v ≤ most
 unfolding up_to
-limited most none v e = absurd (some_none (sym e))
-limited most (some u) v e =
-    let k = passed (leb u most) (some u) v e in
+limited most None v e = absurd (some_none (sym e))
+limited most (Some u) v e =
+    let k = passed (leb u most) (Some u) v e in
     let h = leb-true u most k.0 in
-    let r : some u ≡ some v = k.1 in
+    let r : Some u ≡ Some v = k.1 in
     let q : u ≡ v = cc in
     omega arith
 
@@ -100,13 +100,13 @@ pub digit_high : (b : ℕ) → nine_digit < b → is_digit b ≡ false
 unfolding is_digit ◌and◌
 digit_high b h = rw (le-leb zero_digit b (omega arith), lt-leb b nine_digit h)
 
-past_if : (t : Bool) (most : ℕ) (o : Option ℕ) → up_to most o ≡ none → up_to most (when t then o else none) ≡ none
+past_if : (t : Bool) (most : ℕ) (o : Option ℕ) → up_to most o ≡ None → up_to most (when t then o else None) ≡ None
 unfolding up_to when◌then◌else◌
 past_if true most o e = e
 past_if false most o e = refl
 
 -- once past the limit, no digit leads back
-pub stays_past : (most v : ℕ) (bs : List ℕ) → most < v → up_to most (digits_after v bs) ≡ none
+pub stays_past : (most v : ℕ) (bs : List ℕ) → most < v → up_to most (digits_after v bs) ≡ None
 unfolding digits_after
 stays_past most v [] h = past most v h
 stays_past most v (b ∷ bs) h =
@@ -114,14 +114,14 @@ stays_past most v (b ∷ bs) h =
 
 -- one byte of a field, read after those that said v
 module _ (most v : ℕ) (l : List ℕ) (i : ℕ) (h : i < length l) where
-  stop : is_digit (get_or l i 0) ≡ false → up_to most (digits_after v (drop i l)) ≡ none
+  stop : is_digit (get_or l i 0) ≡ false → up_to most (digits_after v (drop i l)) ≡ None
   unfolding digits_after up_to when◌then◌else◌
   stop e = rw (drop-cons l i 0 h, e)
 
-  pub stop_low : get_or l i 0 < zero_digit → up_to most (digits_after v (drop i l)) ≡ none
+  pub stop_low : get_or l i 0 < zero_digit → up_to most (digits_after v (drop i l)) ≡ None
   stop_low k = stop (digit_low (get_or l i 0) k)
 
-  pub stop_high : nine_digit < get_or l i 0 → up_to most (digits_after v (drop i l)) ≡ none
+  pub stop_high : nine_digit < get_or l i 0 → up_to most (digits_after v (drop i l)) ≡ None
   stop_high k = stop (digit_high (get_or l i 0) k)
 
   pub go_on : zero_digit ≤ get_or l i 0 → get_or l i 0 ≤ nine_digit
@@ -130,27 +130,27 @@ module _ (most v : ℕ) (l : List ℕ) (i : ℕ) (h : i < length l) where
   go_on j k = rw (drop-cons l i 0 h, digit_yes (get_or l i 0) j k, add-one)
 
   pub stop_large : zero_digit ≤ get_or l i 0 → get_or l i 0 ≤ nine_digit → most < v * 10 + (get_or l i 0 - zero_digit)
-      → up_to most (digits_after v (drop i l)) ≡ none
+      → up_to most (digits_after v (drop i l)) ≡ None
   stop_large j k m = go_on j k ∙ stays_past most (v * 10 + (get_or l i 0 - zero_digit)) (drop (i + 1) l) m
 
-pub digits_end : (most v : ℕ) (l : List ℕ) (i : ℕ) → length l ≤ i → v ≤ most → up_to most (digits_after v (drop i l)) ≡ some v
+pub digits_end : (most v : ℕ) (l : List ℕ) (i : ℕ) → length l ≤ i → v ≤ most → up_to most (digits_after v (drop i l)) ≡ Some v
 unfolding digits_after
 digits_end most v l i h k = rw (drop_of_length-le l h) (up-to most v k)
 
 -- ---- whole fields
 
-pub no_bytes : (l : List ℕ) → length l ≡ 0 → numeral l ≡ none
+pub no_bytes : (l : List ℕ) → length l ≡ 0 → numeral l ≡ None
 unfolding numeral
 no_bytes [] e = refl
 no_bytes (b ∷ l) e = absurd (omega arith)
 
-pub only_zero : (l : List ℕ) → get_or l 0 0 ≡ zero_digit → length l ≡ 1 → numeral l ≡ some 0
+pub only_zero : (l : List ℕ) → get_or l 0 0 ≡ zero_digit → length l ≡ 1 → numeral l ≡ Some 0
 unfolding numeral zero_then when◌then◌else◌
 only_zero [] e k = absurd (omega arith)
 only_zero (b ∷ []) e k = rw (eq-eqb b zero_digit e)
 only_zero (b ∷ d ∷ l) e k = absurd (omega arith)
 
-pub leading_zero : (l : List ℕ) → get_or l 0 0 ≡ zero_digit → (length l ≡ 1 → ⊥) → numeral l ≡ none
+pub leading_zero : (l : List ℕ) → get_or l 0 0 ≡ zero_digit → (length l ≡ 1 → ⊥) → numeral l ≡ None
 unfolding numeral zero_then when◌then◌else◌
 leading_zero [] e k = refl
 leading_zero (b ∷ []) e k = absurd (k refl)
@@ -165,26 +165,26 @@ no_leading_zero (b ∷ l) h e = rw (ne_eqb b zero_digit e)
 
 module _ {A B : Type 0} (f : Option A → Option B) where
   -- what keeps nothing as it is goes through a test
-  through : (t : Bool) (a : A) (b : B) → f (some a) ≡ some b → f none ≡ none → when t then some b else none ≡ f (when t then some a else none)
+  through : (t : Bool) (a : A) (b : B) → f (Some a) ≡ Some b → f None ≡ None → when t then Some b else None ≡ f (when t then Some a else None)
   unfolding when◌then◌else◌
   through true a b e z = sym e
   through false a b e z = sym z
 
 pub plus_limit : (o : Option ℕ) → in64 (plus o) ≡ plus (up_to greatest_total o)
 unfolding in64 plus up_to
-plus_limit none = refl
-plus_limit (some n) = through plus (leb n greatest_total) n (pos n) refl refl
+plus_limit None = refl
+plus_limit (Some n) = through plus (leb n greatest_total) n (pos n) refl refl
 
 pub minus_limit : (o : Option ℕ) → in64 (minus o) ≡ minus (up_to least_total_size o)
 unfolding in64 minus up_to when◌then◌else◌
-minus_limit none = refl
-minus_limit (some zero) = refl
-minus_limit (some (suc n)) = through minus (leb (suc n) least_total_size) (suc n) (negsuc n) refl refl
+minus_limit None = refl
+minus_limit (Some zero) = refl
+minus_limit (Some (suc n)) = through minus (leb (suc n) least_total_size) (suc n) (negsuc n) refl refl
 
-pub minus_some : (n : ℕ) → 0 < n → minus (some n) ≡ some (negsuc (n - 1))
+pub minus_some : (n : ℕ) → 0 < n → minus (Some n) ≡ Some (negsuc (n - 1))
 unfolding minus
 minus_some zero h = absurd (omega arith)
-minus_some (suc n) h = let e : n ≡ suc n - 1 = omega arith in ap (λ (k : ℕ). some (negsuc k)) e
+minus_some (suc n) h = let e : n ≡ suc n - 1 = omega arith in ap (λ (k : ℕ). Some (negsuc k)) e
 
 pub signed_minus : (l : List ℕ) → 0 < length l → get_or l 0 0 ≡ minus_sign → signed_numeral l ≡ minus (numeral (drop 1 l))
 unfolding signed_numeral when◌then◌else◌
@@ -196,7 +196,7 @@ unfolding signed_numeral when◌then◌else◌
 signed_plus [] h e = absurd (omega arith)
 signed_plus (b ∷ l) h e = rw (ne_eqb b minus_sign e)
 
-pub signed_empty : (l : List ℕ) → length l ≡ 0 → signed_numeral l ≡ none
+pub signed_empty : (l : List ℕ) → length l ≡ 0 → signed_numeral l ≡ None
 unfolding signed_numeral
 signed_empty [] e = refl
 signed_empty (b ∷ l) e = absurd (omega arith)

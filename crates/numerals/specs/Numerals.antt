@@ -1,8 +1,7 @@
 -- Which bytes are a decimal number. 01, The driver: "in decimal"; "Numbers have no leading zeros; a total may start
 -- with a minus, but -0 is no number"; 02, No. 1: "an amount being ranged and read like a total". Rests on the bytes by
 -- name and on the tests of the machine's specs/Choice.
-use Rattle.std.specs.Prelude.{ℕ, zero, suc, ◌+◌, ◌-◌, ◌*◌, ◌^◌, Bool, List, [], ◌∷◌, leb, eqb, ℤ, pos, negsuc}
-use Rattle.std.proofs.Math.Option.{Option, none, some}
+use Rattle.std.specs.Prelude.{ℕ, zero, suc, ◌+◌, ◌-◌, ◌*◌, ◌^◌, Bool, List, [], ◌∷◌, leb, eqb, ℤ, pos, negsuc, Option, Some, None}
 use Rattle.machine.specs.Choice.{when◌then◌else◌, ◌and◌}
 use Rattle.decimals.specs.Ascii.{minus_sign, zero_digit, nine_digit}
 use Rattle.numerals.specs.declared.Number.{Number}
@@ -17,43 +16,43 @@ is_digit b = leb zero_digit b and leb b nine_digit
 
 -- what the digits say after those that said v; nothing where a byte is no digit
 unfoldable pub digits_after : ℕ → List ℕ → Option ℕ
-digits_after v [] = some v
-digits_after v (b ∷ bs) = when is_digit b then digits_after (v * 10 + (b - zero_digit)) bs else none
+digits_after v [] = Some v
+digits_after v (b ∷ bs) = when is_digit b then digits_after (v * 10 + (b - zero_digit)) bs else None
 
 -- a zero is a number by itself only
 unfoldable pub zero_then : List ℕ → Option ℕ
-zero_then [] = some 0
-zero_then (b ∷ bs) = none
+zero_then [] = Some 0
+zero_then (b ∷ bs) = None
 
 -- the number that the bytes are in decimal, if they are one: a digit at least, and no leading zero
 unfoldable pub numeral : List ℕ → Option ℕ
-numeral [] = none
+numeral [] = None
 numeral (b ∷ bs) = when eqb b zero_digit then zero_then bs else digits_after 0 (b ∷ bs)
 
 unfoldable pub plus : Option ℕ → Option ℤ
-plus none = none
-plus (some n) = some (pos n)
+plus None = None
+plus (Some n) = Some (pos n)
 
 -- "-0 is no number"
 unfoldable pub minus : Option ℕ → Option ℤ
-minus none = none
-minus (some zero) = none
-minus (some (suc n)) = some (negsuc n)
+minus None = None
+minus (Some zero) = None
+minus (Some (suc n)) = Some (negsuc n)
 
 -- "a total may start with a minus"
 unfoldable pub signed_numeral : List ℕ → Option ℤ
-signed_numeral [] = none
+signed_numeral [] = None
 signed_numeral (b ∷ bs) = when eqb b minus_sign then minus (numeral bs) else plus (numeral (b ∷ bs))
 
 -- ---- ranges
 
 unfoldable pub up_to : ℕ → Option ℕ → Option ℕ
-up_to most none = none
-up_to most (some v) = when leb v most then some v else none
+up_to most None = None
+up_to most (Some v) = when leb v most then Some v else None
 
 unfoldable pub from : ℕ → Option ℕ → Option ℕ
-from least none = none
-from least (some v) = when leb least v then some v else none
+from least None = None
+from least (Some v) = when leb least v then Some v else None
 
 -- "a total a 64-bit signed number": the greatest, and the size of the least
 abbrev pub greatest_total : ℕ
@@ -63,21 +62,21 @@ abbrev pub least_total_size : ℕ
 least_total_size = 2 ^ 63
 
 unfoldable pub in64 : Option ℤ → Option ℤ
-in64 none = none
-in64 (some (pos n)) = when leb n greatest_total then some (pos n) else none
-in64 (some (negsuc n)) = when leb (suc n) least_total_size then some (negsuc n) else none
+in64 None = None
+in64 (Some (pos n)) = when leb n greatest_total then Some (pos n) else None
+in64 (Some (negsuc n)) = when leb (suc n) least_total_size then Some (negsuc n) else None
 
 -- ---- the same in the source's enums
 
 unfoldable pub as_number : Option ℕ → Number
-as_number none = Number.Nothing
-as_number (some n) = Number.Value n
+as_number None = Number.Nothing
+as_number (Some n) = Number.Value n
 
 unfoldable pub as_pair : Option ℕ → Option ℕ → Pair
-as_pair none n = Pair.Nothing
-as_pair (some m) none = Pair.Nothing
-as_pair (some m) (some n) = Pair.Values m n
+as_pair None n = Pair.Nothing
+as_pair (Some m) None = Pair.Nothing
+as_pair (Some m) (Some n) = Pair.Values m n
 
 unfoldable pub as_signed : Option ℤ → Signed
-as_signed none = Signed.Nothing
-as_signed (some z) = Signed.Value z
+as_signed None = Signed.Nothing
+as_signed (Some z) = Signed.Value z

@@ -6,7 +6,7 @@ use native.Mathlib.Omega.{arith}
 use mathlib.Core.Path.{◌≡◌, refl, ap, sym, ◌∙◌}
 use mathlib.Core.Bool.{Bool, true, false, not, ◌||◌}
 use mathlib.Core.List.{List, [], ◌∷◌}
-use mathlib.Core.Option.{Option, none, some}
+use Rattle.std.specs.Prelude.{Option, Some, None}
 use lib.Dec.{ltb, leb, eqb}
 use lib.ListN.{length, drop, replicate, length-map}
 use lib.IntN.{ℤ}
@@ -144,8 +144,8 @@ lookup_never l s p (suc k) e = ended_never l p (suc k) _ _ e
 
 check_never : (l : List ℕ) (p k c : ℕ) (o : Option Answer) {r : Refusal} → (check_at l p k c o).1 ≡ Stepped.Refused r → ⊥
 unfolding check_at
-check_never l p k c none e = moved_never e
-check_never l p k c (some a) e = ended_never l p k c a e
+check_never l p k c None e = moved_never e
+check_never l p k c (Some a) e = ended_never l p k c a e
 
 update_never : (l : List ℕ) (s : Settings) (p w k : ℕ) (f : Phase) {r : Refusal} → (update_at l s p w k f).1 ≡ Stepped.Refused r → ⊥
 unfolding update_at

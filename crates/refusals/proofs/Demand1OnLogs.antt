@@ -3,7 +3,7 @@ use Prim.Native.Nat.{ℕ}
 use native.Mathlib.Omega.{arith}
 use mathlib.Core.Path.{◌≡◌, refl, sym, ap, ◌∙◌, subst}
 use mathlib.Core.List.{List}
-use mathlib.Core.Option.{none, some}
+use Rattle.std.specs.Prelude.{Some, None}
 use lib.ListN.{length}
 use borrow.Author.Tests.{ltb-false}
 use Rattle.interface.specs.declared.Refusal.{Refusal}
@@ -42,7 +42,7 @@ module _ (l : List ℕ) (b M : ℕ) (order : List ℕ) where
   after = (check_log_words l b M order).0
 
   -- no check comes out true, and the verdict is no refusal
-  unrefused : (v : Verdict) → ((r : Refusal) → v ≡ Verdict.Refused r → ⊥) → refusal l b M (length order) ≡ none
+  unrefused : (v : Verdict) → ((r : Refusal) → v ≡ Verdict.Refused r → ⊥) → refusal l b M (length order) ≡ None
       → RefusedBy Verdict.Refused (log_checks l b M order) order (after, v)
   unrefused v never e =
       record {
@@ -56,7 +56,7 @@ module _ (l : List ℕ) (b M : ℕ) (order : List ℕ) where
   by_verdict Verdict.No h = unrefused Verdict.No no_never h.0
   by_verdict (Verdict.Refused s) h =
       record {
-        bad = λ r e. let q : some s ≡ some r = sym h.0 ∙ sym (same_checks l b M order) ∙ e in cc;
+        bad = λ r e. let q : Some s ≡ Some r = sym h.0 ∙ sym (same_checks l b M order) ∙ e in cc;
         other = λ e _. none_some (sym (same_checks l b M order) ∙ e) h.0;
         kept = λ _. h.1;
       }

@@ -1,7 +1,6 @@
 -- Document 01's checks, for any words: each under its number, those of each call in their order, and what it is for a
 -- call to be turned down by them. Rests on the header, on a worker's words and on the listing's rows.
-use Rattle.std.specs.Prelude.{ℕ, ◌+◌, ◌≡◌, Bool, not, ◌||◌, ◌&&◌, List, [], ◌∷◌, ltb, leb, eqb, length, ℤ}
-use Rattle.std.proofs.Math.Option.{Option, none, some}
+use Rattle.std.specs.Prelude.{ℕ, ◌+◌, ◌≡◌, Bool, not, ◌||◌, ◌&&◌, List, [], ◌∷◌, ltb, leb, eqb, length, ℤ, Option, Some, None}
 use Rattle.interface.specs.Limits.{in_range, greatest_ticket}
 use Rattle.interface.specs.Numbers.{kind_none, kind_insert, kind_delete, kind_lookup, kind_post}
 use Rattle.interface.specs.declared.Refusal.{Refusal}
@@ -89,8 +88,8 @@ listing_checks l accounts totals = check8 l ∷ check10 l accounts totals ∷ []
 
 -- the refusal of the first check whose test comes out true
 unfoldable pub refusal_by : List Check → Option Refusal
-refusal_by [] = none
-refusal_by (c ∷ cs) = when c.0 then some c.1 else refusal_by cs
+refusal_by [] = None
+refusal_by (c ∷ cs) = when c.0 then Some c.1 else refusal_by cs
 
 -- ---- turned down by them
 
@@ -99,8 +98,8 @@ refusal_by (c ∷ cs) = when c.0 then some c.1 else refusal_by cs
 pub record TurnedDown {L A : Type 0} (refused : Refusal → A) (Refuses : A → Type 0) (checks : List Check) (lent : L)
     (x : L × A) : Type 0 where
   -- "Every bad call is refused under its number"
-  pub bad : (r : Refusal) → refusal_by checks ≡ some r → x.1 ≡ refused r
+  pub bad : (r : Refusal) → refusal_by checks ≡ Some r → x.1 ≡ refused r
   -- and no other is refused
-  pub other : refusal_by checks ≡ none → Refuses x.1 → ⊥
+  pub other : refusal_by checks ≡ None → Refuses x.1 → ⊥
   -- "All but 9 change no memory and no list."
   pub kept : Refuses x.1 → x.0 ≡ lent

@@ -7,7 +7,7 @@ use mathlib.Core.Path.{◌≡◌, refl, sym, ◌∙◌}
 use mathlib.Core.Logic.{◌≢◌, by_cases}
 use mathlib.Core.Bool.{Bool, true, false}
 use mathlib.Core.List.{List}
-use mathlib.Core.Option.{Option, none, some}
+use Rattle.std.specs.Prelude.{Option, Some, None}
 use lib.IntN.{ℤ}
 use lib.ListN.{set}
 use mir.Syntax.{w64}
@@ -21,11 +21,11 @@ use Rattle.replay.proofs.Alone.{crowding_unused}
 
 -- ---- balances in words
 
-pub balance_there : (there total : ℕ) → there ≢ 0 → balance_of there total ≡ some (to_z w64 total)
+pub balance_there : (there total : ℕ) → there ≢ 0 → balance_of there total ≡ Some (to_z w64 total)
 unfolding balance_of
 balance_there there total e = if_ne there 0 _ _ e
 
-pub balance_missing : (there total : ℕ) → there ≡ 0 → balance_of there total ≡ none
+pub balance_missing : (there total : ℕ) → there ≡ 0 → balance_of there total ≡ None
 unfolding balance_of
 balance_missing there total e = if_eq there 0 _ _ e
 
@@ -44,27 +44,27 @@ module _ (x : List ℕ) (j : ℕ) where
       (still : Bool) (o : Option (Option ℤ)) (there total : ℕ) → as_outcome still o ≡ Balance there total
       → record { fits = true; balances = set (set x (j * 2) there) (j * 2 + 1) total } ≡ as_replayed x (put_if x j still o)
   unfolding as_outcome as_replayed put_if put_balance put_words
-  after_balance still none there total e = absurd (let z : ◌≡◌ {A = ℕ} 0 1 = cc in omega arith)
-  after_balance true (some s) there total e = absurd (let z : ◌≡◌ {A = ℕ} 0 1 = cc in omega arith)
-  after_balance false (some none) there total e =
+  after_balance still None there total e = absurd (let z : ◌≡◌ {A = ℕ} 0 1 = cc in omega arith)
+  after_balance true (Some s) there total e = absurd (let z : ◌≡◌ {A = ℕ} 0 1 = cc in omega arith)
+  after_balance false (Some None) there total e =
       let p : 0 ≡ there = cc in let q : 0 ≡ total = cc in rw (← p, ← q)
-  after_balance false (some (some v)) there total e =
+  after_balance false (Some (Some v)) there total e =
       let p : 1 ≡ there = cc in let q : of_z w64 v ≡ total = cc in rw (← p, ← q)
 
   pub after_nothing :
       (still : Bool) (o : Option (Option ℤ)) → as_outcome still o ≡ Unchanged
       → record { fits = true; balances = x } ≡ as_replayed x (put_if x j still o)
   unfolding as_outcome as_replayed put_if
-  after_nothing still none e = absurd (let z : ◌≡◌ {A = ℕ} 0 1 = cc in omega arith)
-  after_nothing true (some s) e = refl
-  after_nothing false (some none) e = absurd (let z : ◌≡◌ {A = ℕ} 0 1 = cc in omega arith)
-  after_nothing false (some (some v)) e = absurd (let z : ◌≡◌ {A = ℕ} 0 1 = cc in omega arith)
+  after_nothing still None e = absurd (let z : ◌≡◌ {A = ℕ} 0 1 = cc in omega arith)
+  after_nothing true (Some s) e = refl
+  after_nothing false (Some None) e = absurd (let z : ◌≡◌ {A = ℕ} 0 1 = cc in omega arith)
+  after_nothing false (Some (Some v)) e = absurd (let z : ◌≡◌ {A = ℕ} 0 1 = cc in omega arith)
 
   pub after_another :
       (still : Bool) (o : Option (Option ℤ)) → as_outcome still o ≡ Another
       → record { fits = false; balances = x } ≡ as_replayed x (put_if x j still o)
   unfolding as_outcome as_replayed put_if
-  after_another still none e = refl
-  after_another true (some s) e = absurd (let z : ◌≡◌ {A = ℕ} 0 1 = cc in omega arith)
-  after_another false (some none) e = absurd (let z : ◌≡◌ {A = ℕ} 0 1 = cc in omega arith)
-  after_another false (some (some v)) e = absurd (let z : ◌≡◌ {A = ℕ} 0 1 = cc in omega arith)
+  after_another still None e = refl
+  after_another true (Some s) e = absurd (let z : ◌≡◌ {A = ℕ} 0 1 = cc in omega arith)
+  after_another false (Some None) e = absurd (let z : ◌≡◌ {A = ℕ} 0 1 = cc in omega arith)
+  after_another false (Some (Some v)) e = absurd (let z : ◌≡◌ {A = ℕ} 0 1 = cc in omega arith)

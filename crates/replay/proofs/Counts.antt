@@ -6,7 +6,7 @@ use mathlib.Core.Path.{◌≡◌, refl, sym, ap, ◌∙◌, subst}
 use mathlib.Core.Logic.{◌≢◌, by_cases}
 use mathlib.Core.Bool.{Bool, true, false}
 use mathlib.Core.List.{List, [], ◌∷◌}
-use mathlib.Core.Option.{Option, none, some}
+use Rattle.std.specs.Prelude.{Option, Some, None}
 use lib.Dec.{eqb}
 use lib.IntN.{ℤ}
 use lib.ListN.{length, get_or, set, length-set}
@@ -24,27 +24,27 @@ use Rattle.replay.specs.Balances.{account_logged, there_at, total_at, balance_of
 
 -- the update that leaves so much at the account
 abbrev pub leaving : ℕ → Option ℤ → Update
-leaving a none = delete a
-leaving a (some v) = insert a v
+leaving a None = delete a
+leaving a (Some v) = insert a v
 
 abbrev pub with_total : Table → ℕ → Option ℤ → Table
 with_total t a s = changed (leaving a s) t
 
 pub find_with_at : (t : Table) (a : ℕ) (s : Option ℤ) → Ascending t → find (with_total t a s) a ≡ s
 unfolding changed
-find_with_at t a none h = find_remove_at t a h
-find_with_at t a (some v) h = find_put_at t a v
+find_with_at t a None h = find_remove_at t a h
+find_with_at t a (Some v) h = find_put_at t a v
 
 pub find_with_other : (t : Table) (a : ℕ) (s : Option ℤ) (c : ℕ) → c ≢ a → find (with_total t a s) c ≡ find t c
-find_with_other t a none c n = find_changed_other (delete a) t c n
-find_with_other t a (some v) c n = find_changed_other (insert a v) t c n
+find_with_other t a None c n = find_changed_other (delete a) t c n
+find_with_other t a (Some v) c n = find_changed_other (insert a v) t c n
 
 -- ---- how many accounts a table has
 
 -- one where it is there
 abbrev pub number : Option ℤ → ℕ
-number none = 0
-number (some v) = 1
+number None = 0
+number (Some v) = 1
 
 length_put : (t : Table) (a : ℕ) (v : ℤ) → Ascending t → length (put t a v) + number (find t a) ≡ length t + 1
 unfolding put find
@@ -53,22 +53,22 @@ length_put (e ∷ t) a v h =
     lt_elim P a e.0 ((a, v) ∷ e ∷ t) (when eqb a e.0 then (a, v) ∷ t else e ∷ put t a v)
     (λ l. rw (other (λ q. omega arith), find_above e.0 t a (omega arith) h.0) (omega arith))
     (λ l. eq_elim P a e.0 ((a, v) ∷ t) (e ∷ put t a v)
-    (λ q. rw (if_eq e.0 a (some e.1) (find t a) (sym q)) (omega arith))
+    (λ q. rw (if_eq e.0 a (Some e.1) (find t a) (sym q)) (omega arith))
     (λ n. rw (other (λ q. n (sym q))) (omega (arith, length_put t a v h.1))))
   where
     P : Table → Type 0
     P z = length z + number (find (e ∷ t) a) ≡ suc (length t) + 1
 
     other : e.0 ≢ a → find (e ∷ t) a ≡ find t a
-    other n = if_ne e.0 a (some e.1) (find t a) n
+    other n = if_ne e.0 a (Some e.1) (find t a) n
 
 length_remove : (t : Table) (a : ℕ) → length (remove t a) + number (find t a) ≡ length t + 0
 unfolding remove find
 length_remove [] a = refl
 length_remove (e ∷ t) a =
     eq_elim (λ (z : Table). length z + number (find (e ∷ t) a) ≡ suc (length t) + 0) e.0 a t (e ∷ remove t a)
-    (λ q. rw (if_eq e.0 a (some e.1) (find t a) q) (omega arith))
-    (λ n. rw (if_ne e.0 a (some e.1) (find t a) n) (omega (arith, length_remove t a)))
+    (λ q. rw (if_eq e.0 a (Some e.1) (find t a) q) (omega arith))
+    (λ n. rw (if_ne e.0 a (Some e.1) (find t a) n) (omega (arith, length_remove t a)))
 
 -- ---- how many of them have these first bits
 
@@ -99,20 +99,20 @@ pub length_having_with :
     (M q : ℕ) (t : Table) (a : ℕ) (s : Option ℤ) → Ascending t
     → length (having M q (with_total t a s)) + among M q a (number (find t a)) ≡ length (having M q t) + among M q a (number s)
 unfolding changed
-length_having_with M q t a none h = length_having M q 0 (delete a) t h (λ t h. length_remove t a)
-length_having_with M q t a (some v) h = length_having M q 1 (insert a v) t h (λ t h. length_put t a v h)
+length_having_with M q t a None h = length_having M q 0 (delete a) t h (λ t h. length_remove t a)
+length_having_with M q t a (Some v) h = length_having M q 1 (insert a v) t h (λ t h. length_put t a v h)
 
 -- ---- balances put
 
 -- the total comes back from its word
 abbrev pub Kept : Option ℤ → Type 0
-Kept none = Unit {0}
-Kept (some v) = to_z w64 (of_z w64 v) ≡ v
+Kept None = Unit {0}
+Kept (Some v) = to_z w64 (of_z w64 v) ≡ v
 
 pub length_put_balance : (x : List ℕ) (j : ℕ) (s : Option ℤ) → length (put_balance x j s) ≡ length x
 unfolding put_balance put_words
-length_put_balance x j none = length-set (set x (j * 2) 0) (j * 2 + 1) 0 ∙ length-set x (j * 2) 0
-length_put_balance x j (some v) = length-set (set x (j * 2) 1) (j * 2 + 1) (of_z w64 v) ∙ length-set x (j * 2) 1
+length_put_balance x j None = length-set (set x (j * 2) 0) (j * 2 + 1) 0 ∙ length-set x (j * 2) 0
+length_put_balance x j (Some v) = length-set (set x (j * 2) 1) (j * 2 + 1) (of_z w64 v) ∙ length-set x (j * 2) 1
 
 balance_words_at :
     (x : List ℕ) (j there total : ℕ) → j * 2 + 1 < length x → balance_at (put_words x j there total) j ≡ balance_of there total
@@ -136,13 +136,13 @@ balance_words_other x j there total k n = λ i. balance_of (away (k * 2) (λ e. 
 
 pub balance_put_at : (x : List ℕ) (j : ℕ) (s : Option ℤ) → Kept s → j * 2 + 1 < length x → balance_at (put_balance x j s) j ≡ s
 unfolding put_balance balance_of when◌then◌else◌
-balance_put_at x j none k l = balance_words_at x j 0 0 l
-balance_put_at x j (some v) k l = balance_words_at x j 1 (of_z w64 v) l ∙ ap some k
+balance_put_at x j None k l = balance_words_at x j 0 0 l
+balance_put_at x j (Some v) k l = balance_words_at x j 1 (of_z w64 v) l ∙ ap Some k
 
 pub balance_put_other : (x : List ℕ) (j : ℕ) (s : Option ℤ) (k : ℕ) → k ≢ j → balance_at (put_balance x j s) k ≡ balance_at x k
 unfolding put_balance
-balance_put_other x j none k n = balance_words_other x j 0 0 k n
-balance_put_other x j (some v) k n = balance_words_other x j 1 (of_z w64 v) k n
+balance_put_other x j None k n = balance_words_other x j 0 0 k n
+balance_put_other x j (Some v) k n = balance_words_other x j 1 (of_z w64 v) k n
 
 -- ---- how many balances there are with these first bits
 
@@ -155,7 +155,7 @@ module _ (l : List ℕ) (M q : ℕ) where
     where
       go :
           (p r : Bool) (k : ℕ) (v : ℤ)
-          → when p then k else when r then suc k else k ≡ k + (when r then number (when p then none else some v) else 0)
+          → when p then k else when r then suc k else k ≡ k + (when r then number (when p then None else Some v) else 0)
       go true true k v = omega arith
       go true false k v = omega arith
       go false true k v = omega arith

@@ -6,7 +6,7 @@ use mathlib.Core.Path.{◌≡◌, refl, sym, ap, ◌∙◌}
 use mathlib.Core.Logic.{◌≢◌}
 use mathlib.Core.Bool.{Bool, true, false, ◌&&◌}
 use mathlib.Core.List.{List}
-use mathlib.Core.Option.{Option, none, some}
+use Rattle.std.specs.Prelude.{Option, Some, None}
 use lib.Dec.{eqb}
 use lib.IntN.{ℤ, pos, ◌+ℤ◌}
 use mir.Syntax.{w64}
@@ -15,7 +15,8 @@ use mir.Facts.{of_z-to_z, sfits_to_z}
 use borrow.Author.Tests.{eqb-true, ne_eqb}
 use Rattle.interface.specs.Numbers.{answer_number, answer_total, kind_insert, kind_delete, kind_lookup, kind_post}
 use Rattle.interface.specs.declared.Answer.{Answer}
-use Rattle.interface.specs.declared.Answer.TheVariants.{Added, Replaced, Removed, Absent, Found, None, Posted, Crowded, Overrun}
+use Rattle.interface.specs.declared.Answer.TheVariants.{Added, Replaced, Removed, Absent, Found, Posted, Crowded, Overrun}
+use Rattle.interface.specs.declared.Answer.TheVariants as Answer
 use Rattle.machine.specs.Choice.{when◌then◌else◌, ◌and◌}
 use Rattle.machine.specs.Sequential.{Operation, update, lookup, insert, delete, post, total_or0, is_total, looked}
 use Rattle.machine.specs.Calls.{operation_of}
@@ -65,7 +66,7 @@ is_answer_total l i w = eqb (word_at l i logged_answer_total) w
 
 -- what an answer makes of the balance, if it is the one logged
 unfoldable afterwards : Answer → Option ℤ → Outcome
-afterwards r s = as_outcome (is_still (answer_base + answer_number r)) (some s)
+afterwards r s = as_outcome (is_still (answer_base + answer_number r)) (Some s)
 
 -- ---- a sum, by what `sum_of` answers
 
@@ -92,25 +93,25 @@ module _ (l : List ℕ) (i : ℕ) where
   given r s = go (gives (logged_at l i) r) refl
     where
       go : (t : Bool) → gives (logged_at l i) r ≡ t
-          → as_outcome (still_at l i) (when t then some s else none) ≡ when t then afterwards r s else Another
-      go true e = ap (λ (z : ℕ). as_outcome (is_still z) (some s)) (eqb-true _ _ (and_parts _ _ e).0)
+          → as_outcome (still_at l i) (when t then Some s else None) ≡ when t then afterwards r s else Another
+      go true e = ap (λ (z : ℕ). as_outcome (is_still z) (Some s)) (eqb-true _ _ (and_parts _ _ e).0)
       go false e = refl
 
   -- an operation, its answer and the balance afterwards: an answer without a total, and one with a total
   module _
-      (crowded : Bool) (s t : Option ℤ) (o : Operation) (r : Answer) (is : operation_at l i ≡ some o)
+      (crowded : Bool) (s t : Option ℤ) (o : Operation) (r : Answer) (is : operation_at l i ≡ Some o)
       (serves : served_alone crowded o s ≡ (r, t))
     where
       served : outcome_at l i crowded s ≡ when gives (logged_at l i) r then afterwards r t else Another
       unfolding outcome_of outcome_if logged_at
       served = rw (is, serves) (given r t)
 
-      plain : answer_total r ≡ none → outcome_at l i crowded s ≡ when is_answer l i r then afterwards r t else Another
+      plain : answer_total r ≡ None → outcome_at l i crowded s ≡ when is_answer l i r then afterwards r t else Another
       unfolding gives logged_at same_total
       plain e = served ∙ rw (e, and_true_right (is_answer l i r))
 
       with-total :
-          (w : ℤ) → answer_total r ≡ some w → SFits w64 w → Fits w64 (word_at l i logged_answer_total)
+          (w : ℤ) → answer_total r ≡ Some w → SFits w64 w → Fits w64 (word_at l i logged_answer_total)
           → outcome_at l i crowded s ≡ when (is_answer l i r && is_answer_total l i (of_z w64 w)) then afterwards r t else Another
       unfolding gives logged_at same_total
       with-total w e f g =
@@ -119,7 +120,7 @@ module _ (l : List ℕ) (i : ℕ) where
   -- ---- inserts
 
   module _ (is : word_at l i logged_kind ≡ kind_insert) (fits : Fits w64 (word_at l i logged_total)) where
-    insertion : operation_at l i ≡ some (update (insert (word_at l i logged_account) (total_logged l i)))
+    insertion : operation_at l i ≡ Some (update (insert (word_at l i logged_account) (total_logged l i)))
     unfolding operation_of when◌then◌else◌
     insertion = rw is
 
@@ -131,62 +132,62 @@ module _ (l : List ℕ) (i : ℕ) where
 
     pub insert_there :
         (crowded : Bool) (w : ℤ)
-        → outcome_at l i crowded (some w) ≡ when is_answer l i Replaced then Balance 1 (word_at l i logged_total) else Another
+        → outcome_at l i crowded (Some w) ≡ when is_answer l i Replaced then Balance 1 (word_at l i logged_total) else Another
     unfolding answer_total afterwards is_still as_outcome when◌then◌else◌
     insert_there crowded w =
-        plain crowded (some w) _ _ Replaced insertion (inserts_there _ _ crowded w) refl ∙ put_in (is_answer l i Replaced)
+        plain crowded (Some w) _ _ Replaced insertion (inserts_there _ _ crowded w) refl ∙ put_in (is_answer l i Replaced)
 
-    pub insert_crowded : outcome_at l i true none ≡ when is_answer l i Crowded then Unchanged else Another
+    pub insert_crowded : outcome_at l i true None ≡ when is_answer l i Crowded then Unchanged else Another
     unfolding answer_total afterwards is_still as_outcome when◌then◌else◌
-    insert_crowded = plain true none _ _ Crowded insertion (inserts_crowded _ _) refl
+    insert_crowded = plain true None _ _ Crowded insertion (inserts_crowded _ _) refl
 
-    pub insert_new : outcome_at l i false none ≡ when is_answer l i Added then Balance 1 (word_at l i logged_total) else Another
+    pub insert_new : outcome_at l i false None ≡ when is_answer l i Added then Balance 1 (word_at l i logged_total) else Another
     unfolding answer_total afterwards is_still as_outcome when◌then◌else◌
-    insert_new = plain false none _ _ Added insertion (inserts_new _ _) refl ∙ put_in (is_answer l i Added)
+    insert_new = plain false None _ _ Added insertion (inserts_new _ _) refl ∙ put_in (is_answer l i Added)
 
   -- ---- deletes and lookups
 
   module _ (is : word_at l i logged_kind ≡ kind_delete) (crowded : Bool) where
-    deletion : operation_at l i ≡ some (update (delete (word_at l i logged_account)))
+    deletion : operation_at l i ≡ Some (update (delete (word_at l i logged_account)))
     unfolding operation_of when◌then◌else◌
     deletion = rw is
 
-    pub delete_there : (w : ℤ) → outcome_at l i crowded (some w) ≡ when is_answer l i Removed then Balance 0 0 else Another
+    pub delete_there : (w : ℤ) → outcome_at l i crowded (Some w) ≡ when is_answer l i Removed then Balance 0 0 else Another
     unfolding answer_total afterwards is_still as_outcome when◌then◌else◌
-    delete_there w = plain crowded (some w) _ _ Removed deletion (deletes_there _ crowded w) refl
+    delete_there w = plain crowded (Some w) _ _ Removed deletion (deletes_there _ crowded w) refl
 
-    pub delete_missing : outcome_at l i crowded none ≡ when is_answer l i Absent then Unchanged else Another
+    pub delete_missing : outcome_at l i crowded None ≡ when is_answer l i Absent then Unchanged else Another
     unfolding answer_total afterwards is_still as_outcome when◌then◌else◌
-    delete_missing = plain crowded none _ _ Absent deletion (deletes_missing _ crowded) refl
+    delete_missing = plain crowded None _ _ Absent deletion (deletes_missing _ crowded) refl
 
   module _ (is : word_at l i logged_kind ≡ kind_lookup) (crowded : Bool) where
-    looking : operation_at l i ≡ some (lookup (word_at l i logged_account))
+    looking : operation_at l i ≡ Some (lookup (word_at l i logged_account))
     unfolding operation_of when◌then◌else◌
     looking = rw is
 
     pub lookup_there :
         (w : ℕ) → Fits w64 w → Fits w64 (word_at l i logged_answer_total)
-        → outcome_at l i crowded (some (to_z w64 w))
+        → outcome_at l i crowded (Some (to_z w64 w))
         ≡ when (is_answer l i (Found (pos 0)) && is_answer_total l i w) then Unchanged else Another
     unfolding answer_total afterwards is_still as_outcome when◌then◌else◌ served_alone looked
     lookup_there w f g =
-        with-total crowded (some (to_z w64 w)) _ _ (Found (to_z w64 w)) looking refl (to_z w64 w) refl (sfits_to_z f) g
+        with-total crowded (Some (to_z w64 w)) _ _ (Found (to_z w64 w)) looking refl (to_z w64 w) refl (sfits_to_z f) g
         ∙ rw (of_z-to_z {w = w64} {n = w} f)
 
-    pub lookup_missing : outcome_at l i crowded none ≡ when is_answer l i None then Unchanged else Another
+    pub lookup_missing : outcome_at l i crowded None ≡ when is_answer l i Answer.None then Unchanged else Another
     unfolding answer_total afterwards is_still as_outcome when◌then◌else◌ served_alone looked
-    lookup_missing = plain crowded none _ _ None looking refl refl
+    lookup_missing = plain crowded None _ _ Answer.None looking refl refl
 
   -- ---- posts
 
   module _ (is : word_at l i logged_kind ≡ kind_post) where
-    posting : operation_at l i ≡ some (update (post (word_at l i logged_account) (total_logged l i)))
+    posting : operation_at l i ≡ Some (update (post (word_at l i logged_account) (total_logged l i)))
     unfolding operation_of when◌then◌else◌
     posting = rw is
 
-    pub post_crowded : outcome_at l i true none ≡ when is_answer l i Crowded then Unchanged else Another
+    pub post_crowded : outcome_at l i true None ≡ when is_answer l i Crowded then Unchanged else Another
     unfolding answer_total afterwards is_still as_outcome when◌then◌else◌
-    post_crowded = plain true none _ _ Crowded posting (posts_crowded _ _) refl
+    post_crowded = plain true None _ _ Crowded posting (posts_crowded _ _) refl
 
     post_within :
         (s : Option ℤ) → Fits w64 (word_at l i logged_answer_total) → is_total (total_or0 s +ℤ total_logged l i) ≡ true
@@ -204,27 +205,27 @@ module _ (l : List ℕ) (i : ℕ) where
     post_outside s e = plain false s _ _ Overrun posting (posts_outside _ _ s e) refl
 
     -- an account that is not there starts from 0
-    pub post_new : outcome_at l i false none ≡ outcome_at l i false (some (pos 0))
+    pub post_new : outcome_at l i false None ≡ outcome_at l i false (Some (pos 0))
     unfolding total_or0
     post_new = go (is_total (pos 0 +ℤ total_logged l i)) refl
       where
-        go : (t : Bool) → is_total (pos 0 +ℤ total_logged l i) ≡ t → outcome_at l i false none ≡ outcome_at l i false (some (pos 0))
+        go : (t : Bool) → is_total (pos 0 +ℤ total_logged l i) ≡ t → outcome_at l i false None ≡ outcome_at l i false (Some (pos 0))
         go true e =
-            served false none _ _ (Posted (pos 0 +ℤ total_logged l i)) posting (posts_within _ _ none e)
-            ∙ sym (served false (some (pos 0)) _ _ (Posted (pos 0 +ℤ total_logged l i)) posting (posts_within _ _ (some (pos 0)) e))
-        go false e = post_outside none e ∙ sym (post_outside (some (pos 0)) e)
+            served false None _ _ (Posted (pos 0 +ℤ total_logged l i)) posting (posts_within _ _ None e)
+            ∙ sym (served false (Some (pos 0)) _ _ (Posted (pos 0 +ℤ total_logged l i)) posting (posts_within _ _ (Some (pos 0)) e))
+        go false e = post_outside None e ∙ sym (post_outside (Some (pos 0)) e)
 
     pub post_sum :
         (t s : ℕ) → sum_of t (word_at l i logged_total) ≡ Within s → Fits w64 (word_at l i logged_answer_total)
-        → outcome_at l i false (some (to_z w64 t)) ≡ when (is_answer l i (Posted (pos 0)) && is_answer_total l i s) then Balance 1 s else Another
+        → outcome_at l i false (Some (to_z w64 t)) ≡ when (is_answer l i (Posted (pos 0)) && is_answer_total l i s) then Balance 1 s else Another
     unfolding total_or0
-    post_sum t s e f = let h = sum_within t (word_at l i logged_total) s e in rw h.1 (post_within (some (to_z w64 t)) f h.0)
+    post_sum t s e f = let h = sum_within t (word_at l i logged_total) s e in rw h.1 (post_within (Some (to_z w64 t)) f h.0)
 
     pub post_overrun :
         (t : ℕ) → sum_of t (word_at l i logged_total) ≡ Outside
-        → outcome_at l i false (some (to_z w64 t)) ≡ when is_answer l i Overrun then Unchanged else Another
+        → outcome_at l i false (Some (to_z w64 t)) ≡ when is_answer l i Overrun then Unchanged else Another
     unfolding total_or0
-    post_overrun t e = post_outside (some (to_z w64 t)) (sum_outside t (word_at l i logged_total) e)
+    post_overrun t e = post_outside (Some (to_z w64 t)) (sum_outside t (word_at l i logged_total) e)
 
   -- ---- another kind
 

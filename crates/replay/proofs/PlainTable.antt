@@ -7,7 +7,7 @@ use mathlib.Core.Path.{◌≡◌, refl, sym, ap, ◌∙◌, subst}
 use mathlib.Core.Logic.{by_cases}
 use mathlib.Core.Bool.{Bool, true, false}
 use mathlib.Core.List.{List, []}
-use mathlib.Core.Option.{Option, none, some}
+use Rattle.std.specs.Prelude.{Option, Some, None}
 use lib.Dec.{eqb, leb, ltb}
 use lib.IntN.{ℤ, pos, negsuc}
 use lib.ListN.{length, get_or, replicate, get_or-replicate, get_or-eq_default}
@@ -43,9 +43,9 @@ pub record Means (l : List ℕ) (M : ℕ) (x : List ℕ) (t : Table) : Type 0 wh
   pub counted : (q : ℕ) → length (having M q t) ≡ agreeing l M q x (count_of l)
 
 module _ (l : List ℕ) (M : ℕ) where
-  no_balance : (j : ℕ) → balance_at (replicate 24 0) j ≡ none
+  no_balance : (j : ℕ) → balance_at (replicate 24 0) j ≡ None
   unfolding balance_at balance_of there_at
-  no_balance j = if_eq (get_or (replicate 24 0) (j * 2) 0) 0 none (some (to_z w64 (total_at (replicate 24 0) j))) (nothing (j * 2))
+  no_balance j = if_eq (get_or (replicate 24 0) (j * 2) 0) 0 None (Some (to_z w64 (total_at (replicate 24 0) j))) (nothing (j * 2))
     where
       nothing : (k : ℕ) → ◌≡◌ {A = ℕ} (get_or (replicate 24 0) k 0) 0
       nothing k =
@@ -114,8 +114,8 @@ module _ (l : List ℕ) (M : ℕ) where
 -- ---- a logged operation
 
 operation_elim :
-    (P : Option Operation → Type 0) (kind a : ℕ) (v : ℤ) → P (some (update (insert a v))) → P (some (update (delete a)))
-    → P (some (lookup a)) → P (some (update (post a v))) → P none → P (operation_of kind a v)
+    (P : Option Operation → Type 0) (kind a : ℕ) (v : ℤ) → P (Some (update (insert a v))) → P (Some (update (delete a)))
+    → P (Some (lookup a)) → P (Some (update (post a v))) → P None → P (operation_of kind a v)
 unfolding operation_of
 operation_elim P kind a v h₁ h₂ h₃ h₄ h₅ =
     if_elim P _ _ _ (λ e. h₁) (λ e. if_elim P _ _ _ (λ e. h₂) (λ e. if_elim P _ _ _ (λ e. h₃) (λ e. if_elim P _ _ _ (λ e. h₄) (λ e. h₅))))
@@ -141,12 +141,12 @@ module _ (l : List ℕ) (b M : ℕ) (few : count_of l ≤ 12) (x : List ℕ) (t 
       → OutcomeFits (given_alone (logged_at l i) (r, s)) (after_giving (logged_at l i) (r, t'))
   unfolding given_alone after_giving put_if gives still_at logged_at
   given_fit r s t' stays sets =
-      if_elim₂ OutcomeFits (gives (logged_at l i) r) (some s) none (some t') none
+      if_elim₂ OutcomeFits (gives (logged_at l i) r) (Some s) None (Some t') None
       (λ e. go (still_at l i) (ap is_still (eqb-true (word_at l i logged_answer) (answer_base + answer_number r) (and_parts _ _ e).0))) (λ e. tt)
     where
       go :
           (d : Bool) → d ≡ says_still r
-          → SameFit (Means l M) (put_if x (first_place l i) d (some s)) (some t')
+          → SameFit (Means l M) (put_if x (first_place l i) d (Some s)) (Some t')
       go true e = stays (sym e)
       go false e = sets (sym e)
 
@@ -160,7 +160,7 @@ module _ (l : List ℕ) (b M : ℕ) (few : count_of l ≤ 12) (x : List ℕ) (t 
   crowded_same a e =
       ap (leb b) (sym (m.counted (first_bits M (account_logged l i)))) ∙ ap (λ (a : ℕ). leb b (length (having M (first_bits M a) t))) e
 
-  update_fits : (u : Update) → account_logged l i ≡ account u → KeptBy u → OperationFits (some (update u))
+  update_fits : (u : Update) → account_logged l i ≡ account u → KeptBy u → OperationFits (Some (update u))
   unfolding outcome_if served_if serve is_still when◌then◌else◌
   update_fits u e k =
       rw (crowded_same (account u) e, alone_same _ u t _ m.ascending (ap (find t) (sym e) ∙ m.held i at))
@@ -178,13 +178,13 @@ module _ (l : List ℕ) (b M : ℕ) (few : count_of l ≤ 12) (x : List ℕ) (t 
           (λ p. rw (find_with_at t (account u) s m.ascending)
           (subst (λ (a : ℕ). Means l M (put_balance x (first_place l i) s) (with_total t a s)) e (put_means l M x t i s few at h m)))
 
-  lookup_fits : OperationFits (some (lookup (account_logged l i)))
+  lookup_fits : OperationFits (Some (lookup (account_logged l i)))
   unfolding outcome_if served_if serve served_alone looked is_still when◌then◌else◌
   lookup_fits = rw (m.held i at) (go (balance_at x (first_place l i)))
     where
       go : (s : Option ℤ) → OutcomeFits (given_alone (logged_at l i) (looked s, s)) (after_giving (logged_at l i) (looked s, t))
-      go none = given_fit (looked none) none t (λ _. m) (λ p. absurd (no_both refl p))
-      go (some v) = given_fit (looked (some v)) (some v) t (λ _. m) (λ p. absurd (no_both refl p))
+      go None = given_fit (looked None) None t (λ _. m) (λ p. absurd (no_both refl p))
+      go (Some v) = given_fit (looked (Some v)) (Some v) t (λ _. m) (λ p. absurd (no_both refl p))
 
   -- a logged operation fits the balances exactly where it fits the table, and leaves balances that mean the table left
   pub replay_means : SameFit (Means l M) (replayed l b M x i) (served_at b M (log_of l) t i)
@@ -196,10 +196,10 @@ module _ (l : List ℕ) (b M : ℕ) (few : count_of l ≤ 12) (x : List ℕ) (t 
 
 -- ---- an answer that says that the table stayed as it was
 
-pub still_keeps : (l : List ℕ) (b M i : ℕ) (x y : List ℕ) → still_at l i ≡ true → replayed l b M x i ≡ some y → y ≡ x
+pub still_keeps : (l : List ℕ) (b M i : ℕ) (x y : List ℕ) → still_at l i ≡ true → replayed l b M x i ≡ Some y → y ≡ x
 unfolding replayed put_if
 still_keeps l b M i x y e h = go (outcome_of _ _ _) (rw e at h)
   where
-    go : (o : Option (Option ℤ)) → put_if x (first_place l i) true o ≡ some y → y ≡ x
-    go none h = absurd (none_some refl h)
-    go (some s) h = cc
+    go : (o : Option (Option ℤ)) → put_if x (first_place l i) true o ≡ Some y → y ≡ x
+    go None h = absurd (none_some refl h)
+    go (Some s) h = cc

@@ -3,7 +3,7 @@ use Prim.Native.Nat.{ℕ, ◌+◌}
 use mathlib.Core.Path.{◌≡◌, refl, sym, ap, ◌∙◌}
 use mathlib.Core.Bool.{Bool, true, false}
 use mathlib.Core.List.{[], ◌∷◌}
-use mathlib.Core.Option.{Option, none, some}
+use Rattle.std.specs.Prelude.{Option, Some, None}
 use lib.IntN.{ℤ, ◌+ℤ◌}
 use Rattle.interface.specs.Numbers.{answer_number}
 use Rattle.interface.specs.declared.Answer.{Answer}
@@ -20,17 +20,17 @@ use Rattle.replay.proofs.Counts.{Kept, with_total}
 
 -- ---- an update on a table, by its answer
 
-remove_missing : (t : Table) (a : ℕ) → find t a ≡ none → remove t a ≡ t
+remove_missing : (t : Table) (a : ℕ) → find t a ≡ None → remove t a ≡ t
 unfolding find remove
 remove_missing [] a h = refl
 remove_missing (e ∷ t) a h =
     eq_elim (λ (z : Table). z ≡ e ∷ t) e.0 a t (e ∷ remove t a)
-    (λ q. absurd (none_some h (if_eq e.0 a (some e.1) (find t a) q)))
-    (λ n. ap (λ (z : Table). e ∷ z) (remove_missing t a (sym (if_ne e.0 a (some e.1) (find t a) n) ∙ h)))
+    (λ q. absurd (none_some h (if_eq e.0 a (Some e.1) (find t a) q)))
+    (λ n. ap (λ (z : Table). e ∷ z) (remove_missing t a (sym (if_ne e.0 a (Some e.1) (find t a) n) ∙ h)))
 
 -- the total that an update sets comes back from its word
 abbrev pub KeptBy : Update → Type 0
-KeptBy (insert a v) = Kept (some v)
+KeptBy (insert a v) = Kept (Some v)
 KeptBy (delete a) = Unit {0}
 KeptBy (post a v) = Unit {0}
 
@@ -49,17 +49,17 @@ module _ (P : Answer × Table → Type 0) (t : Table)
   changed_elim (insert a v) k sets = go (find t a)
     where
       go : (o : Option ℤ) → P (present o Replaced Added, put t a v)
-      go none = sets Added (some v) refl k
-      go (some w) = sets Replaced (some v) refl k
+      go None = sets Added (Some v) refl k
+      go (Some w) = sets Replaced (Some v) refl k
   changed_elim (delete a) k sets = go (find t a) refl
     where
       go : (o : Option ℤ) → find t a ≡ o → P (present o Removed Absent, remove t a)
-      go none e = rw (remove_missing t a e) (stays Absent refl)
-      go (some w) e = sets Removed none refl tt
+      go None e = rw (remove_missing t a e) (stays Absent refl)
+      go (Some w) e = sets Removed None refl tt
   changed_elim (post a v) k sets =
       let z : ℤ = sum t a v in
       if_elim₂ (λ r y. P (r, y)) (is_total z) (Posted z) Overrun (put t a z) t
-      (λ e. sets (Posted z) (some z) refl (total_back z (fits_total z e))) (λ e. stays Overrun refl)
+      (λ e. sets (Posted z) (Some z) refl (total_back z (fits_total z e))) (λ e. stays Overrun refl)
 
 -- ---- an update on tables with the same total at its account
 
@@ -107,9 +107,9 @@ unfolding served_alone alone find
 alone_same c u t s h e = tried_same c u (alone (account u) s) t (ascending s) h (found s ∙ sym e)
   where
     ascending : (s : Option ℤ) → Ascending (alone (account u) s)
-    ascending none = tt
-    ascending (some v) = (tt, tt)
+    ascending None = tt
+    ascending (Some v) = (tt, tt)
 
     found : (s : Option ℤ) → find (alone (account u) s) (account u) ≡ s
-    found none = refl
-    found (some v) = if_eq (account u) (account u) (some v) none refl
+    found None = refl
+    found (Some v) = if_eq (account u) (account u) (Some v) None refl

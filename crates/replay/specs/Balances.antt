@@ -1,7 +1,6 @@
 -- The plain table over a log's places: an account stands at the first place whose operation is about it. Two words a
 -- place: 0, or 1 and the account's total. Rests on the words of a log.
-use Rattle.std.specs.Prelude.{ℕ, zero, suc, ◌+◌, ◌*◌, Bool, List, eqb, leb, ℤ, get_or, set}
-use Rattle.std.proofs.Math.Option.{Option, none, some}
+use Rattle.std.specs.Prelude.{ℕ, zero, suc, ◌+◌, ◌*◌, Bool, List, eqb, leb, ℤ, get_or, set, Option, Some, None}
 use Rattle.std.specs.Int.{w64}
 use Rattle.std.proofs.Common.{to_z, of_z}
 use Rattle.machine.specs.Choice.{when◌then◌else◌, ◌and◌}
@@ -35,7 +34,7 @@ unfoldable pub total_at : List ℕ → ℕ → ℕ
 total_at x j = get_or x (j * balance_words + 1) 0
 
 unfoldable pub balance_of : ℕ → ℕ → Option ℤ
-balance_of there total = when eqb there 0 then none else some (to_z w64 total)
+balance_of there total = when eqb there 0 then None else Some (to_z w64 total)
 
 -- the total of the account whose first place this is, if it is there
 unfoldable pub balance_at : List ℕ → ℕ → Option ℤ
@@ -46,8 +45,8 @@ put_words x j there total = set (set x (j * balance_words) there) (j * balance_w
 
 -- the same with another balance
 unfoldable pub put_balance : List ℕ → ℕ → Option ℤ → List ℕ
-put_balance x j none = put_words x j 0 0
-put_balance x j (some v) = put_words x j 1 (of_z w64 v)
+put_balance x j None = put_words x j 0 0
+put_balance x j (Some v) = put_words x j 1 (of_z w64 v)
 
 -- ---- crowding
 

@@ -1,13 +1,13 @@
 -- A logged operation on these balances, by the sequential specification on its own account: the balances afterwards,
 -- where the answer is the one logged. Rests on specs/Balances and on what an answer logged is, specs/Orders of crate
 -- logs.
-use Rattle.std.specs.Prelude.{ℕ, ◌+◌, Bool, true, false, List, [], ◌∷◌, eqb, ℤ, pos}
-use Rattle.std.proofs.Math.Option.{Option, none, some}
+use Rattle.std.specs.Prelude.{ℕ, ◌+◌, Bool, true, false, List, [], ◌∷◌, eqb, ℤ, pos, Option, Some, None}
 use Rattle.std.specs.Int.{w64}
 use Rattle.std.proofs.Common.{of_z}
 use Rattle.interface.specs.Numbers.{answer_number}
 use Rattle.interface.specs.declared.Answer.{Answer}
-use Rattle.interface.specs.declared.Answer.TheVariants.{Absent, Found, None, Crowded, Overrun}
+use Rattle.interface.specs.declared.Answer.TheVariants.{Absent, Found, Crowded, Overrun}
+use Rattle.interface.specs.declared.Answer.TheVariants as Answer
 use Rattle.machine.specs.Choice.{when◌then◌else◌}
 use Rattle.machine.specs.Sequential.{Table, Operation, update, lookup, account, find, looked, tried}
 use Rattle.machine.specs.Calls.{operation_of}
@@ -21,8 +21,8 @@ use Rattle.replay.specs.Balances.{first_place, balance_at, put_balance, crowds_a
 
 -- the table that holds one account, if it is there
 unfoldable pub alone : ℕ → Option ℤ → Table
-alone a none = []
-alone a (some v) = (a, v) ∷ []
+alone a None = []
+alone a (Some v) = (a, v) ∷ []
 
 -- the answer, and the balance afterwards
 unfoldable pub served_alone : Bool → Operation → Option ℤ → Answer × Option ℤ
@@ -32,11 +32,11 @@ served_alone crowded (update u) s =
 
 -- the balance afterwards, where the answer is the one logged
 unfoldable pub given_alone : Logged → Answer × Option ℤ → Option (Option ℤ)
-given_alone x r = when gives x r.0 then some r.1 else none
+given_alone x r = when gives x r.0 then Some r.1 else None
 
 unfoldable pub outcome_if : Logged → Bool → Option ℤ → Option Operation → Option (Option ℤ)
-outcome_if x crowded s none = none
-outcome_if x crowded s (some o) = given_alone x (served_alone crowded o s)
+outcome_if x crowded s None = None
+outcome_if x crowded s (Some o) = given_alone x (served_alone crowded o s)
 
 -- a logged operation on its account's balance
 unfoldable pub outcome_of : Logged → Bool → Option ℤ → Option (Option ℤ)
@@ -46,22 +46,22 @@ outcome_of x crowded s = outcome_if x crowded s (operation_of x.kind x.account x
 unfoldable pub is_still : ℕ → Bool
 is_still r =
     when eqb r (answer_base + answer_number (Found (pos 0))) then true
-    else when eqb r (answer_base + answer_number None) then true
+    else when eqb r (answer_base + answer_number Answer.None) then true
     else when eqb r (answer_base + answer_number Absent) then true
     else when eqb r (answer_base + answer_number Crowded) then true
     else eqb r (answer_base + answer_number Overrun)
 
 -- the same in the source's enum, of an answer that says that the table stayed as it was, or not
 unfoldable pub as_outcome : Bool → Option (Option ℤ) → Outcome
-as_outcome still none = Another
-as_outcome true (some s) = Unchanged
-as_outcome false (some none) = Balance 0 0
-as_outcome false (some (some v)) = Balance 1 (of_z w64 v)
+as_outcome still None = Another
+as_outcome true (Some s) = Unchanged
+as_outcome false (Some None) = Balance 0 0
+as_outcome false (Some (Some v)) = Balance 1 (of_z w64 v)
 
 unfoldable pub put_if : List ℕ → ℕ → Bool → Option (Option ℤ) → Option (List ℕ)
-put_if x j still none = none
-put_if x j true (some s) = some x
-put_if x j false (some s) = some (put_balance x j s)
+put_if x j still None = None
+put_if x j true (Some s) = Some x
+put_if x j false (Some s) = Some (put_balance x j s)
 
 unfoldable pub still_at : List ℕ → ℕ → Bool
 still_at l i = is_still (word_at l i logged_answer)
@@ -74,5 +74,5 @@ replayed l b M x i =
 
 -- the same in the source's struct: whether it fits, and the balances, unchanged where not
 unfoldable pub as_replayed : List ℕ → Option (List ℕ) → Replayed
-as_replayed x none = record { fits = false; balances = x }
-as_replayed x (some y) = record { fits = true; balances = y }
+as_replayed x None = record { fits = false; balances = x }
+as_replayed x (Some y) = record { fits = true; balances = y }

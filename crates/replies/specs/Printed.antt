@@ -1,7 +1,6 @@
 -- What `totals` prints for a reply. 01, The driver: "Each line is met with `ok`, `refused` and its number, `moved` and
 -- the steps given, or `answered`, .." Rests on the decimals, interface's words and the script's replies.
-use Rattle.std.specs.Prelude.{ℕ, List, [], ◌∷◌, ◌++◌, ℤ, length}
-use Rattle.std.proofs.Math.Option.{Option, none, some}
+use Rattle.std.specs.Prelude.{ℕ, List, [], ◌∷◌, ◌++◌, ℤ, length, Option, Some, None}
 use Rattle.interface.specs.Numbers.{bytes, answer_word, answer_total}
 use Rattle.interface.specs.declared.Answer.{Answer}
 use Rattle.machine.specs.Sequential.{Table}
@@ -19,8 +18,8 @@ printed_line (f ∷ g ∷ fs) = f ++ space ∷ printed_line (g ∷ fs)
 
 -- "its total if found"; 02, No. 1: "posted prints its total; overrun is printed as an answer without one"
 unfoldable pub total_then : Option ℤ → List (List ℕ) → List (List ℕ)
-total_then none fs = fs
-total_then (some t) fs = signed_decimal t ∷ fs
+total_then None fs = fs
+total_then (Some t) fs = signed_decimal t ∷ fs
 
 -- "`T` prints account and total"
 unfoldable pub printed_row : ℕ → ℤ → List ℕ

@@ -1,7 +1,6 @@
 -- What does not fit into a returned number, in a report: words at its start, an operation's end, and its number. Rests
 -- on document 01's numbers.
-use Rattle.std.specs.Prelude.{ℕ, ◌+◌, List, [], ◌∷◌, leb, length, ℤ}
-use Rattle.std.proofs.Math.Option.{Option, none, some}
+use Rattle.std.specs.Prelude.{ℕ, ◌+◌, List, [], ◌∷◌, leb, length, ℤ, Option, Some, None}
 use Rattle.std.specs.Int.{w64}
 use Rattle.std.proofs.Common.{of_z}
 use Rattle.interface.specs.Numbers.{answer_number, answer_total}
@@ -27,8 +26,8 @@ told report xs = when leb (length xs) (length report) then overlay report 0 xs e
 
 -- a total as a word of two's complement; 0 where there is none
 unfoldable pub word_or0 : Option ℤ → ℕ
-word_or0 none = 0
-word_or0 (some total) = of_z w64 total
+word_or0 None = 0
+word_or0 (Some total) = of_z w64 total
 
 -- the total of found or of posted, as a word; 0 where the answer has none
 unfoldable pub total_word : Answer → ℕ

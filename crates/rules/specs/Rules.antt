@@ -6,7 +6,8 @@ use Rattle.std.specs.Int.{w64}
 use Rattle.std.proofs.Common.{to_z}
 use Rattle.interface.specs.Numbers.{kind_insert, kind_post, answer_number}
 use Rattle.interface.specs.declared.Settings.{Settings}
-use Rattle.interface.specs.declared.Answer.TheVariants.{Added, Replaced, Removed, Absent, None, Posted, Crowded, Overrun}
+use Rattle.interface.specs.declared.Answer.TheVariants.{Added, Replaced, Removed, Absent, Posted, Crowded, Overrun}
+use Rattle.interface.specs.declared.Answer.TheVariants as Answer
 use Rattle.fields.specs.Fields.{slot_kind, slot_account, slot_total, slot_ticket}
 use Rattle.machine.specs.Choice.{◌and◌, when◌then◌else◌}
 use Rattle.rules.specs.declared.Descriptor.{Descriptor}
@@ -72,7 +73,7 @@ answer_of k total =
     when eqb k (answer_number Added) then Added else when eqb k (answer_number Replaced) then Replaced
     else when eqb k (answer_number Removed) then Removed else when eqb k (answer_number Absent) then Absent
     else when eqb k posted_number then Posted (to_z w64 total) else when eqb k (answer_number Crowded) then Crowded
-    else when eqb k (answer_number Overrun) then Overrun else None
+    else when eqb k (answer_number Overrun) then Overrun else Answer.None
 
 -- ---- single bits
 

@@ -1,7 +1,6 @@
 -- Up to so many steps of one worker, ending early at an answer, with the refusals in document 01's order, for any
 -- words. Rests on an operation's step.
-use Rattle.std.specs.Prelude.{ℕ, zero, suc, ◌+◌, ◌%◌, List, leb, eqb}
-use Rattle.std.proofs.Math.Option.{Option, none, some}
+use Rattle.std.specs.Prelude.{ℕ, zero, suc, ◌+◌, ◌%◌, List, leb, eqb, Option, Some, None}
 use Rattle.interface.specs.Numbers.{kind_none}
 use Rattle.interface.specs.declared.Settings.{Settings}
 use Rattle.interface.specs.declared.Refusal.{Refusal}
@@ -18,13 +17,13 @@ use Rattle.updates.specs.Updates.{operation_at}
 
 -- what a run gives after a step that gave so, having taken k steps before it; a step of an operation is not refused
 unfoldable pub last_of : ℕ → Stepped → Option Ran
-last_of k Stepped.Moved = none
-last_of k (Stepped.Answered c) = some (Ran.Answered c)
-last_of k (Stepped.Refused r) = some (Ran.Moved k)
+last_of k Stepped.Moved = None
+last_of k (Stepped.Answered c) = Some (Ran.Answered c)
+last_of k (Stepped.Refused r) = Some (Ran.Moved k)
 
 unfoldable pub or_else : List ℕ → Option Ran → List ℕ × Ran → List ℕ × Ran
-or_else l none later = later
-or_else l (some r) later = (l, r)
+or_else l None later = later
+or_else l (Some r) later = (l, r)
 
 -- f more steps of worker w, k taken; where the words do not come from an opening an operation may vanish, and then
 -- the run ends

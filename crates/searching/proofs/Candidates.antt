@@ -4,7 +4,7 @@ use Prim.Native.Nat.{ℕ, ◌≤◌, ◌<◌}
 use mathlib.Core.Path.{◌≡◌, sym, ap, ◌∙◌}
 use mathlib.Core.Bool.{Bool, true, false}
 use mathlib.Core.List.{List}
-use mathlib.Core.Option.{Option, none, some}
+use Rattle.std.specs.Prelude.{Option, Some, None}
 use lib.Dec.{eqb, leb}
 use lib.ListN.{get_or}
 use borrow.Author.Tests.{lt-ltb, le-ltb}
@@ -70,18 +70,18 @@ module _ (l : List ℕ) (b M : ℕ) (before : List ℕ) (last : ℕ) (x : List �
         first ∙ ap (as_replayed x) e ∙ sym (ap (λ o. as_replayed x (unless o)) e)
 
     module _ (fit : next.fits ≡ true) where
-      fits_here : attempt_in l b M before last x i ≡ unless (some next.balances)
+      fits_here : attempt_in l b M before last x i ≡ unless (Some next.balances)
       fits_here = ap unless (fits_some x _ next first fit)
 
       pub attempt_exchanged :
           (r : Bool) → r ≡ exchanged_in l b M before last next.balances i → i < last → r ≡ true
-          → as_replayed x none ≡ as_replayed x (attempt_in l b M before last x i)
+          → as_replayed x None ≡ as_replayed x (attempt_in l b M before last x i)
       unfolding unless_exchanged when◌then◌else◌ ◌and◌
       attempt_exchanged r e g f =
-          let n : attempt_in l b M before last x i ≡ none = fits_here ∙ rw (lt-ltb i last g, ← e, f) in
+          let n : attempt_in l b M before last x i ≡ None = fits_here ∙ rw (lt-ltb i last g, ← e, f) in
           sym (ap (as_replayed x) n)
 
-      taken : attempt_in l b M before last x i ≡ some next.balances → next ≡ as_replayed x (attempt_in l b M before last x i)
+      taken : attempt_in l b M before last x i ≡ Some next.balances → next ≡ as_replayed x (attempt_in l b M before last x i)
       taken e = first ∙ ap (as_replayed x) (fits_some x _ next first fit) ∙ sym (ap (as_replayed x) e)
 
       pub attempt_kept :
@@ -101,11 +101,11 @@ module _ (l : List ℕ) (b M : ℕ) (before : List ℕ) (last : ℕ) (left x : L
     (tested : r ≡ eqb (get_or left i 0) 1 and leb (word_at l i logged_call) limit) where
   is_open :
       (t : Bool) → r ≡ t
-      → candidate_in l b M before last (is_left left) x i ≡ unless l b M before last x i (when t then replayed l b M x i else none)
+      → candidate_in l b M before last (is_left left) x i ≡ unless l b M before last x i (when t then replayed l b M x i else None)
   unfolding candidate opened is_left
   is_open t e = rw (← in_time_ready l left b M i word, ← least, ← tested, e)
 
-  pub candidate_closed : r ≡ false → candidate_in l b M before last (is_left left) x i ≡ none
+  pub candidate_closed : r ≡ false → candidate_in l b M before last (is_left left) x i ≡ None
   unfolding unless_exchanged when◌then◌else◌
   candidate_closed e = is_open false e
 

@@ -5,7 +5,7 @@ use native.Mathlib.Omega.{arith}
 use mathlib.Core.Path.{◌≡◌, refl, ap, ◌∙◌, fun_ext}
 use mathlib.Core.Bool.{Bool, true, false}
 use mathlib.Core.List.{List, [], ◌∷◌}
-use mathlib.Core.Option.{Option, none, some}
+use Rattle.std.specs.Prelude.{Option, Some, None}
 use lib.Dec.{eqb}
 use lib.ListN.{get_or, set}
 use lib.Seq.{get_or-set_other}
@@ -47,7 +47,7 @@ module _ (l : List ℕ) (b M : ℕ) (before : List ℕ) (last : ℕ) (left x : L
   unfolding cut_search
   tries_start m h = let e : m ≡ suc (m - 1) = omega arith in ap (λ (n : ℕ). search_in l b M n before last (is_left left) x) e
 
-  pub tries_end : (m k : ℕ) → k ≤ 0 → tries_in l b M m before last left x k (12 - k) ≡ none
+  pub tries_end : (m k : ℕ) → k ≤ 0 → tries_in l b M m before last left x k (12 - k) ≡ None
   unfolding cut_tries
   tries_end m k h = let e : k ≡ 0 = omega arith in rw e
 
@@ -73,7 +73,7 @@ module _ (l : List ℕ) (b M : ℕ) (before : List ℕ) (last : ℕ) (left x : L
         let next : 12 - (k - 1) ≡ suc i = omega arith in
         rw next (ap (λ (n : ℕ). tries_in l b M m before last left x n i) e)
 
-    pub tries_closed : candidate_in l b M before last (is_left left) x i ≡ none → here ≡ later
+    pub tries_closed : candidate_in l b M before last (is_left left) x i ≡ None → here ≡ later
     unfolding cut_begun
     tries_closed f = turn ∙ rw f
 
@@ -92,14 +92,14 @@ module _ (l : List ℕ) (b M : ℕ) (before : List ℕ) (last : ℕ) (left x : L
         unfolding cut_begun
         turn_fits = turn ∙ rw (fits_some x _ next tried fit, left_without left i)
 
-        pub tries_found : (o : List ℕ) → child ≡ some o → here ≡ some (i ∷ o)
+        pub tries_found : (o : List ℕ) → child ≡ Some o → here ≡ Some (i ∷ o)
         unfolding unless_still
         tries_found o e = turn_fits ∙ rw e
 
-        pub tries_still : child ≡ none → still_at l i ≡ true → here ≡ none
+        pub tries_still : child ≡ None → still_at l i ≡ true → here ≡ None
         unfolding unless_still when◌then◌else◌
         tries_still e s = turn_fits ∙ rw (e, s)
 
-        pub tries_on : child ≡ none → still_at l i ≡ false → here ≡ later
+        pub tries_on : child ≡ None → still_at l i ≡ false → here ≡ later
         unfolding unless_still when◌then◌else◌
         tries_on e s = turn_fits ∙ rw (e, s)

@@ -5,7 +5,7 @@ use native.Mathlib.Omega.{arith}
 use mathlib.Core.Path.{◌≡◌, refl, sym, ap, ◌∙◌}
 use mathlib.Core.Bool.{Bool, true, false}
 use mathlib.Core.List.{List, [], ◌∷◌, ◌++◌, append-nil}
-use mathlib.Core.Option.{Option, none, some}
+use Rattle.std.specs.Prelude.{Option, Some, None}
 use lib.ListN.{length, set, take, drop, length-drop, drop_of_length-le}
 use lib.Seq.{take_all, length-take-le}
 use Rattle.machine.proofs.laws.Base.{no_both}
@@ -55,14 +55,14 @@ first_written (v ∷ l) o i h =
     ∙ sym (overlay_first (v ∷ l) (i ∷ o))
 
 -- nothing found, nothing written
-pub none_found : (l l₀ : List ℕ) (whole : Option (List ℕ)) → l ≡ l₀ → whole ≡ none → (false ≡ is_found whole) × (l ≡ written_in l₀ whole)
+pub none_found : (l l₀ : List ℕ) (whole : Option (List ℕ)) → l ≡ l₀ → whole ≡ None → (false ≡ is_found whole) × (l ≡ written_in l₀ whole)
 unfolding is_found written_in
 none_found l l₀ whole same e = (sym (ap is_found e), same ∙ sym (ap (written_in l₀) e))
 
-pub child_none : (child : Option (List ℕ)) (r : Bool) → r ≡ is_found child → r ≡ false → child ≡ none
+pub child_none : (child : Option (List ℕ)) (r : Bool) → r ≡ is_found child → r ≡ false → child ≡ None
 unfolding is_found
-child_none none r found e = refl
-child_none (some o) r found e = absurd (no_both found e)
+child_none None r found e = refl
+child_none (Some o) r found e = absurd (no_both found e)
 
 -- what the call of itself, lent the rest, found and wrote
 module _ (l p : List ℕ) (child : Option (List ℕ)) (r : Bool) (found : r ≡ is_found child) (written : p ≡ written_in (rest l) child)
@@ -72,14 +72,14 @@ module _ (l p : List ℕ) (child : Option (List ℕ)) (r : Bool) (found : r ≡ 
   none_written e = ap (with_rest l) (written ∙ ap (written_in (rest l)) (child_none child r found e)) ∙ same_rest l first
 
   pub found_written :
-      (i : ℕ) (whole : Option (List ℕ)) → r ≡ true → ((o : List ℕ) → child ≡ some o → whole ≡ some (i ∷ o)) → (l₀ : List ℕ) → l ≡ l₀
+      (i : ℕ) (whole : Option (List ℕ)) → r ≡ true → ((o : List ℕ) → child ≡ Some o → whole ≡ Some (i ∷ o)) → (l₀ : List ℕ) → l ≡ l₀
       → (true ≡ is_found whole) × (set (with_rest l p) 0 i ≡ written_in l₀ whole)
   unfolding is_found written_in
   found_written i whole e step l₀ same = go child refl
     where
       go : (o : Option (List ℕ)) → child ≡ o → (true ≡ is_found whole) × (set (with_rest l p) 0 i ≡ written_in l₀ whole)
-      go none f = absurd (no_both e (found ∙ ap is_found f))
-      go (some o) f =
+      go None f = absurd (no_both e (found ∙ ap is_found f))
+      go (Some o) f =
           let w = step o f in (
             sym (ap is_found w),
             ap (λ (q : List ℕ). set (with_rest l q) 0 i) (written ∙ ap (written_in (rest l)) f)

@@ -1,7 +1,6 @@
 -- The search over a log in words, as the source makes it: with both cuts, on balances. Rests on the search of any
 -- table, specs/Search of crate logs, and on an operation replayed.
-use Rattle.std.specs.Prelude.{ℕ, zero, suc, Bool, true, false, List, eqb, get_or}
-use Rattle.std.proofs.Math.Option.{Option, none, some}
+use Rattle.std.specs.Prelude.{ℕ, zero, suc, Bool, true, false, List, eqb, get_or, Option, Some, None}
 use Rattle.lists.specs.Parts.{overlay}
 use Rattle.machine.specs.Choice.{when◌then◌else◌, ◌and◌}
 use Rattle.memory.specs.Words.{least}
@@ -42,9 +41,9 @@ search_in l b M =
 
 -- the list for the order, with the order found at its start
 unfoldable pub written_in : List ℕ → Option (List ℕ) → List ℕ
-written_in places none = places
-written_in places (some o) = overlay places 0 o
+written_in places None = places
+written_in places (Some o) = overlay places 0 o
 
 unfoldable pub is_found : Option (List ℕ) → Bool
-is_found none = false
-is_found (some o) = true
+is_found None = false
+is_found (Some o) = true

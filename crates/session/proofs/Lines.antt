@@ -2,7 +2,7 @@
 use Prim.Native.Nat.{ℕ, suc, ◌-◌, ◌^◌, ◌≤◌, ◌<◌}
 use native.Mathlib.Omega.{arith}
 use mathlib.Core.List.{List, [], ◌∷◌}
-use mathlib.Core.Option.{Option, none, some}
+use Rattle.std.specs.Prelude.{Option, Some, None}
 use lib.Dec.{leb, eqb}
 use lib.IntN.{ℤ, pos, negsuc}
 use mir.Syntax.{w64}
@@ -27,25 +27,25 @@ Said Command.Unread = Unit {0}
 
 -- what holds of a number that was read
 abbrev If : {A : Type 0} → (A → Type 0) → Option A → Type 0
-If P none = Unit {0}
-If P (some a) = P a
+If P None = Unit {0}
+If P (Some a) = P a
 
 up-to : (most : ℕ) (o : Option ℕ) → If (λ n. n ≤ most) (up_to most o)
 unfolding up_to
-up-to most none = tt
-up-to most (some v) = if_elim (If (λ n. n ≤ most)) (leb v most) _ _ (λ t. leb-true v most t) (λ t. tt)
+up-to most None = tt
+up-to most (Some v) = if_elim (If (λ n. n ≤ most)) (leb v most) _ _ (λ t. leb-true v most t) (λ t. tt)
 
 at_least : (least : ℕ) (o : Option ℕ) → If (λ n. least ≤ n) (from least o)
 unfolding from
-at_least least none = tt
-at_least least (some v) = if_elim (If (λ n. least ≤ n)) (leb least v) _ _ (λ t. leb-true least v t) (λ t. tt)
+at_least least None = tt
+at_least least (Some v) = if_elim (If (λ n. least ≤ n)) (leb least v) _ _ (λ t. leb-true least v t) (λ t. tt)
 
 in_64 : (o : Option ℤ) → If (SFits w64) (in64 o)
 unfolding in64
-in_64 none = tt
-in_64 (some (pos n)) =
+in_64 None = tt
+in_64 (Some (pos n)) =
     if_elim (If (SFits w64)) (leb n (2 ^ 63 - 1)) _ _ (λ t. let h = leb-true n (2 ^ 63 - 1) t in record { sfits = omega arith }) (λ t. tt)
-in_64 (some (negsuc n)) =
+in_64 (Some (negsuc n)) =
     if_elim (If (SFits w64)) (leb (suc n) (2 ^ 63)) _ _ (λ t. let h = leb-true (suc n) (2 ^ 63) t in record { sfits = omega arith })
     (λ t. tt)
 
@@ -53,24 +53,24 @@ said_two : {A B : Type 0} (P : B → Type 0) (f : A → B → Command) (x : Opti
     → If P y
     → Said (with2 f x y)
 unfolding with2
-said_two P f none y h k = tt
-said_two P f (some a) none h k = tt
-said_two P f (some a) (some b) h k = h a b k
+said_two P f None y h k = tt
+said_two P f (Some a) None h k = tt
+said_two P f (Some a) (Some b) h k = h a b k
 
 said_open : (x y z : Option ℕ) → Said (with3 Command.Open x y z)
 unfolding with3
-said_open none y z = tt
-said_open (some a) none z = tt
-said_open (some a) (some b) none = tt
-said_open (some a) (some b) (some c) = tt
+said_open None y z = tt
+said_open (Some a) None z = tt
+said_open (Some a) (Some b) None = tt
+said_open (Some a) (Some b) (Some c) = tt
 
 said_totalled : (f : ℕ → ℕ → ℤ → Command) → ((w a : ℕ) (v : ℤ) → (a < 2 ^ 32) × SFits w64 v → Said (f w a v)) → (x y : Option ℕ)
     (z : Option ℤ) → If (λ n. n ≤ 4_294_967_295) y → If (SFits w64) z → Said (with3 f x y z)
 unfolding with3
-said_totalled f says none y z h k = tt
-said_totalled f says (some a) none z h k = tt
-said_totalled f says (some a) (some b) none h k = tt
-said_totalled f says (some a) (some b) (some c) h k = says a b c (omega arith, k)
+said_totalled f says None y z h k = tt
+said_totalled f says (Some a) None z h k = tt
+said_totalled f says (Some a) (Some b) None h k = tt
+said_totalled f says (Some a) (Some b) (Some c) h k = says a b c (omega arith, k)
 
 said_one : (letter : ℕ) → Said (one_field letter)
 unfolding one_field

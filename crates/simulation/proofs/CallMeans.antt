@@ -6,7 +6,7 @@ use mathlib.Core.Path.{◌≡◌, refl, ap, ◌∙◌}
 use mathlib.Core.Logic.{◌≢◌}
 use mathlib.Core.Bool.{Bool, true, false, not, or-true}
 use mathlib.Core.List.{List}
-use mathlib.Core.Option.{Option, none, some}
+use Rattle.std.specs.Prelude.{Option, Some, None}
 use lib.Dec.{eqb, leb}
 use lib.IntN.{ℤ}
 use lib.ListN.{set}
@@ -60,8 +60,8 @@ module _ {s : Settings} {l : List ℕ} {m : Machine} {w : ℕ} (ready : Ready s 
 
     -- the words of an accepted call mean the machine with the operation begun
     begun_means :
-        (o : Operation) → operation_in u ≡ some o → u.account < 2 ^ 32 → u.total < 2 ^ 64 → u.ticket ≡ ticket_for (m.workers w) o
-        → Free (counter_of s.workers (some o) 0) → Meaning s (begun_at l p u) (begun m w o)
+        (o : Operation) → operation_in u ≡ Some o → u.account < 2 ^ 32 → u.total < 2 ^ 64 → u.ticket ≡ ticket_for (m.workers w) o
+        → Free (counter_of s.workers (Some o) 0) → Meaning s (begun_at l p u) (begun m w o)
     unfolding begun begun_as assign when◌then◌else◌ descriptor_in
     begun_means o e narrow fits ticket free-there =
         let l' : List ℕ = begun_at l p u in
@@ -72,7 +72,7 @@ module _ {s : Settings} {l : List ℕ} {m : Machine} {w : ℕ} (ready : Ready s 
           total = words.are worker_total (omega arith) i;
           ticket = words.are worker_ticket (omega arith) i;
         } in
-        let v : Worker = record { last = ticket_for (m.workers w) o; operation = some o; steps = 0; reads = (m.workers w).reads } in
+        let v : Worker = record { last = ticket_for (m.workers w) o; operation = Some o; steps = 0; reads = (m.workers w).reads } in
         mine_means ready l' v _ refl words.own
         (record {
           operation = ap operation_in same ∙ e;
@@ -95,14 +95,14 @@ module _ {s : Settings} {l : List ℕ} {m : Machine} {w : ℕ} (ready : Ready s 
     alike : {x : List ℕ × Called} {y : Machine × Called} → call_in l p kind a v ≡ x → call s m w kind a v ≡ y → Alike x y → Answers
     alike e f h = rw (e, f) h
 
-    busy_answers : (o : Operation) → (m.workers w).operation ≡ some o → Answers
+    busy_answers : (o : Operation) → (m.workers w).operation ≡ Some o → Answers
     unfolding call_in descriptor_in
     busy_answers o e =
         let h : word l (p + worker_kind) ≢ kind_none = is_busy (descriptor_in l p) o ((worker_means ready).operation ∙ e) in
         alike (if_true _ _ (ap not (ne_eqb (word l (p + worker_kind)) kind_none h))) (call_busy s m w kind a v ready.known e)
         (ready.means, refl)
 
-    module _ (idle : (m.workers w).operation ≡ none) where
+    module _ (idle : (m.workers w).operation ≡ None) where
       idle_word : eqb (word l (p + worker_kind)) kind_none ≡ true
       unfolding descriptor_in
       idle_word = eq-eqb (word l (p + worker_kind)) kind_none (is_idle (descriptor_in l p) ((worker_means ready).operation ∙ idle))
@@ -118,7 +118,7 @@ module _ {s : Settings} {l : List ℕ} {m : Machine} {w : ℕ} (ready : Ready s 
 
       -- an insert, a delete or a post
       update_answers :
-          (u : Update) → operation_of kind a v ≡ some (update u) → operation_in called ≡ some (update u) → a < 2 ^ 32 → called.total < 2 ^ 64
+          (u : Update) → operation_of kind a v ≡ Some (update u) → operation_in called ≡ Some (update u) → a < 2 ^ 32 → called.total < 2 ^ 64
           → call_in l p kind a v ≡ (
           when leb greatest_ticket before then (l, Called.Refused Refusal.Spent) else (begun_at l p called, Called.Accepted))
           → Answers
@@ -135,7 +135,7 @@ module _ {s : Settings} {l : List ℕ} {m : Machine} {w : ℕ} (ready : Ready s 
               (begun_means called (update u) f narrow fits (add-one _ ∙ ap suc last) (rw counter_start nowhere), refl)
 
   -- a worker without operation, by the kind
-  idle_answers : (m.workers w).operation ≡ none → (kind a : ℕ) (v : ℤ) → a < 2 ^ 32 → SFits w64 v → Answers kind a v
+  idle_answers : (m.workers w).operation ≡ None → (kind a : ℕ) (v : ℤ) → a < 2 ^ 32 → SFits w64 v → Answers kind a v
   unfolding call_in operation_of operation_in update_from signed when◌then◌else◌ ticket_for
   idle_answers idle zero a v narrow fits =
       alike zero a v (rw (idle_word zero a v idle))
@@ -165,5 +165,5 @@ module _ {s : Settings} {l : List ℕ} {m : Machine} {w : ℕ} (ready : Ready s 
   call_means kind a v narrow fits = by (m.workers w).operation refl
     where
       by : (o : Option Operation) → (m.workers w).operation ≡ o → Answers kind a v
-      by (some o) e = busy_answers kind a v o e
-      by none e = idle_answers e kind a v narrow fits
+      by (Some o) e = busy_answers kind a v o e
+      by None e = idle_answers e kind a v narrow fits

@@ -3,7 +3,7 @@
 use Prim.Native.Nat.{ℕ}
 use mathlib.Core.Path.{◌≡◌, refl, ap, sym, ◌∙◌}
 use mathlib.Core.Bool.{Bool, true, false, ◌||◌}
-use mathlib.Core.Option.{Option, none, some}
+use Rattle.std.specs.Prelude.{Option, Some, None}
 use lib.Dec.{leb, ltb}
 use lib.ListN.{length}
 use lib.IntN.{ℤ}
@@ -34,17 +34,17 @@ use Rattle.simulation.proofs.runs.RunIterates.{run_iterates}
 -- ---- 8 is a matter of the memory: the machine never gives it
 
 abbrev is_strange : Option Refusal → Bool
-is_strange none = false
-is_strange (some Refusal.Settings) = false
-is_strange (some Refusal.Short) = false
-is_strange (some Refusal.Stranger) = false
-is_strange (some Refusal.Busy) = false
-is_strange (some Refusal.Idle) = false
-is_strange (some Refusal.Kind) = false
-is_strange (some Refusal.Spent) = false
-is_strange (some Refusal.Strange) = true
-is_strange (some Refusal.Narrow) = false
-is_strange (some Refusal.BadLog) = false
+is_strange None = false
+is_strange (Some Refusal.Settings) = false
+is_strange (Some Refusal.Short) = false
+is_strange (Some Refusal.Stranger) = false
+is_strange (Some Refusal.Busy) = false
+is_strange (Some Refusal.Idle) = false
+is_strange (Some Refusal.Kind) = false
+is_strange (Some Refusal.Spent) = false
+is_strange (Some Refusal.Strange) = true
+is_strange (Some Refusal.Narrow) = false
+is_strange (Some Refusal.BadLog) = false
 
 module _ (s : Settings) (m : Machine) where
   call_recognised : (j kind a : ℕ) (v : ℤ) → is_strange (refusal_of (to_call (call s m j kind a v).1)) ≡ false
@@ -56,9 +56,9 @@ module _ (s : Settings) (m : Machine) where
       Told x = is_strange (refusal_of (to_call x.1)) ≡ false
 
       by : (o p : Option Operation) → Told (call_of m j o p)
-      by (some o) p = refl
-      by none none = refl
-      by none (some p) = if_elim Told (spent (m.workers j) p) _ _ (λ _. refl) (λ _. refl)
+      by (Some o) p = refl
+      by None None = refl
+      by None (Some p) = if_elim Told (spent (m.workers j) p) _ _ (λ _. refl) (λ _. refl)
 
   step_recognised : (j : ℕ) → is_strange (refusal_in (step s m j).1) ≡ false
   unfolding step step_of refusal_in done step_reply
@@ -68,12 +68,12 @@ module _ (s : Settings) (m : Machine) where
       Told x = is_strange (refusal_in x.1) ≡ false
 
       replied : (k c : ℕ) (a : Option Answer) → is_strange (refusal_in (step_reply k c a)) ≡ false
-      replied k c none = refl
-      replied k c (some a) = refl
+      replied k c None = refl
+      replied k c (Some a) = refl
 
       by : (o : Option Operation) → Told (step_of s m j o)
-      by none = refl
-      by (some o) = replied _ _ (perform (access s j (m.workers j) o) m.cells).answer
+      by None = refl
+      by (Some o) = replied _ _ (perform (access s j (m.workers j) o) m.cells).answer
 
   listing_recognised : (t : Table) (x y : ℕ) → is_strange (refusal_of (to_listing (listing_of t x y))) ≡ false
   unfolding listing_of refusal_of

@@ -2,7 +2,7 @@
 use Prim.Native.Nat.{ℕ, suc}
 use mathlib.Core.Path.{◌≡◌, refl}
 use mathlib.Core.List.{List}
-use mathlib.Core.Option.{Option, none, some}
+use Rattle.std.specs.Prelude.{Option, Some, None}
 use native.Mathlib.Omega.{arith}
 use Rattle.interface.specs.declared.Settings.{Settings}
 use Rattle.interface.specs.declared.Answer.{Answer}
@@ -54,5 +54,5 @@ module _ {s : Settings} {l : List ℕ} {m : Machine} {w : ℕ} (ready : Ready s 
       by :
           (o : Option Operation) → (m.workers w).operation ≡ o
           → Meaning s (step_in l s w).0 (step s m w).0 × ((step_in l s w).1 ≡ (step s m w).1)
-      by none e = simulated_idle s ready.range l m ready.means ready.good w ready.known e
-      by (some o) e = simulated s ready.range l m ready.means ready.good w ready.known o e transition_means
+      by None e = simulated_idle s ready.range l m ready.means ready.good w ready.known e
+      by (Some o) e = simulated s ready.range l m ready.means ready.good w ready.known o e transition_means

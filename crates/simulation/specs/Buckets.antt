@@ -1,7 +1,6 @@
 -- What a bucket's state means: the machine's table, settled tickets and applied bits; and what a slot's words mean.
 -- Rests on the definitions on states and on the machine's records.
-use Rattle.std.specs.Prelude.{ℕ, ◌+◌, ◌*◌, ◌^◌, ◌≤◌, ◌<◌, ◌≡◌, Bool, List, [], ◌∷◌, eqb, length, get_or, take, ℤ}
-use Rattle.std.proofs.Math.Option.{Option, none, some}
+use Rattle.std.specs.Prelude.{ℕ, ◌+◌, ◌*◌, ◌^◌, ◌≤◌, ◌<◌, ◌≡◌, Bool, List, [], ◌∷◌, eqb, length, get_or, take, ℤ, Option, Some, None}
 use Rattle.std.specs.Int.{w64}
 use Rattle.std.proofs.Common.{to_z}
 use Rattle.interface.specs.Numbers.{kind_none, kind_insert, kind_post}
@@ -33,8 +32,8 @@ items_of x = pairs (take (size_of x) x.accounts) (take (size_of x) x.totals)
 
 -- the total at a position where an account stands
 unfoldable pub total_at : BucketState → Position → Option ℤ
-total_at x (At i) = some (signed (get_or x.totals i 0))
-total_at x (Before i) = none
+total_at x (At i) = Some (signed (get_or x.totals i 0))
+total_at x (Before i) = None
 
 unfoldable pub settled_of : BucketState → ℕ → Settled
 settled_of x j =

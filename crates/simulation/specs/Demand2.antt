@@ -1,7 +1,6 @@
 -- Demand 2: along every list from an accepted opening the words mean the machine after the same entries, and each call
 -- on them replies as the machine does. Rests on what words mean, on the lent words as a system, and on a run as steps.
-use Rattle.std.specs.Prelude.{ℕ, ◌≤◌, ◌≡◌, List, [], length, ℤ}
-use Rattle.std.proofs.Math.Option.{Option, none, some}
+use Rattle.std.specs.Prelude.{ℕ, ◌≤◌, ◌≡◌, List, [], length, ℤ, Option, Some, None}
 use Rattle.interface.specs.declared.Settings.{Settings}
 use Rattle.interface.specs.declared.Refusal.{Refusal}
 use Rattle.interface.specs.declared.Opened.{Opened}
@@ -19,13 +18,13 @@ use Rattle.simulation.specs.Runs.{by_steps}
 
 -- the refusal in a reply, if it is one
 unfoldable pub refusal_of : Replied → Option Refusal
-refusal_of (to_call Called.Accepted) = none
-refusal_of (to_call (Called.Refused r)) = some r
+refusal_of (to_call Called.Accepted) = None
+refusal_of (to_call (Called.Refused r)) = Some r
 refusal_of (to_step x) = refusal_in x
-refusal_of (to_listing (lists t)) = none
-refusal_of (to_listing (declines r)) = some r
-refusal_of (to_opening Opened.Opened) = none
-refusal_of (to_opening (Opened.Refused r)) = some r
+refusal_of (to_listing (lists t)) = None
+refusal_of (to_listing (declines r)) = Some r
+refusal_of (to_opening Opened.Opened) = None
+refusal_of (to_opening (Opened.Refused r)) = Some r
 
 -- A list of entries given to the words l and to an opened machine with as many words lent, by indices.
 module _ (s : Settings) (l : List ℕ) (es : List Entry) where
@@ -46,7 +45,7 @@ module _ (s : Settings) (l : List ℕ) (es : List Entry) where
     -- "8 never occurs on the whole of a memory that opening and later calls left"
     pub recognised :
         (i : ℕ) (e : Entry) → i ≤ length es → Typed e
-        → refusal_of (reply lent_words (words_at i) e) ≡ some Refusal.Strange → ⊥
+        → refusal_of (reply lent_words (words_at i) e) ≡ Some Refusal.Strange → ⊥
     -- "the listing shows exactly the accounts in the current buckets": what it writes into two lists there, and
     -- answers, is the machine's
     pub listings :

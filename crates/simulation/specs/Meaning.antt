@@ -2,8 +2,7 @@
 -- read, and whether its comparison would succeed. Left out is only what can no longer matter: what a worker has read in
 -- an earlier part of its update, and the contents behind a comparison that would fail. Rests on the layout, on what a
 -- bucket's state means, and on the machine.
-use Rattle.std.specs.Prelude.{ℕ, ◌+◌, ◌*◌, ◌^◌, ◌≤◌, ◌<◌, ◌≡◌, List, eqb, length}
-use Rattle.std.proofs.Math.Option.{Option, none, some}
+use Rattle.std.specs.Prelude.{ℕ, ◌+◌, ◌*◌, ◌^◌, ◌≤◌, ◌<◌, ◌≡◌, List, eqb, length, Option, Some, None}
 use Rattle.interface.specs.Numbers.{kind_none, kind_lookup}
 use Rattle.interface.specs.declared.Settings.{Settings}
 use Rattle.machine.specs.Choice.{when◌then◌else◌}
@@ -48,8 +47,8 @@ HasWork = in_directory (λ p r. Working)
 -- the operation that a worker's words are, if any
 unfoldable pub operation_in : Descriptor → Option Operation
 operation_in u =
-    when eqb u.kind kind_none then none
-    else when eqb u.kind kind_lookup then some (lookup u.account) else some (update (update_from u))
+    when eqb u.kind kind_none then None
+    else when eqb u.kind kind_lookup then Some (lookup u.account) else Some (update (update_from u))
 
 -- the slot whose words stand from i on
 abbrev pub slot_in : List ℕ → ℕ → Slot

@@ -1,7 +1,6 @@
 -- The check, a step of an update on the words, by its phase, and an operation's step, for any words. Rests on the other
 -- steps' definitions, on what is settled in a bucket's record, and on the machine's plan.
-use Rattle.std.specs.Prelude.{ℕ, ◌+◌, List, eqb, leb, set}
-use Rattle.std.proofs.Math.Option.{Option, none, some}
+use Rattle.std.specs.Prelude.{ℕ, ◌+◌, List, eqb, leb, set, Option, Some, None}
 use Rattle.interface.specs.declared.Settings.{Settings}
 use Rattle.interface.specs.declared.Stepped.{Stepped}
 use Rattle.machine.specs.Plan.{Phase, announce, read_directory, flip_toggle, read_state, read_toggle, swap_state, check_state, copy_directory, swap_directory, read_slot, resize_for, phase, check_number}
@@ -32,13 +31,13 @@ answer_at l s q w = answer_of (settled_answer l s q w) (settled_total l s q w)
 unfoldable pub checked_at : List ℕ → Settings → ℕ → ℕ → ℕ → Option Answer
 checked_at l s p q w =
     when leb (word l (p + worker_ticket)) (settled_ticket l s q w)
-    then some (answer_at l s q w)
-    else none
+    then Some (answer_at l s q w)
+    else None
 
 -- what check c leaves and gives, after k own steps
 unfoldable pub check_at : List ℕ → ℕ → ℕ → ℕ → Option Answer → List ℕ × Stepped
-check_at l p k c none = (l, Stepped.Moved)
-check_at l p k c (some a) = ended_at l p k c a
+check_at l p k c None = (l, Stepped.Moved)
+check_at l p k c (Some a) = ended_at l p k c a
 
 -- ---- a step of an update
 

@@ -1,7 +1,7 @@
 -- `open`: two numbers and a third.
 -- Rests on the laws that it cites and on the contracts of what is called.
 use mathlib.Core.Path.{◌≡◌, sym, ◌∙◌}
-use mathlib.Core.Option.{some}
+use Rattle.std.specs.Prelude.{Some}
 use Rattle.commands.specs.declared.Command.TheVariants.{Open}
 use Rattle.commands.specs.Commands.{small_of, with3}
 use Rattle.numerals.proofs.NumeralLaws.{number_none, number_some}
@@ -11,7 +11,7 @@ use Rattle.commands.proofs.open.Goals.{In-Values}
 
 both_read : (c : In-Values) →
     let v = c.in-Values in
-    (small_of c.args.x.now ≡ some v.n) × (small_of c.args.y.now ≡ some v.b)
+    (small_of c.args.x.now ≡ Some v.n) × (small_of c.args.y.now ≡ Some v.b)
 unfolding small_of
 both_read c = pair_some _ _ _ _ (sym c.in-Values.is ∙ c.read_pair.ensures)
 

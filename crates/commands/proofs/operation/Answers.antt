@@ -1,7 +1,7 @@
 -- `operation`: two numbers, and the amount of a post or the total of an insert.
 -- Rests on the laws that it cites and on the contracts of what is called.
 use mathlib.Core.Path.{◌≡◌, sym, ◌∙◌}
-use mathlib.Core.Option.{some}
+use Rattle.std.specs.Prelude.{Some}
 use native.Mathlib.Omega.{arith}
 use lib.Dec.{eqb}
 use mir.Syntax.{w64}
@@ -21,7 +21,7 @@ use Rattle.commands.proofs.operation.Goals.{In-Value, In-Values}
 
 both_read : (c : In-Values) →
     let v = c.in-Values in
-    (small_of c.args.x.now ≡ some v.w) × (account_of c.args.y.now ≡ some v.account)
+    (small_of c.args.x.now ≡ Some v.w) × (account_of c.args.y.now ≡ Some v.account)
 unfolding account_of
 both_read c = pair_some _ _ _ _ (sym c.in-Values.is ∙ c.read_pair.ensures)
 

@@ -1,7 +1,7 @@
 -- `read_pair`: two fields, each of which is read.
 -- Rests on the laws that it cites and on the contracts of what is called.
 use mathlib.Core.Path.{◌≡◌, sym, ◌∙◌}
-use mathlib.Core.Option.{some}
+use Rattle.std.specs.Prelude.{Some}
 use Rattle.numerals.specs.Numerals.{as_pair}
 use Rattle.commands.specs.Commands.{small_of}
 use Rattle.numerals.proofs.NumeralLaws.{number_none, number_some}
@@ -9,7 +9,7 @@ use Rattle.commands.proofs.read_pair.Goals as goal
 use Rattle.commands.proofs.read_pair.Goals.{In-Value}
 
 first_read : (c : In-Value)
-    → small_of c.args.x.now ≡ some c.in-Value.first
+    → small_of c.args.x.now ≡ Some c.in-Value.first
 unfolding small_of
 first_read c = number_some _ _ (sym c.in-Value.is ∙ c.read_number.ensures)
 

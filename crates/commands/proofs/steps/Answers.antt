@@ -1,7 +1,7 @@
 -- `steps`: two numbers, of which the second has a least value too.
 -- Rests on the laws that it cites and on the contracts of what is called.
 use mathlib.Core.Path.{◌≡◌, sym, ◌∙◌, ap}
-use mathlib.Core.Option.{some}
+use Rattle.std.specs.Prelude.{Some}
 use borrow.Author.Tests.{le-leb, lt-leb}
 use Rattle.machine.specs.Choice.{when◌then◌else◌}
 use Rattle.commands.specs.declared.Command.TheVariants.{Steps}
@@ -13,7 +13,7 @@ use Rattle.commands.proofs.steps.Goals.{In-Values}
 
 both_read : (c : In-Values) →
     let v = c.in-Values in
-    (small_of c.args.x.now ≡ some v.w) × (up_to greatest_steps (numeral c.args.y.now) ≡ some v.k)
+    (small_of c.args.x.now ≡ Some v.w) × (up_to greatest_steps (numeral c.args.y.now) ≡ Some v.k)
 both_read c = pair_some _ _ _ _ (sym c.in-Values.is ∙ c.read_pair.ensures)
 
 pub returns-in_default : goal.returns-in_default

@@ -4,7 +4,7 @@ use Prim.Native.Nat.{ℕ, zero, suc, ◌+◌, ◌*◌, ◌<◌}
 use native.Mathlib.Omega.{arith}
 use mathlib.Core.Path.{◌≡◌, refl, ap, ◌∙◌, subst, subst⁻¹, fun_ext}
 use mathlib.Core.Bool.{true}
-use mathlib.Core.Option.{Option, none, some}
+use Rattle.std.specs.Prelude.{Option, Some, None}
 use lib.Dec.{ltb, eqb}
 use lib.IntN.{ℤ}
 use borrow.Author.Tests.{ltb-true}
@@ -31,10 +31,10 @@ use Rattle.machine.proofs.steps.Flip.{announce_ok}
 module _ (s : Settings) where
   -- an operation's own steps, those of an announced update as if they were in the second pass
   abbrev steps_in_second : Option Operation → ℕ → ℕ
-  steps_in_second none k = k
-  steps_in_second (some (lookup a)) k = k
-  steps_in_second (some (update u)) zero = zero
-  steps_in_second (some (update u)) (suc k) = suc (6 * s.workers + 16 + k)
+  steps_in_second None k = k
+  steps_in_second (Some (lookup a)) k = k
+  steps_in_second (Some (update u)) zero = zero
+  steps_in_second (Some (update u)) (suc k) = suc (6 * s.workers + 16 + k)
 
   abbrev in_second : Worker → Worker
   in_second w = record { last = w.last; operation = w.operation; steps = steps_in_second w.operation w.steps; reads = w.reads }
@@ -71,8 +71,8 @@ module _ (s : Settings) where
     module _ (next : suc (in_second me).steps ≡ steps_in_second me.operation (suc me.steps)) where
       counted_second : (r : Reads) (a : Option Answer) → counted (in_second me) r a ≡ in_second (counted me r a)
       unfolding counted
-      counted_second r none = ap (λ k. record { last = me.last; operation = me.operation; steps = k; reads = r }) next
-      counted_second r (some a) = refl
+      counted_second r None = ap (λ k. record { last = me.last; operation = me.operation; steps = k; reads = r }) next
+      counted_second r (Some a) = refl
 
       step_second :
           (o : Operation) → access s j (in_second me) o ≡ access s j me o → stepped (all_in_second m) j o ≡ all_in_second (stepped m j o)
@@ -82,7 +82,7 @@ module _ (s : Settings) where
 
   module _
       (alone : s.workers ≡ 1) (m : Machine) (j : ℕ) (jn : j < s.workers) (g : Solo m)
-      (u : Update) (e : (m.workers j).operation ≡ some (update u)) (f : (m.workers j).steps ≡ 0)
+      (u : Update) (e : (m.workers j).operation ≡ Some (update u)) (f : (m.workers j).steps ≡ 0)
     where
       abbrev tasks : ℕ → Task
       tasks = tasks_of s (all_in_second m)
@@ -132,7 +132,7 @@ module _ (s : Settings) (range : in_range s.workers s.capacity s.depth ≡ true)
   Kept x y = Good s x.0 → Solo s y.0
 
   -- idle workers are in no pass
-  pub idle_solo : (m : Machine) → Good s m → ((j : ℕ) → (m.workers j).operation ≡ none) → Solo s m
+  pub idle_solo : (m : Machine) → Good s m → ((j : ℕ) → (m.workers j).operation ≡ None) → Solo s m
   idle_solo m g rest = subst (Inv s m.cells) (fun_ext (λ j. rw (rest j) refl)) g
 
   pub solo_call : (m : Machine) (j kind a : ℕ) (v : ℤ) → Solo s m → Solo s (call s m j kind a v).0
@@ -141,11 +141,11 @@ module _ (s : Settings) (range : in_range s.workers s.capacity s.depth ≡ true)
       (λ l. by (m.workers j).operation (operation_of kind a v)) (λ l h. h) (call_good s range (all_in_second s m) j kind a v g)
     where
       by : (o p : Option Operation) → Kept (call_of (all_in_second s m) j o p) (call_of m j o p)
-      by (some o) p = λ h. h
-      by none none = λ h. h
-      by none (some (update u)) = if_elim₂ Kept (spent (m.workers j) (update u)) _ _ _ _ (λ f h. h)
+      by (Some o) p = λ h. h
+      by None None = λ h. h
+      by None (Some (update u)) = if_elim₂ Kept (spent (m.workers j) (update u)) _ _ _ _ (λ f h. h)
           (λ f. subst (Good s) (begun_second s m j (update u)))
-      by none (some (lookup b)) = if_elim₂ Kept (spent (m.workers j) (lookup b)) _ _ _ _ (λ f h. h)
+      by None (Some (lookup b)) = if_elim₂ Kept (spent (m.workers j) (lookup b)) _ _ _ _ (λ f h. h)
           (λ f. subst (Good s) (begun_second s m j (lookup b)))
 
   pub solo_step : (m : Machine) (j : ℕ) → Solo s m → Solo s (step s m j).0
@@ -156,19 +156,19 @@ module _ (s : Settings) (range : in_range s.workers s.capacity s.depth ≡ true)
     where
       by : j < s.workers → (o : Option Operation) (k : ℕ) → (m.workers j).operation ≡ o → (m.workers j).steps ≡ k
           → Kept (step_of s (all_in_second s m) j o) (step_of s m j o)
-      by jn none k e f h = h
-      by jn (some (lookup a)) k e f h = subst (Good s) (step_second s m j (rw e refl) (lookup a) (rw e refl)) h
-      by jn (some (update u)) zero e f h = announced_second s alone m j jn g u e f
-      by jn (some (update u)) (suc k) e f h =
+      by jn None k e f h = h
+      by jn (Some (lookup a)) k e f h = subst (Good s) (step_second s m j (rw e refl) (lookup a) (rw e refl)) h
+      by jn (Some (update u)) zero e f h = announced_second s alone m j jn g u e f
+      by jn (Some (update u)) (suc k) e f h =
           let few = rw (e, f) at (update_under_way s range (all_in_second s m) j u jn g e) in
           let again = phase_again s.workers k (omega arith) in
           subst (Good s) (step_second s m j (rw (e, f) (omega arith)) (update u) (rw (e, f, again) refl)) h
 
   -- an update under way has made fewer than 23 steps, those of the first pass
   pub solo_under_way :
-      (m : Machine) (j : ℕ) (u : Update) → j < s.workers → Solo s m → (m.workers j).operation ≡ some (update u) → (m.workers j).steps < 23
+      (m : Machine) (j : ℕ) (u : Update) → j < s.workers → Solo s m → (m.workers j).operation ≡ Some (update u) → (m.workers j).steps < 23
   solo_under_way m j u jn g e = early (m.workers j).steps (rw e at (update_under_way s range (all_in_second s m) j u jn g e))
     where
-      early : (k : ℕ) → steps_in_second s (some (update u)) k < 12 * s.workers + 33 → k < 23
+      early : (k : ℕ) → steps_in_second s (Some (update u)) k < 12 * s.workers + 33 → k < 23
       early zero l = omega arith
       early (suc k) l = omega arith

@@ -4,7 +4,7 @@ use Prim.Native.Nat.{ℕ, ◌≤◌, ◌<◌}
 use mathlib.Core.Path.{◌≡◌}
 use mathlib.Core.Logic.{◌⊎◌}
 use mathlib.Core.Bool.{true, not}
-use mathlib.Core.Option.{none, some}
+use Rattle.std.specs.Prelude.{Some, None}
 use Rattle.interface.specs.declared.Settings.{Settings}
 use Rattle.machine.specs.Sequential.{Update, account, update, lookup}
 use Rattle.machine.specs.Records.{Name, Body, Bucket, Leaf, kept, made, Copy, Slot, empty, announced, Cells}
@@ -184,26 +184,26 @@ module _ (s : Settings) where
   -- its slot holds its announced update
   pub record Announced (c : Cells) (j : ℕ) (k : Task) : Type 0 where
     pub wanted : Update
-    pub asks : k.operation ≡ some (update wanted)
+    pub asks : k.operation ≡ Some (update wanted)
     pub slot : c.slots j ≡ announced wanted k.ticket
 
   -- it is called for an update, and its slot has an older one, which is settled
   pub record Calling (c : Cells) (j : ℕ) (k : Task) : Type 0 where
     pub wanted : Update
-    pub asks : k.operation ≡ some (update wanted)
+    pub asks : k.operation ≡ Some (update wanted)
     pub settled : SettledSlot c j (c.slots j)
     pub newer : ticket_of (c.slots j) < k.ticket
 
   -- it looks up an account
   pub record Looking (c : Cells) (j : ℕ) (k : Task) : Type 0 where
     pub wanted : ℕ
-    pub asks : k.operation ≡ some (lookup wanted)
+    pub asks : k.operation ≡ Some (lookup wanted)
     pub settled : SettledSlot c j (c.slots j)
 
   -- of its slot
   abbrev pub SlotFacts : PC → Cells → ℕ → Task → Type 0
   SlotFacts pc c j k = by_counter (λ x. Type 0)
-      ((k.operation ≡ none) × SettledSlot c j (c.slots j)) (Calling c j k) (Looking c j k) (Looking c j k) ⊥ (λ x u. Announced c j k) pc
+      ((k.operation ≡ None) × SettledSlot c j (c.slots j)) (Calling c j k) (Looking c j k) (Looking c j k) ⊥ (λ x u. Announced c j k) pc
 
   -- of the bucket or the directory that it has read
   abbrev pub ReadFacts : PC → Cells → ℕ → Task → Type 0

@@ -1,7 +1,7 @@
 -- Each step of the machine is a transition of its worker's task. Rests on the transitions and the laws of cells.
 use Prim.Native.Nat.{ℕ, zero, suc, ◌≤◌}
 use mathlib.Core.Path.{◌≡◌, refl, sym, ap, subst⁻¹, fun_ext}
-use mathlib.Core.Option.{Option, none, some}
+use Rattle.std.specs.Prelude.{Option, Some, None}
 use lib.Dec.{eqb}
 use Rattle.interface.specs.declared.Settings.{Settings}
 use Rattle.interface.specs.declared.Answer.{Answer}
@@ -59,7 +59,7 @@ module _ (s : Settings) (j : ℕ) (c : Cells) where
   abbrev StepIsTransition : Operation → Worker → Type 0
   StepIsTransition o w = ((task_of s.workers w).pc ≡ over → ⊥) → IsTransition w (perform (access s j w o) c)
 
-  lookup_transition : (a t i : ℕ) (r : Reads) → StepIsTransition (lookup a) (doing (some (lookup a)) t i r)
+  lookup_transition : (a t i : ℕ) (r : Reads) → StepIsTransition (lookup a) (doing (Some (lookup a)) t i r)
   unfolding access lookup_access directory_reading perform counted
   lookup_transition a t zero r early = rw direct_same (looks refl)
   lookup_transition a t (suc zero) r early = rw assign_state_same (finds refl)
@@ -67,14 +67,14 @@ module _ (s : Settings) (j : ℕ) (c : Cells) where
 
   module _ (u : Update) (t i : ℕ) (r : Reads) where
     abbrev me : Worker
-    me = doing (some (update u)) t i r
+    me = doing (Some (update u)) t i r
 
     abbrev task : Task
     task = task_of s.workers me
 
     -- the update goes on at counter pc, with cells d and reads q
     abbrev To : Cells → Reads → PC → Type 0
-    To d q pc = Transition s j c task d (goes task pc q) none
+    To d q pc = Transition s j c task d (goes task pc q) None
 
     -- the worker is at counter pc, a step of an update
     record CounterAt (pc : PC) : Type 0 where
@@ -94,8 +94,8 @@ module _ (s : Settings) (j : ℕ) (c : Cells) where
         (p x : Two) → CounterAt (check_s p x) → (a : Option Answer) → checked j t (body c (held task)) ≡ a
         → IsTransition me (record { contents = c; reads = r; answer = a })
     unfolding counted
-    check_transition p x h none e = step_moves refl h.next (passes p x h.at e)
-    check_transition p x h (some a) e = answers p x a h.at e
+    check_transition p x h None e = step_moves refl h.next (passes p x h.at e)
+    check_transition p x h (Some a) e = answers p x a h.at e
 
     update_transition : (pc : PC) → CounterAt pc → IsTransition me (perform (update_access s j r u t (phase_of pc)) c)
     unfolding perform update_access announcing directory_reading flipping state_reading toggle_reading slot_reading state_swapping swapped
@@ -131,7 +131,7 @@ module _ (s : Settings) (j : ℕ) (c : Cells) where
         (λ e. redirects p x h.at (sym e))
         (λ e. rw direct_same (misses_d p x h.at (λ f. e (sym f)))))
 
-  step_is_transition : 1 ≤ s.workers → (o : Operation) (t i : ℕ) (r : Reads) → StepIsTransition o (doing (some o) t i r)
+  step_is_transition : 1 ≤ s.workers → (o : Operation) (t i : ℕ) (r : Reads) → StepIsTransition o (doing (Some o) t i r)
   unfolding access
   step_is_transition h (lookup a) t i r early = lookup_transition a t i r early
   step_is_transition h (update u) t i r early =
@@ -145,7 +145,7 @@ module _ (s : Settings) (j : ℕ) (c : Cells) where
       }))
 
 pub step_transition :
-    (s : Settings) (m : Machine) (j : ℕ) (o : Operation) → 1 ≤ s.workers → (m.workers j).operation ≡ some o
+    (s : Settings) (m : Machine) (j : ℕ) (o : Operation) → 1 ≤ s.workers → (m.workers j).operation ≡ Some o
     → ((tasks_of s m j).pc ≡ over → ⊥)
     → Transition s j m.cells (tasks_of s m j) (effect_of s m j o).contents (task_of s.workers (worker_after s m j o))
     (effect_of s m j o).answer

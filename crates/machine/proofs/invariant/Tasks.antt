@@ -6,7 +6,7 @@ use native.Mathlib.Decide.{dec_lt}
 use mathlib.Core.Path.{◌≡◌, refl, ap, ◌∙◌, subst, subst⁻¹, fun_ext}
 use mathlib.Core.Logic.{inl, by_cases}
 use mathlib.Core.Bool.{true}
-use mathlib.Core.Option.{Option, none, some}
+use Rattle.std.specs.Prelude.{Option, Some, None}
 use lib.Dec.{ltb, eqb}
 use lib.IntN.{ℤ}
 use borrow.Author.Tests.{ltb-true}
@@ -88,14 +88,14 @@ module _ (s : Settings) (m : Machine) (j : ℕ) where
     not_over e = subst (λ pc. SlotFacts s pc m.cells j (tasks_of s m j)) e (good.own j jn).slot
 
     -- an idle worker's operation begins
-    begun_good : (o : Operation) → (m.workers j).operation ≡ none → Good s (begun m j o)
+    begun_good : (o : Operation) → (m.workers j).operation ≡ None → Good s (begun m j o)
     unfolding begun assign ticket_for
     begun_good o e = subst⁻¹ (Inv s m.cells) (fun_ext (λ i. if_ap (task_of s.workers) (eqb i j) _ (m.workers i))) (by o)
       where
         called : Operation → Task
         called o =
             let w = m.workers j in
-            record { pc = counter_of s.workers (some o) 0; operation = some o; ticket = ticket_for w o; reads = w.reads }
+            record { pc = counter_of s.workers (Some o) 0; operation = Some o; ticket = ticket_for w o; reads = w.reads }
 
         from_idle :
             {k' : Task} → Reading s j m.cells (goes (tasks_of s m j) idle (m.workers j).reads) k'
@@ -127,9 +127,9 @@ module _ (s : Settings) (range : in_range s.workers s.capacity s.depth ≡ true)
       Left x = Good s x.0
 
       by : j < s.workers → (o : Option Operation) → (m.workers j).operation ≡ o → (p : Option Operation) → Left (call_of m j o p)
-      by jn (some o) e p = g
-      by jn none e none = g
-      by jn none e (some p) = if_elim Left (spent (m.workers j) p) _ _ (λ f. g) (λ f. begun_good s m j jn g p e)
+      by jn (Some o) e p = g
+      by jn None e None = g
+      by jn None e (Some p) = if_elim Left (spent (m.workers j) p) _ _ (λ f. g) (λ f. begun_good s m j jn g p e)
 
   pub step_good : (m : Machine) (j : ℕ) → Good s m → Good s (step s m j).0
   unfolding step step_of done
@@ -139,8 +139,8 @@ module _ (s : Settings) (range : in_range s.workers s.capacity s.depth ≡ true)
       Left x = Good s x.0
 
       by : j < s.workers → (o : Option Operation) → (m.workers j).operation ≡ o → Left (step_of s m j o)
-      by jn none e = g
-      by jn (some o) e =
+      by jn None e = g
+      by jn (Some o) e =
           let limits = range_of s.workers s.capacity s.depth range in
           subst⁻¹ (Inv s _) (tasks_after s m j o)
           (transition_good s j jn m.cells (tasks_of s m) g (omega (arith, limits.greatest-depth))
@@ -148,13 +148,13 @@ module _ (s : Settings) (range : in_range s.workers s.capacity s.depth ≡ true)
 
   -- an update under way has made fewer than 12n+33 steps, a lookup fewer than 2
   pub update_under_way :
-      (m : Machine) (j : ℕ) (u : Update) → j < s.workers → Good s m → (m.workers j).operation ≡ some (update u)
+      (m : Machine) (j : ℕ) (u : Update) → j < s.workers → Good s m → (m.workers j).operation ≡ Some (update u)
       → (m.workers j).steps < 12 * s.workers + 33
   update_under_way m j u jn g e = by_cases (dec_lt (m.workers j).steps (12 * s.workers + 33)) (λ l. l)
       (λ l. absurd (not_over s m j jn g (counter_for s m j e ∙ counter_end s.workers (m.workers j).steps (omega arith))))
 
   pub lookup_under_way :
-      (m : Machine) (j a : ℕ) → j < s.workers → Good s m → (m.workers j).operation ≡ some (lookup a) → (m.workers j).steps < 2
+      (m : Machine) (j a : ℕ) → j < s.workers → Good s m → (m.workers j).operation ≡ Some (lookup a) → (m.workers j).steps < 2
   lookup_under_way m j a jn g e = early (m.workers j).steps (λ f. not_over s m j jn g (counter_for s m j e ∙ f))
     where
       early : (i : ℕ) → (lookup_counter i ≡ over → ⊥) → i < 2

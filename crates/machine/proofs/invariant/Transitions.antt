@@ -3,7 +3,7 @@
 use Prim.Native.Nat.{ℕ, suc, ◌≤◌, ◌<◌}
 use mathlib.Core.Path.{◌≡◌}
 use mathlib.Core.Bool.{not}
-use mathlib.Core.Option.{Option, none, some}
+use Rattle.std.specs.Prelude.{Option, Some, None}
 use Rattle.interface.specs.declared.Settings.{Settings}
 use Rattle.interface.specs.declared.Answer.{Answer}
 use Rattle.machine.specs.Choice.{assign}
@@ -22,7 +22,7 @@ use Rattle.machine.proofs.invariant.Preservation.{goes}
 
 -- an operation ended
 abbrev pub ended_task : Task → Reads → Task
-ended_task k r = record { pc = idle; operation = none; ticket = k.ticket; reads = r }
+ended_task k r = record { pc = idle; operation = None; ticket = k.ticket; reads = r }
 
 -- ---- the cells after a step that changes them
 
@@ -64,35 +64,35 @@ resized_for s c i r = with_copy r (copy_slot s c i r (r.slots i))
 
 -- worker w with task k, at cells c: the cells, the task and the answer that its step leaves
 pub data Transition (s : Settings) (w : ℕ) (c : Cells) (k : Task) : Cells → Task → Option Answer → Type 0 where
-  looks : k.pc ≡ look₁ → Transition s w c k c (goes k look₂ (with_directory k.reads c.directory)) none
-  finds : k.pc ≡ look₂ → Transition s w c k c (ended_task k k.reads) (some (looked (find (body c (held k)).items (target k))))
-  announces : (u : Update) → k.pc ≡ announce → k.operation ≡ some (update u)
-      → Transition s w c k (assign_slot c w (announced u k.ticket)) (goes k (read_d one) k.reads) none
-  reads_d : (p : Two) → k.pc ≡ read_d p → Transition s w c k c (goes k (flip p) (with_directory k.reads c.directory)) none
-  flips : (p : Two) → k.pc ≡ flip p → Transition s w c k (flipped_cells w c k) (goes k (in_b p one read_s) k.reads) none
-  reads_s : (p r : Two) → k.pc ≡ in_b p r read_s → Transition s w c k c (goes k (in_b p r read_t) (with_state k.reads (own c k).state)) none
+  looks : k.pc ≡ look₁ → Transition s w c k c (goes k look₂ (with_directory k.reads c.directory)) None
+  finds : k.pc ≡ look₂ → Transition s w c k c (ended_task k k.reads) (Some (looked (find (body c (held k)).items (target k))))
+  announces : (u : Update) → k.pc ≡ announce → k.operation ≡ Some (update u)
+      → Transition s w c k (assign_slot c w (announced u k.ticket)) (goes k (read_d one) k.reads) None
+  reads_d : (p : Two) → k.pc ≡ read_d p → Transition s w c k c (goes k (flip p) (with_directory k.reads c.directory)) None
+  flips : (p : Two) → k.pc ≡ flip p → Transition s w c k (flipped_cells w c k) (goes k (in_b p one read_s) k.reads) None
+  reads_s : (p r : Two) → k.pc ≡ in_b p r read_s → Transition s w c k c (goes k (in_b p r read_t) (with_state k.reads (own c k).state)) None
   reads_t :
-      (p r : Two) → k.pc ≡ in_b p r read_t → Transition s w c k c (goes k (in_b p r (slot_b 0)) (with_toggle k.reads (own c k).toggle)) none
+      (p r : Two) → k.pc ≡ in_b p r read_t → Transition s w c k c (goes k (in_b p r (slot_b 0)) (with_toggle k.reads (own c k).toggle)) None
   slots_b : (p r : Two) (i : ℕ) → k.pc ≡ in_b p r (slot_b i) → suc i < s.workers
-      → Transition s w c k c (goes k (in_b p r (slot_b (suc i))) (with_slot k.reads i (c.slots i))) none
+      → Transition s w c k c (goes k (in_b p r (slot_b (suc i))) (with_slot k.reads i (c.slots i))) None
   last_b : (p r : Two) (i : ℕ) → k.pc ≡ in_b p r (slot_b i) → s.workers ≤ suc i
-      → Transition s w c k c (goes k (in_b p r swap) (with_slot k.reads i (c.slots i))) none
-  swaps : (p r : Two) → k.pc ≡ in_b p r swap → Fresh c k → Transition s w c k (swapped_cells s c k) (goes k (after_b p r) k.reads) none
-  misses : (p r : Two) → k.pc ≡ in_b p r swap → (Fresh c k → ⊥) → Transition s w c k c (goes k (after_b p r) k.reads) none
-  checks_d : (p x : Two) → k.pc ≡ check_d p x → Transition s w c k c (goes k (check_s p x) (with_directory k.reads c.directory)) none
-  answers : (p x : Two) (a : Answer) → k.pc ≡ check_s p x → checked w k.ticket (body c (held k)) ≡ some a
-      → Transition s w c k c (ended_task k k.reads) (some a)
-  passes : (p x : Two) → k.pc ≡ check_s p x → checked w k.ticket (body c (held k)) ≡ none
-      → Transition s w c k c (goes k (after_c p x) k.reads) none
-  copies : (p r : Two) → k.pc ≡ in_d p r copy_d → Transition s w c k c (goes k (in_d p r (slot_d 0)) (copied_directory c k.reads)) none
+      → Transition s w c k c (goes k (in_b p r swap) (with_slot k.reads i (c.slots i))) None
+  swaps : (p r : Two) → k.pc ≡ in_b p r swap → Fresh c k → Transition s w c k (swapped_cells s c k) (goes k (after_b p r) k.reads) None
+  misses : (p r : Two) → k.pc ≡ in_b p r swap → (Fresh c k → ⊥) → Transition s w c k c (goes k (after_b p r) k.reads) None
+  checks_d : (p x : Two) → k.pc ≡ check_d p x → Transition s w c k c (goes k (check_s p x) (with_directory k.reads c.directory)) None
+  answers : (p x : Two) (a : Answer) → k.pc ≡ check_s p x → checked w k.ticket (body c (held k)) ≡ Some a
+      → Transition s w c k c (ended_task k k.reads) (Some a)
+  passes : (p x : Two) → k.pc ≡ check_s p x → checked w k.ticket (body c (held k)) ≡ None
+      → Transition s w c k c (goes k (after_c p x) k.reads) None
+  copies : (p r : Two) → k.pc ≡ in_d p r copy_d → Transition s w c k c (goes k (in_d p r (slot_d 0)) (copied_directory c k.reads)) None
   slots_d : (p r : Two) (i : ℕ) → k.pc ≡ in_d p r (slot_d i) → suc i < s.workers
-      → Transition s w c k c (goes k (in_d p r (slot_d (suc i))) (with_slot k.reads i (c.slots i))) none
+      → Transition s w c k c (goes k (in_d p r (slot_d (suc i))) (with_slot k.reads i (c.slots i))) None
   last_d : (p r : Two) (i : ℕ) → k.pc ≡ in_d p r (slot_d i) → s.workers ≤ suc i
-      → Transition s w c k c (goes k (in_d p r (state 0)) (with_slot k.reads i (c.slots i))) none
+      → Transition s w c k c (goes k (in_d p r (state 0)) (with_slot k.reads i (c.slots i))) None
   resizes : (p r : Two) (i : ℕ) → k.pc ≡ in_d p r (state i) → suc i < s.workers
-      → Transition s w c k c (goes k (in_d p r (state (suc i))) (resized_for s c i k.reads)) none
+      → Transition s w c k c (goes k (in_d p r (state (suc i))) (resized_for s c i k.reads)) None
   last_state : (p r : Two) (i : ℕ) → k.pc ≡ in_d p r (state i) → i < s.workers → s.workers ≤ suc i
-      → Transition s w c k c (goes k (in_d p r swap_d) (resized_for s c i k.reads)) none
+      → Transition s w c k c (goes k (in_d p r swap_d) (resized_for s c i k.reads)) None
   redirects : (p r : Two) → k.pc ≡ in_d p r swap_d → DirectoryFresh c k
-      → Transition s w c k (redirected_cells c k) (goes k (after_d p r) k.reads) none
-  misses_d : (p r : Two) → k.pc ≡ in_d p r swap_d → (DirectoryFresh c k → ⊥) → Transition s w c k c (goes k (after_d p r) k.reads) none
+      → Transition s w c k (redirected_cells c k) (goes k (after_d p r) k.reads) None
+  misses_d : (p r : Two) → k.pc ≡ in_d p r swap_d → (DirectoryFresh c k → ⊥) → Transition s w c k c (goes k (after_d p r) k.reads) None

@@ -6,7 +6,7 @@ use native.Mathlib.Decide.{ℕ_discrete}
 use mathlib.Core.Path.{◌≡◌, refl, ap, sym, ◌∙◌, subst}
 use mathlib.Core.Logic.{◌≢◌, ◌⊎◌, inl, inr}
 use mathlib.Core.Bool.{Bool, true, false, not}
-use mathlib.Core.Option.{Option, none, some}
+use Rattle.std.specs.Prelude.{Option, Some, None}
 use lib.Dec.{ltb, eqb}
 use borrow.Author.Tests.{eqb-true, ltb-true, ltb-false, not-true}
 use Rattle.interface.specs.declared.Settings.{Settings}
@@ -406,10 +406,10 @@ module _ {k : ℕ} (small : k ≤ 32) (s : Settings) (limit : s.depth ≤ k) whe
 
 -- ---- the swap
 
-body_if_some : (x : Name) (l : Leaf) (b : Body) → body_if x l ≡ some b → l ≡ made x b
+body_if_some : (x : Name) (l : Leaf) (b : Body) → body_if x l ≡ Some b → l ≡ made x b
 body_if_some x (kept y) b = λ e. absurd (none_some refl e)
 body_if_some x (made y v) b =
-    if_elim (λ (o : Option Body). o ≡ some b → made y v ≡ made x b) (same y x) (some v) none
+    if_elim (λ (o : Option Body). o ≡ Some b → made y v ≡ made x b) (same y x) (Some v) None
     (λ f e. let g : y ≡ x = same_true y x f in cc) (λ f e. absurd (none_some refl e))
 
 module _ {k : ℕ} (small : k ≤ 32) {c : Copy} (h : Coherent k c) where
@@ -431,14 +431,14 @@ module _ {k : ℕ} (small : k ≤ 32) {c : Copy} (h : Coherent k c) where
       let r = first_leaf x a (own-leaf h a x at a at) (depth_x h a x at) in
       ap (body_if x) (r.2 ∙ same_leaf h a x at r.0 r.1)
 
-  pub body_made_made : (a : ℕ) (x : Name) (b : Body) → leaf_of c a ≡ made x b → body_made c x ≡ some b
+  pub body_made_made : (a : ℕ) (x : Name) (b : Body) → leaf_of c a ≡ made x b → body_made c x ≡ Some b
   body_made_made a x b at = body_at a x (ap name_of at) ∙ ap (body_if x) at ∙ if_true _ _ (eq_same x x refl)
 
-  pub body_made_kept : (a : ℕ) (x : Name) → leaf_of c a ≡ kept x → body_made c x ≡ none
+  pub body_made_kept : (a : ℕ) (x : Name) → leaf_of c a ≡ kept x → body_made c x ≡ None
   body_made_kept a x at = body_at a x (ap name_of at) ∙ ap (body_if x) at
 
   -- a name that has a body is that of the leaf of all its accounts
-  pub body_made_some : (x : Name) (b : Body) → body_made c x ≡ some b → (a : ℕ) → InBucket x a → leaf_of c a ≡ made x b
+  pub body_made_some : (x : Name) (b : Body) → body_made c x ≡ Some b → (a : ℕ) → InBucket x a → leaf_of c a ≡ made x b
   unfolding body_made
   body_made_some x b e a i =
       let l : c.leaves (x.prefix * 2 ^ (c.depth - x.depth)) ≡ made x b = body_if_some x _ b e in

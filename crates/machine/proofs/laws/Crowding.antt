@@ -5,7 +5,7 @@ use native.Mathlib.Omega.{arith}
 use mathlib.Core.Path.{◌≡◌, refl, ◌∙◌, ap}
 use mathlib.Core.Logic.{◌≢◌}
 use mathlib.Core.Bool.{true, false}
-use mathlib.Core.Option.{Option, some, none}
+use Rattle.std.specs.Prelude.{Option, Some, None}
 use lib.IntN.{ℤ, ◌+ℤ◌}
 use Rattle.interface.specs.Numbers.{answer_number}
 use Rattle.interface.specs.declared.Answer.{Answer}
@@ -16,8 +16,8 @@ use Rattle.machine.proofs.laws.Base.{if_elim, if_true, if_false, and_true, and_p
 
 present_apart : (x : Option ℤ) {there missing : Answer} → there ≢ Crowded → missing ≢ Crowded → present x there missing ≢ Crowded
 unfolding present
-present_apart (some x) f g = f
-present_apart none f g = g
+present_apart (Some x) f g = f
+present_apart None f g = g
 
 -- what an update does is not answered crowded
 result_apart : (u : Update) (t : Table) → result u t ≢ Crowded
@@ -51,7 +51,7 @@ module _ (b M : ℕ) where
       if_false (Crowded, t) (result u t, changed u t) (rw old (and_right_false (crowds b M (account u) t)))
 
   -- "closing or correcting an account must work however many neighbours it has"
-  module _ (a : ℕ) (x : ℤ) (t : Table) (there : find t a ≡ some x) where
+  module _ (a : ℕ) (x : ℤ) (t : Table) (there : find t a ≡ Some x) where
     pub closed : serve b M (update (delete a)) t ≡ (Removed, remove t a)
     unfolding creates result changed present
     closed = not_crowded (delete a) t refl ∙ rw there

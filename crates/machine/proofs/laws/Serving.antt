@@ -7,7 +7,7 @@ use mathlib.Core.Path.{◌≡◌, refl, ap, sym, ◌∙◌, subst}
 use mathlib.Core.Logic.{◌⊎◌, inl, inr, ⊎_elim}
 use mathlib.Core.Bool.{Bool, true, false}
 use mathlib.Core.List.{List, [], ◌∷◌, ◌++◌}
-use mathlib.Core.Option.{some}
+use Rattle.std.specs.Prelude.{Some}
 use lib.ListN.{length}
 use borrow.Author.Tests.{leb-false, lt-leb, ltb-false}
 use Rattle.interface.specs.declared.Settings.{Settings}
@@ -94,12 +94,12 @@ module _ (s : Settings) (tasks : ℕ → Task) where
 -- ---- one operation
 
 module _ (s : Settings) where
-  pub serve_if_lookup : (a : ℕ) (t : Table) → serve_if s (some (lookup a)) t ≡ (looked (find t a), t)
+  pub serve_if_lookup : (a : ℕ) (t : Table) → serve_if s (Some (lookup a)) t ≡ (looked (find t a), t)
   unfolding serve_if serve
   serve_if_lookup a t = refl
 
   pub serve_if_update :
-      (u : Update) (t : Table) → serve_if s (some (update u)) t ≡ tried (crowds s.capacity s.depth (account u) t) u t
+      (u : Update) (t : Table) → serve_if s (Some (update u)) t ≡ tried (crowds s.capacity s.depth (account u) t) u t
   unfolding serve_if serve
   serve_if_update u t = refl
 

@@ -7,7 +7,7 @@ use mathlib.Core.Path.{◌≡◌, refl, ap, sym, ◌∙◌}
 use mathlib.Core.Logic.{◌≢◌, by_cases}
 use mathlib.Core.Bool.{Bool, true, false}
 use mathlib.Core.List.{[], ◌∷◌}
-use mathlib.Core.Option.{Option, none, some}
+use Rattle.std.specs.Prelude.{Option, Some, None}
 use lib.Dec.{ltb, leb, eqb}
 use lib.ListN.{length}
 use lib.IntN.{ℤ, ◌+ℤ◌}
@@ -42,17 +42,17 @@ having_elim : (P : Table → Type 0) (d q : ℕ) (e : ℕ × ℤ) (t : Table)
 unfolding having
 having_elim P d q e t inside outside = eq_elim P (first_bits d e.0) q (e ∷ having d q t) (having d q t) inside outside
 
-find_head : (e : ℕ × ℤ) (t : Table) → find (e ∷ t) e.0 ≡ some e.1
+find_head : (e : ℕ × ℤ) (t : Table) → find (e ∷ t) e.0 ≡ Some e.1
 unfolding find
-find_head e t = if_eq e.0 e.0 (some e.1) (find t e.0) refl
+find_head e t = if_eq e.0 e.0 (Some e.1) (find t e.0) refl
 
 find_tail : (e : ℕ × ℤ) (t : Table) (a : ℕ) → e.0 ≢ a → find (e ∷ t) a ≡ find t a
 unfolding find
-find_tail e t a n = if_ne e.0 a (some e.1) (find t a) n
+find_tail e t a n = if_ne e.0 a (Some e.1) (find t a) n
 
 find_cons : (e : ℕ × ℤ) (t t' : Table) (a : ℕ) → find t a ≡ find t' a → find (e ∷ t) a ≡ find (e ∷ t') a
 unfolding find
-find_cons e t t' a h = ap (λ (x : Option ℤ). when eqb e.0 a then some e.1 else x) h
+find_cons e t t' a h = ap (λ (x : Option ℤ). when eqb e.0 a then Some e.1 else x) h
 
 -- ---- ascending tables
 
@@ -104,15 +104,15 @@ ascending_changed (post a v) t h = if_elim Ascending _ _ _ (λ e. ascending_put 
 
 -- ---- what is found
 
-pub find_above : (x : ℕ) (t : Table) (a : ℕ) → a ≤ x → AccountsAbove x t → find t a ≡ none
+pub find_above : (x : ℕ) (t : Table) (a : ℕ) → a ≤ x → AccountsAbove x t → find t a ≡ None
 unfolding find
 find_above x [] a l h = refl
 find_above x (e ∷ t) a l h = find_tail e t a (λ q. omega (arith, h.0)) ∙ find_above x t a l h.1
 
-pub find_put_at : (t : Table) (a : ℕ) (v : ℤ) → find (put t a v) a ≡ some v
+pub find_put_at : (t : Table) (a : ℕ) (v : ℤ) → find (put t a v) a ≡ Some v
 unfolding put
 find_put_at [] a v = find_head (a, v) []
-find_put_at (e ∷ t) a v = put_elim (λ (l : Table). find l a ≡ some v) e t a v
+find_put_at (e ∷ t) a v = put_elim (λ (l : Table). find l a ≡ Some v) e t a v
     (λ q. find_head (a, v) (e ∷ t))
     (λ q. find_head (a, v) t)
     (λ q. find_tail e (put t a v) a (λ y. omega arith) ∙ find_put_at t a v)
@@ -125,10 +125,10 @@ find_put_other (e ∷ t) a v c n = put_elim (λ (l : Table). find l c ≡ find (
     (λ q. find_tail (a, v) t c (λ y. n (sym y)) ∙ sym (find_tail e t c (λ y. n (sym (q ∙ y)))))
     (λ q. find_cons e (put t a v) t c (find_put_other t a v c n))
 
-pub find_remove_at : (t : Table) (a : ℕ) → Ascending t → find (remove t a) a ≡ none
+pub find_remove_at : (t : Table) (a : ℕ) → Ascending t → find (remove t a) a ≡ None
 unfolding find remove
 find_remove_at [] a h = refl
-find_remove_at (e ∷ t) a h = remove_elim (λ (l : Table). find l a ≡ none) e t a
+find_remove_at (e ∷ t) a h = remove_elim (λ (l : Table). find l a ≡ None) e t a
     (λ q. find_above e.0 t a (omega arith) h.0)
     (λ q. find_tail e (remove t a) a q ∙ find_remove_at t a h.1)
 
@@ -146,18 +146,18 @@ find_having_in d q (e ∷ t) a h = having_elim (λ (l : Table). find l a ≡ fin
     (λ g. find_cons e (having d q t) t a (find_having_in d q t a h))
     (λ g. find_having_in d q t a h ∙ sym (find_tail e t a (λ y. g (ap (first_bits d) y ∙ h))))
 
-pub find_having_out : (d q : ℕ) (t : Table) (a : ℕ) → first_bits d a ≢ q → find (having d q t) a ≡ none
+pub find_having_out : (d q : ℕ) (t : Table) (a : ℕ) → first_bits d a ≢ q → find (having d q t) a ≡ None
 unfolding find having
 find_having_out d q [] a h = refl
-find_having_out d q (e ∷ t) a h = having_elim (λ (l : Table). find l a ≡ none) d q e t
+find_having_out d q (e ∷ t) a h = having_elim (λ (l : Table). find l a ≡ None) d q e t
     (λ g. find_tail e (having d q t) a (λ y. h (ap (first_bits d) (sym y) ∙ g)) ∙ find_having_out d q t a h)
     (λ g. find_having_out d q t a h)
 
 -- what an update leaves at its account, where it finds so much
 unfoldable pub total_after : Update → Option ℤ → Option ℤ
-total_after (insert a v) x = some v
-total_after (delete a) x = none
-total_after (post a v) x = when is_total (total_or0 x +ℤ v) then some (total_or0 x +ℤ v) else x
+total_after (insert a v) x = Some v
+total_after (delete a) x = None
+total_after (post a v) x = when is_total (total_or0 x +ℤ v) then Some (total_or0 x +ℤ v) else x
 
 pub find_changed_at : (u : Update) (t : Table) → Ascending t → find (changed u t) (account u) ≡ total_after u (find t (account u))
 unfolding changed total_after sum when◌then◌else◌
@@ -165,7 +165,7 @@ find_changed_at (insert a v) t h = find_put_at t a v
 find_changed_at (delete a) t h = find_remove_at t a h
 find_changed_at (post a v) t h = posted (is_total (sum t a v))
   where
-    posted : (b : Bool) → find (when b then put t a (sum t a v) else t) a ≡ when b then some (sum t a v) else find t a
+    posted : (b : Bool) → find (when b then put t a (sum t a v) else t) a ≡ when b then Some (sum t a v) else find t a
     posted true = find_put_at t a (sum t a v)
     posted false = refl
 
@@ -178,7 +178,7 @@ find_changed_other (post a v) t c n =
 
 -- ---- ascending tables in which the same is found are the same
 
-head_least : (e : ℕ × ℤ) (t : Table) (a : ℕ) (v : ℤ) → Ascending (e ∷ t) → find (e ∷ t) a ≡ some v → e.0 ≤ a
+head_least : (e : ℕ × ℤ) (t : Table) (a : ℕ) (v : ℤ) → Ascending (e ∷ t) → find (e ∷ t) a ≡ Some v → e.0 ≤ a
 head_least e t a v h f = by_cases (dec_lt a e.0)
     (λ l. absurd (none_some (find_above a (e ∷ t) a (omega arith) (l, above_less a e.0 t (omega arith) h.0)) f)) (λ l. omega arith)
 
@@ -197,7 +197,7 @@ table_ext (e ∷ t) (f ∷ t') s r h = ap (λ (x : ℕ × ℤ). x ∷ t) heads �
 
     heads : e ≡ f
     heads =
-        let v : some e.1 ≡ some f.1 = sym (find_head e t) ∙ h e.0 ∙ ap (find (f ∷ t')) accounts ∙ find_head f t' in
+        let v : Some e.1 ≡ Some f.1 = sym (find_head e t) ∙ h e.0 ∙ ap (find (f ∷ t')) accounts ∙ find_head f t' in
         let w : e.1 ≡ f.1 = cc in
         λ i. (accounts i, w i)
 

@@ -7,7 +7,7 @@ use mathlib.Core.Path.{◌≡◌, refl, sym, ap, ◌∙◌, subst}
 use mathlib.Core.Logic.{◌≢◌, by_cases}
 use mathlib.Core.Bool.{true}
 use mathlib.Core.List.{[]}
-use mathlib.Core.Option.{Option, none, some}
+use Rattle.std.specs.Prelude.{Option, Some, None}
 use lib.Dec.{eqb}
 use lib.IntN.{ℤ}
 use borrow.Author.Tests.{eq-eqb}
@@ -35,9 +35,9 @@ use Rattle.machine.proofs.moments.Explain.{Parts, status_at, status, outcome, se
 use Rattle.machine.proofs.moments.StepExplained.{step_explained}
 
 abbrev pub answer_in : Stepped → Option Answer
-answer_in Stepped.Moved = none
-answer_in (Stepped.Answered c) = some c.answer
-answer_in (Stepped.Refused r) = none
+answer_in Stepped.Moved = None
+answer_in (Stepped.Answered c) = Some c.answer
+answer_in (Stepped.Refused r) = None
 
 -- ---- an accepted step, an accepted call
 
@@ -45,7 +45,7 @@ answer_in (Stepped.Refused r) = none
 pub record StepParts (s : Settings) (m : Machine) (j : ℕ) : Type 0 where
   pub worker : j < s.workers
   pub operation : Operation
-  pub under-way : (m.workers j).operation ≡ some operation
+  pub under-way : (m.workers j).operation ≡ Some operation
   pub is : step s m j ≡ done m j (check_of s (m.workers j) operation) (effect_of s m j operation)
 
 module _ (s : Settings) (m : Machine) (j : ℕ) where
@@ -57,15 +57,15 @@ module _ (s : Settings) (m : Machine) (j : ℕ) where
       not_refused e = no_both h (ap (λ (x : Machine × Stepped). moves x.1) e)
 
       by : j < s.workers → (o : Option Operation) → (m.workers j).operation ≡ o → StepParts s m j
-      by l none e = absurd (not_refused (step_idle s m j l e))
-      by l (some o) e = record { worker = l; operation = o; under-way = e; is = step_made s m j l e }
+      by l None e = absurd (not_refused (step_idle s m j l e))
+      by l (Some o) e = record { worker = l; operation = o; under-way = e; is = step_made s m j l e }
 
 -- what an accepted call to worker j is made of
 pub record CallParts (s : Settings) (m : Machine) (j kind a : ℕ) (v : ℤ) : Type 0 where
   pub worker : j < s.workers
-  pub idle : (m.workers j).operation ≡ none
+  pub idle : (m.workers j).operation ≡ None
   pub operation : Operation
-  pub asks : operation_of kind a v ≡ some operation
+  pub asks : operation_of kind a v ≡ Some operation
   pub is : call s m j kind a v ≡ (begun m j operation, Called.Accepted)
 
 module _ (s : Settings) (m : Machine) (j kind a : ℕ) (v : ℤ) where
@@ -78,26 +78,26 @@ module _ (s : Settings) (m : Machine) (j kind a : ℕ) (v : ℤ) where
       not_refused e = no_both h (ap (λ (x : Machine × Called). accepts x.1) e)
 
       accepted :
-          j < s.workers → (m.workers j).operation ≡ none → (p : Option Operation) → operation_of kind a v ≡ p → CallParts s m j kind a v
-      accepted l e none f = absurd (not_refused (idle_call s m j kind a v l e f))
-      accepted l e (some p) f =
+          j < s.workers → (m.workers j).operation ≡ None → (p : Option Operation) → operation_of kind a v ≡ p → CallParts s m j kind a v
+      accepted l e None f = absurd (not_refused (idle_call s m j kind a v l e f))
+      accepted l e (Some p) f =
           if_elim {A = Machine × Called} (λ r. call s m j kind a v ≡ r → CallParts s m j kind a v) (spent (m.workers j) p) _ _
           (λ q g. absurd (not_refused g))
           (λ q g. record { worker = l; idle = e; operation = p; asks = f; is = g })
           (idle_call s m j kind a v l e f)
 
       by : j < s.workers → (o : Option Operation) → (m.workers j).operation ≡ o → CallParts s m j kind a v
-      by l (some o) e = absurd (not_refused (call_busy s m j kind a v l e))
-      by l none e = accepted l e (operation_of kind a v) refl
+      by l (Some o) e = absurd (not_refused (call_busy s m j kind a v l e))
+      by l None e = accepted l e (operation_of kind a v) refl
 
 -- ---- one entry
 
 -- the answer that an entry gives worker j
 abbrev pub answer_to : Settings → Machine → Entry → ℕ → Option Answer
-answer_to s m (calling i kind a v) j = none
-answer_to s m (stepping i) j = when eqb j i then answer_in (step s m i).1 else none
-answer_to s m (showing x y) j = none
-answer_to s m (reopening n b M) j = none
+answer_to s m (calling i kind a v) j = None
+answer_to s m (stepping i) j = when eqb j i then answer_in (step s m i).1 else None
+answer_to s m (showing x y) j = None
+answer_to s m (reopening n b M) j = None
 
 -- who takes effect at entry e of machine m with the plain table t, and what holds afterwards
 abbrev pub ExplainedEntry : Settings → ℕ → Machine → Entry → Table → Type 0
@@ -113,8 +113,8 @@ pub record Advance (s : Settings) (lent : ℕ) (m : Machine) (e : Entry) (t : Ta
 
 answer_step_reply : (k c : ℕ) (a : Option Answer) → answer_in (step_reply k c a) ≡ a
 unfolding step_reply
-answer_step_reply k c none = refl
-answer_step_reply k c (some r) = refl
+answer_step_reply k c None = refl
+answer_step_reply k c (Some r) = refl
 
 -- the answer of a step that is made
 answer_done : (m : Machine) (j c : ℕ) (f : Effect Cells) → answer_in (done m j c f).1 ≡ f.answer
@@ -122,7 +122,7 @@ unfolding done
 answer_done m j c f = answer_step_reply _ c f.answer
 
 -- an idle worker waits for nothing
-pub idle_status : (s : Settings) (m : Machine) (j : ℕ) → (m.workers j).operation ≡ none → status m.cells j (tasks_of s m j) ≡ none
+pub idle_status : (s : Settings) (m : Machine) (j : ℕ) → (m.workers j).operation ≡ None → status m.cells j (tasks_of s m j) ≡ None
 idle_status s m j e =
     ap (λ (o : Option Operation). status_at (counter_of s.workers o (m.workers j).steps) m.cells j (tasks_of s m j)) e
 
@@ -150,18 +150,18 @@ module _ (s : Settings) (range : in_range s.workers s.capacity s.depth ≡ true)
   }
 
   -- an entry that changes nothing
-  refused_entry : (e : Entry) → next (machines s lent) m e ≡ m → ((j : ℕ) → answer_to s m e j ≡ none) → Advance s lent m e t
+  refused_entry : (e : Entry) → next (machines s lent) m e ≡ m → ((j : ℕ) → answer_to s m e j ≡ None) → Advance s lent m e t
   refused_entry e n a = no_effect e m n refl (λ j. rw (a j) refl)
 
   -- a call: the worker was idle, and its operation waits
-  begun_status : (p : Operation) (j : ℕ) → status m.cells j (tasks_of s (begun m j p) j) ≡ none
+  begun_status : (p : Operation) (j : ℕ) → status m.cells j (tasks_of s (begun m j p) j) ≡ None
   unfolding begun
   begun_status p j = ap (λ (w : Worker). status m.cells j (task_of s.workers w)) (assign_at m.workers j _ j refl) ∙ by p
     where
       new : Operation → Worker
-      new p = record { last = ticket_for (m.workers j) p; operation = some p; steps = 0; reads = (m.workers j).reads }
+      new p = record { last = ticket_for (m.workers j) p; operation = Some p; steps = 0; reads = (m.workers j).reads }
 
-      by : (p : Operation) → status m.cells j (task_of s.workers (new p)) ≡ none
+      by : (p : Operation) → status m.cells j (task_of s.workers (new p)) ≡ None
       by (lookup a) = refl
       by (update u) = rw (counter_start s.workers) refl
 
@@ -205,4 +205,4 @@ module _ (s : Settings) (range : in_range s.workers s.capacity s.depth ≡ true)
       by : (r : Stepped) → (step s m w).1 ≡ r → Advance s lent m (stepping w) t
       by Stepped.Moved e = stepped_entry w (ap moves e)
       by (Stepped.Answered c) e = stepped_entry w (ap moves e)
-      by (Stepped.Refused r) e = refused_entry (stepping w) (step_refused s m w e) (λ i. rw e (if_same (eqb i w) none))
+      by (Stepped.Refused r) e = refused_entry (stepping w) (step_refused s m w e) (λ i. rw e (if_same (eqb i w) None))

@@ -7,7 +7,7 @@ use mathlib.Core.Path.{◌≡◌, refl, sym, ap, ◌∙◌}
 use mathlib.Core.Logic.{by_cases}
 use mathlib.Core.Bool.{Bool, true, false}
 use mathlib.Core.List.{List}
-use mathlib.Core.Option.{Option, none, some}
+use Rattle.std.specs.Prelude.{Option, Some, None}
 use lib.Dec.{leb, ltb, eqb}
 use lib.IntN.{ℤ}
 use borrow.Author.Tests.{eq-eqb, ne_eqb, le-leb, lt-leb}
@@ -34,8 +34,8 @@ use Rattle.machine.proofs.list.WorkerHistory.{WorkerChange, begins, moves_on, en
 -- ---- replies, by what the machine keeps of the worker
 
 abbrev busy : Option Operation → Bool
-busy none = false
-busy (some o) = true
+busy None = false
+busy (Some o) = true
 
 module _ (s : Settings) (m : Machine) (j : ℕ) where
   call-reply :
@@ -45,30 +45,30 @@ module _ (s : Settings) (m : Machine) (j : ℕ) where
   call-reply kind a v = by_cases (dec_lt j s.workers) (λ l. by l (m.workers j).operation refl)
       (λ l. rw (call_stranger s m j kind a v (omega arith), le-leb s.workers j (omega arith)) refl)
     where
-      free : (o : Option Operation) → (call_of m j none o).1 ≡ idle_reply (m.workers j).last o
-      free none = refl
-      free (some (lookup a)) = refl
-      free (some (update u)) = if_ap (λ (x : Machine × Called). x.1) (leb greatest_ticket (m.workers j).last) _ _
+      free : (o : Option Operation) → (call_of m j None o).1 ≡ idle_reply (m.workers j).last o
+      free None = refl
+      free (Some (lookup a)) = refl
+      free (Some (update u)) = if_ap (λ (x : Machine × Called). x.1) (leb greatest_ticket (m.workers j).last) _ _
 
       by : j < s.workers → (o : Option Operation) → (m.workers j).operation ≡ o
           → (call s m j kind a v).1 ≡ call_reply s j (busy (m.workers j).operation) (m.workers j).last (operation_of kind a v)
-      by l (some o) e = rw (call_busy s m j kind a v l e, e, lt-leb s.workers j l) refl
-      by l none e = rw (idle_call s m j kind a v l e refl, e, lt-leb s.workers j l) (free (operation_of kind a v))
+      by l (Some o) e = rw (call_busy s m j kind a v l e, e, lt-leb s.workers j l) refl
+      by l None e = rw (idle_call s m j kind a v l e refl, e, lt-leb s.workers j l) (free (operation_of kind a v))
 
   step-reply : refusal_in (step s m j).1 ≡ step_refusal s j (busy (m.workers j).operation)
   unfolding step_refusal refusal_in step_reply done when◌then◌else◌
   step-reply = by_cases (dec_lt j s.workers) (λ l. by l (m.workers j).operation refl)
       (λ l. rw (step_stranger s m j (omega arith), le-leb s.workers j (omega arith)) refl)
     where
-      made : (k c : ℕ) (a : Option Answer) → refusal_in (step_reply k c a) ≡ none
-      made k c none = refl
-      made k c (some a) = refl
+      made : (k c : ℕ) (a : Option Answer) → refusal_in (step_reply k c a) ≡ None
+      made k c None = refl
+      made k c (Some a) = refl
 
       by : j < s.workers → (o : Option Operation) → (m.workers j).operation ≡ o
           → refusal_in (step s m j).1 ≡ step_refusal s j (busy (m.workers j).operation)
-      by l none e = rw (step_idle s m j l e, e, lt-leb s.workers j l) refl
-      by l (some o) e =
-          let none_given : step_refusal s j (busy (m.workers j).operation) ≡ none = rw (e, lt-leb s.workers j l) refl in
+      by l None e = rw (step_idle s m j l e, e, lt-leb s.workers j l) refl
+      by l (Some o) e =
+          let none_given : step_refusal s j (busy (m.workers j).operation) ≡ None = rw (e, lt-leb s.workers j l) refl in
           ap (λ (r : Machine × Stepped). refusal_in r.1) (step_made s m j l e)
           ∙ made (suc (m.workers j).steps) (check_of s (m.workers j) o) (perform (access s j (m.workers j) o) m.cells).answer
           ∙ sym none_given
@@ -77,7 +77,7 @@ module _ (s : Settings) (m : Machine) (j : ℕ) where
 
 -- whether an entry answers worker j is whether it gives it an answer
 module _ (s : Settings) (lent : ℕ) (m : Machine) (j : ℕ) where
-  ends_none : (e : Entry) → answer_to s m e j ≡ none → ends_by (machines s lent) m e j ≡ false
+  ends_none : (e : Entry) → answer_to s m e j ≡ None → ends_by (machines s lent) m e j ≡ false
   unfolding ends_by
   ends_none (calling i kind a v) h = refl
   ends_none (showing x y) h = refl
@@ -86,7 +86,7 @@ module _ (s : Settings) (lent : ℕ) (m : Machine) (j : ℕ) where
       (λ e. ap (λ (x : Bool). eqb i j and x) (by (step s m i).1 (sym (if_true _ _ (eq-eqb j i e)) ∙ h)) ∙ and_right_false _)
       (λ d. and_left_false _ (ne_eqb i j (λ e. d (sym e))))
     where
-      by : (r : Stepped) → answer_in r ≡ none → is_answer r ≡ false
+      by : (r : Stepped) → answer_in r ≡ None → is_answer r ≡ false
       by Stepped.Moved e = refl
       by (Stepped.Answered c) e = absurd (none_some e refl)
       by (Stepped.Refused r) e = refl
@@ -99,8 +99,8 @@ module _ (s : Settings) (lent : ℕ) (m : Machine) (j : ℕ) where
 
   counted_last : (w : Worker) (r : Reads) (a : Option Answer) → (counted w r a).last ≡ w.last
   unfolding counted
-  counted_last w r none = refl
-  counted_last w r (some a) = refl
+  counted_last w r None = refl
+  counted_last w r (Some a) = refl
 
   -- a step takes no ticket
   step_last : (i : ℕ) → ((step s m i).0.workers j).last ≡ (m.workers j).last
@@ -111,8 +111,8 @@ module _ (s : Settings) (lent : ℕ) (m : Machine) (j : ℕ) where
       Kept x = (x.0.workers j).last ≡ (m.workers j).last
 
       by : (o : Option Operation) → Kept (step_of s m i o)
-      by none = refl
-      by (some o) = assign_elim (λ (w : Worker). w.last ≡ (m.workers j).last) m.workers i _ j
+      by None = refl
+      by (Some o) = assign_elim (λ (w : Worker). w.last ≡ (m.workers j).last) m.workers i _ j
           (λ e. counted_last _ _ _ ∙ ap (λ (k : ℕ). (m.workers k).last) (sym e)) (λ d. refl)
 
   -- an accepted update takes one
@@ -149,7 +149,7 @@ module _ (s : Settings) (lent : ℕ) (m : Machine) (j : ℕ) where
           ∙ ap (λ (w : Worker). w.last) (assign_at m.workers i _ j d)
           ∙ taken c.operation c.asks (and_true (eq-eqb i j (sym d)) (ap accepts q)) d
         where
-          taken : (o : Operation) → operation_of kind a v ≡ some o → calls_to (machines s lent) m e j ≡ true → j ≡ i
+          taken : (o : Operation) → operation_of kind a v ≡ Some o → calls_to (machines s lent) m e j ≡ true → j ≡ i
               → ticket_for (m.workers i) o ≡ (when takes e then suc (m.workers j).last else (m.workers j).last)
           taken (update u) f g k = ap (λ (x : ℕ). suc (m.workers x).last) (sym k) ∙ sym (if_true _ _ (and_true g (ap is_update f)))
           taken (lookup c) f g k = ap (λ (x : ℕ). (m.workers x).last) (sym k)
@@ -174,7 +174,7 @@ module _ (s : Settings) (lent : ℕ) (m : Machine) (j : ℕ) where
 -- ---- a list of entries
 
 module _ (s : Settings) (lent : ℕ) (m : Machine) (t : Table) (es : List Entry) (refused : OpeningsRefused s (machines s lent) m t es)
-    (idle : (j : ℕ) → (m.workers j).operation ≡ none) where
+    (idle : (j : ℕ) → (m.workers j).operation ≡ None) where
   abbrev worker : ℕ → ℕ → Worker
   worker i j = (state_at s (machines s lent) m t es i).workers j
 
@@ -235,12 +235,12 @@ module _ (s : Settings) (lent : ℕ) (m : Machine) (t : Table) (es : List Entry)
           (λ p a b. f.latest p (omega (arith, e.later)) b))
           (ended_last s lent m t es refused idle c k j o r f).0
         where
-          given : answer_to s (state_at s (machines s lent) m t es i) (entry_at es i) j ≡ some q.answer
+          given : answer_to s (state_at s (machines s lent) m t es i) (entry_at es i) j ≡ Some q.answer
           given =
               ap (λ (x : Entry). answer_to s (state_at s (machines s lent) m t es i) x j) e.entry
               ∙ if_true _ _ (eq-eqb j j refl) ∙ ap answer_in e.answered
 
-          left : Change i j → (worker (suc i) j).operation ≡ none
+          left : Change i j → (worker (suc i) j).operation ≡ None
           left (begins c b x z a) = absurd (none_some a given)
           left (moves_on c st x z a) = absurd (none_some a given)
           left (ends a v x y c st z w) = z

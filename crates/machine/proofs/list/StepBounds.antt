@@ -7,7 +7,7 @@ use mathlib.Core.Path.{◌≡◌, refl, sym, ap, ◌∙◌, subst}
 use mathlib.Core.Logic.{◌⊎◌, inl, inr, by_cases}
 use mathlib.Core.Bool.{true}
 use mathlib.Core.List.{List}
-use mathlib.Core.Option.{Option, none, some}
+use Rattle.std.specs.Prelude.{Option, Some, None}
 use lib.ListN.{length}
 use borrow.Author.Tests.{eq-eqb, eqb-true}
 use Rattle.interface.specs.Limits.{in_range}
@@ -49,7 +49,7 @@ check_in (Stepped.Refused r) = 0
 
 -- an update is answered at a check
 at_check :
-    {s : Settings} {w : ℕ} {c : Cells} {k : Task} {c' : Cells} {k' : Task} {a : Answer} → Transition s w c k c' k' (some a) → Proper k.pc
+    {s : Settings} {w : ℕ} {c : Cells} {k : Task} {c' : Cells} {k' : Task} {a : Answer} → Transition s w c k c' k' (Some a) → Proper k.pc
     → (p : Two) × ((x : Two) × (k.pc ≡ check_s p x))
 at_check (finds e) h = absurd (subst Proper e h)
 at_check (answers p x a e q) h = (p, (x, e))
@@ -58,7 +58,7 @@ at_check (answers p x a e q) h = (p, (x, e))
 
 module _ (s : Settings) (range : in_range s.workers s.capacity s.depth ≡ true) (lent : ℕ) (m : Machine) (t : Table)
     (es : List Entry) (refused : OpeningsRefused s (machines s lent) m t es) (good : Good s m)
-    (idle : (j : ℕ) → (m.workers j).operation ≡ none) where
+    (idle : (j : ℕ) → (m.workers j).operation ≡ None) where
   abbrev at : ℕ → Machine
   at i = state_at s (machines s lent) m t es i
 
@@ -93,7 +93,7 @@ module _ (s : Settings) (range : in_range s.workers s.capacity s.depth ≡ true)
   -- ---- what the step that ends an operation tells
 
   module _ (c i j : ℕ) (o : Operation) (r : Completion) (e : Ended s (machines s lent) m t es c i j o r) where
-    pub last : (((at i).workers j).operation ≡ some o) × (last_call s lent m t es i j ≡ c) × From s lent m t es c i j o
+    pub last : (((at i).workers j).operation ≡ Some o) × (last_call s lent m t es i j ≡ c) × From s lent m t es c i j o
     last = ended_last s lent m t es refused idle c i j o r e
 
     pub known : j < s.workers
@@ -101,7 +101,7 @@ module _ (s : Settings) (range : in_range s.workers s.capacity s.depth ≡ true)
 
     -- the answer of the step's effect, the worker's steps, and the check
     record Told : Type 0 where
-      answer : (effect_of s (at i) j o).answer ≡ some r.answer
+      answer : (effect_of s (at i) j o).answer ≡ Some r.answer
       steps : r.steps ≡ suc ((at i).workers j).steps
       check : r.check ≡ check_of s ((at i).workers j) o
 
@@ -112,8 +112,8 @@ module _ (s : Settings) (range : in_range s.workers s.capacity s.depth ≡ true)
       where
         go : (a : Option Answer) → (effect_of s (at i) j o).answer ≡ a
             → Stepped.Answered r ≡ step_reply (suc ((at i).workers j).steps) (check_of s ((at i).workers j) o) a → Told
-        go none q f = absurd (let z : ◌≡◌ {A = ℕ} 0 1 = cc in omega arith)
-        go (some a) q f = record { answer = q ∙ sym (ap answer_in f); steps = ap steps_in f; check = ap check_in f }
+        go None q f = absurd (let z : ◌≡◌ {A = ℕ} 0 1 = cc in omega arith)
+        go (Some a) q f = record { answer = q ∙ sym (ap answer_in f); steps = ap steps_in f; check = ap check_in f }
 
     -- the steps are the operation's own
     pub steps_at : r.steps ≡ suc (steps_between s (machines s lent) m t es j c i)
@@ -138,7 +138,7 @@ module _ (s : Settings) (range : in_range s.workers s.capacity s.depth ≡ true)
 
   -- an update that makes no more than so many steps without an answer has it with the next
   update_within :
-      (most c i j : ℕ) (u : Update) → ((k : ℕ) → ((at k).workers j).operation ≡ some (update u) → ((at k).workers j).steps ≤ most)
+      (most c i j : ℕ) (u : Update) → ((k : ℕ) → ((at k).workers j).operation ≡ Some (update u) → ((at k).workers j).steps ≤ most)
       → IsOperation s (machines s lent) m t es c j (update u) → c < i → i < length es → is_step s (machines s lent) m t es i j ≡ true
       → steps_between s (machines s lent) m t es j c i ≡ most
       → (k : ℕ) × (k ≤ i) × ((r : Completion) × Ended s (machines s lent) m t es c k j (update u) r)
@@ -168,7 +168,7 @@ module _ (s : Settings) (range : in_range s.workers s.capacity s.depth ≡ true)
       (λ k q. let few = solo_under_way s range z (at k) j u (step_worker i j st) (solo_at z k) q in omega arith) h l b st n
 
   -- a lookup's first step gives no answer
-  first_step : (x : Machine) (j a : ℕ) → j < s.workers → (x.workers j).operation ≡ some (lookup a) → (x.workers j).steps ≡ 0
+  first_step : (x : Machine) (j a : ℕ) → j < s.workers → (x.workers j).operation ≡ Some (lookup a) → (x.workers j).steps ≡ 0
       → (step s x j).1 ≡ Stepped.Moved
   unfolding done step_reply access lookup_access directory_reading perform
   first_step x j a l e z = ap (λ (r : Machine × Stepped). r.1) (step_made s x j l e) ∙ rw z refl

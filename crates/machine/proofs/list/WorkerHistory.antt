@@ -6,7 +6,7 @@ use mathlib.Core.Path.{◌≡◌, refl, sym, ap, ◌∙◌, subst}
 use mathlib.Core.Logic.{◌≢◌, by_cases}
 use mathlib.Core.Bool.{Bool, true, false}
 use mathlib.Core.List.{List}
-use mathlib.Core.Option.{Option, none, some}
+use Rattle.std.specs.Prelude.{Option, Some, None}
 use lib.Dec.{ltb, eqb}
 use lib.IntN.{ℤ}
 use lib.ListN.{length, get_or-eq_default}
@@ -35,23 +35,23 @@ use Rattle.machine.proofs.list.Advance.{StepParts, accepted_step, accepted_call,
 pub data WorkerChange (s : Settings) (lent : ℕ) (m : Machine) (e : Entry) (j : ℕ) (w' : Worker) : Type 0 where
   -- an accepted call to it
   begins :
-      calls_to (machines s lent) m e j ≡ true → (m.workers j).operation ≡ none → w'.operation ≡ asked e → w'.steps ≡ 0
-      → answer_to s m e j ≡ none
+      calls_to (machines s lent) m e j ≡ true → (m.workers j).operation ≡ None → w'.operation ≡ asked e → w'.steps ≡ 0
+      → answer_to s m e j ≡ None
       → WorkerChange s lent m e j w'
   -- an accepted step of it without an answer
   moves_on :
       calls_to (machines s lent) m e j ≡ false → steps_by (machines s lent) m e j ≡ true → w'.operation ≡ (m.workers j).operation
       → w'.steps ≡ suc (m.workers j).steps
-      → answer_to s m e j ≡ none → WorkerChange s lent m e j w'
+      → answer_to s m e j ≡ None → WorkerChange s lent m e j w'
   -- an accepted step of it that ends its operation
   ends :
       (a : Answer) (o : Operation) → e ≡ stepping j
       → (step s m j).1 ≡ Stepped.Answered (record { answer = a; steps = suc (m.workers j).steps; check = check_of s (m.workers j) o })
-      → calls_to (machines s lent) m e j ≡ false → steps_by (machines s lent) m e j ≡ true → w'.operation ≡ none → answer_to s m e j ≡ some a
+      → calls_to (machines s lent) m e j ≡ false → steps_by (machines s lent) m e j ≡ true → w'.operation ≡ None → answer_to s m e j ≡ Some a
       → WorkerChange s lent m e j w'
   -- anything else
   no_change :
-      calls_to (machines s lent) m e j ≡ false → steps_by (machines s lent) m e j ≡ false → w' ≡ m.workers j → answer_to s m e j ≡ none
+      calls_to (machines s lent) m e j ≡ false → steps_by (machines s lent) m e j ≡ false → w' ≡ m.workers j → answer_to s m e j ≡ None
       → WorkerChange s lent m e j w'
 
 -- a step that is made, of worker j: its worker and its reply afterwards
@@ -90,10 +90,10 @@ module _ (s : Settings) (lent : ℕ) (m : Machine) (j : ℕ) where
       reply a e = ap (λ (r : Machine × Stepped). r.1) c.is ∙ done_reply m j _ _ ∙ ap (step_reply (suc (m.workers j).steps) _) e
 
       by : (a : Option Answer) → (effect_of s m j c.operation).answer ≡ a → WorkerChange s lent m (stepping j) j ((step s m j).0.workers j)
-      by none e = moves_on refl given (ap (λ (w : Worker). w.operation) (after none e)) (ap (λ (w : Worker). w.steps) (after none e))
-          (if_true _ _ (eq-eqb j j refl) ∙ ap answer_in (reply none e))
-      by (some a) e = ends a c.operation refl (reply (some a) e) refl given (ap (λ (w : Worker). w.operation) (after (some a) e))
-          (if_true _ _ (eq-eqb j j refl) ∙ ap answer_in (reply (some a) e))
+      by None e = moves_on refl given (ap (λ (w : Worker). w.operation) (after None e)) (ap (λ (w : Worker). w.steps) (after None e))
+          (if_true _ _ (eq-eqb j j refl) ∙ ap answer_in (reply None e))
+      by (Some a) e = ends a c.operation refl (reply (Some a) e) refl given (ap (λ (w : Worker). w.operation) (after (Some a) e))
+          (if_true _ _ (eq-eqb j j refl) ∙ ap answer_in (reply (Some a) e))
 
   -- a step of another worker, or one that is refused
   other_step : (i : ℕ) → j ≢ i → WorkerChange s lent m (stepping i) j ((step s m i).0.workers j)
@@ -221,7 +221,7 @@ module _ (s : Settings) (lent : ℕ) (m : Machine) (t : Table) (es : List Entry)
     pub steps : (worker i j).steps ≡ count j c i
 
   from_call :
-      (i j : ℕ) (o : Operation) → i < length es → is_call s (machines s lent) m t es i j ≡ true → asked (entry i) ≡ some o
+      (i j : ℕ) (o : Operation) → i < length es → is_call s (machines s lent) m t es i j ≡ true → asked (entry i) ≡ Some o
       → (worker (suc i) j).steps ≡ 0
       → From i (suc i) j o
   from_call i j o l c q z = record {
@@ -242,13 +242,13 @@ module _ (s : Settings) (lent : ℕ) (m : Machine) (t : Table) (es : List Entry)
     steps = q;
   }
 
-  module _ (refused : OpeningsRefused s (machines s lent) m t es) (idle : (j : ℕ) → (m.workers j).operation ≡ none) where
+  module _ (refused : OpeningsRefused s (machines s lent) m t es) (idle : (j : ℕ) → (m.workers j).operation ≡ None) where
     pub at_next : (i j : ℕ) → WorkerChange s lent (at i) (entry i) j (worker (suc i) j)
     unfolding state_at
     at_next i j = worker_change s lent (at i) j (entry i) (refused i)
 
     -- an operation under way came from its worker's last call
-    pub under-way : (i j : ℕ) (o : Operation) → i ≤ length es → (worker i j).operation ≡ some o → From (last_call i j) i j o
+    pub under-way : (i j : ℕ) (o : Operation) → i ≤ length es → (worker i j).operation ≡ Some o → From (last_call i j) i j o
     unfolding state_at
     under-way zero j o l e = absurd (none_some (idle j) e)
     under-way (suc i) j o l e = go (under-way i j o (omega arith)) (at_next i j)
@@ -259,7 +259,7 @@ module _ (s : Settings) (lent : ℕ) (m : Machine) (t : Table) (es : List Entry)
             → From (last_call (suc i) j) (suc i) j o
         same f q u = subst (λ (c : ℕ). From c (suc i) j o) (sym (last_before i j f)) (from_next (last_call i j) i j o f q u)
 
-        go : ((worker i j).operation ≡ some o → From (last_call i j) i j o) → WorkerChange s lent (at i) (entry i) j (worker (suc i) j)
+        go : ((worker i j).operation ≡ Some o → From (last_call i j) i j o) → WorkerChange s lent (at i) (entry i) j (worker (suc i) j)
             → From (last_call (suc i) j) (suc i) j o
         go h (begins c b q z a) =
             subst (λ (c : ℕ). From c (suc i) j o) (sym (last_here i j c)) (from_call i j o (omega arith) c (sym q ∙ e) z)
@@ -273,10 +273,10 @@ module _ (s : Settings) (lent : ℕ) (m : Machine) (t : Table) (es : List Entry)
 
     -- before index i the operation o of the call at index c is under way, or it has been answered
     pub data OperationStatus (c i j : ℕ) (o : Operation) : Type 0 where
-      unanswered : (worker i j).operation ≡ some o → From c i j o → OperationStatus c i j o
+      unanswered : (worker i j).operation ≡ Some o → From c i j o → OperationStatus c i j o
       answered_at :
           (k : ℕ) (r : Completion) → k < i → Ended s (machines s lent) m t es c k j o r → r.steps ≡ suc (count j c k)
-          → (worker (suc k) j).operation ≡ none
+          → (worker (suc k) j).operation ≡ None
           → OperationStatus c i j o
 
     operation_status_here : (c j : ℕ) (o : Operation) → IsOperation s (machines s lent) m t es c j o → OperationStatus c (suc c) j o
@@ -312,17 +312,17 @@ module _ (s : Settings) (lent : ℕ) (m : Machine) (t : Table) (es : List Entry)
 
     -- a worker without operation stays so until it is called
     pub stays_idle :
-        (k i j : ℕ) → k ≤ i → (worker k j).operation ≡ none
+        (k i j : ℕ) → k ≤ i → (worker k j).operation ≡ None
         → ((p : ℕ) → k ≤ p → p < i → is_call s (machines s lent) m t es p j ≡ false)
-        → (worker i j).operation ≡ none
-    stays_idle k zero j l e h = subst (λ (p : ℕ). (worker p j).operation ≡ none) (omega arith) e
-    stays_idle k (suc i) j l e h = by_cases (ℕ_discrete k (suc i)) (λ x. subst (λ (p : ℕ). (worker p j).operation ≡ none) x e)
+        → (worker i j).operation ≡ None
+    stays_idle k zero j l e h = subst (λ (p : ℕ). (worker p j).operation ≡ None) (omega arith) e
+    stays_idle k (suc i) j l e h = by_cases (ℕ_discrete k (suc i)) (λ x. subst (λ (p : ℕ). (worker p j).operation ≡ None) x e)
         (λ d. next_idle (h i (omega arith) (omega arith)) (stays_idle k i j (omega arith) e (λ p a b. h p a (omega arith))) (at_next i j))
       where
         next_idle :
-            is_call s (machines s lent) m t es i j ≡ false → (worker i j).operation ≡ none
+            is_call s (machines s lent) m t es i j ≡ false → (worker i j).operation ≡ None
             → WorkerChange s lent (at i) (entry i) j (worker (suc i) j)
-            → (worker (suc i) j).operation ≡ none
+            → (worker (suc i) j).operation ≡ None
         next_idle f q (begins c b x z a) = absurd (no_both c f)
         next_idle f q (moves_on c st x z a) = x ∙ q
         next_idle f q (ends a v x r c st z y) = z
@@ -335,13 +335,13 @@ module _ (s : Settings) (lent : ℕ) (m : Machine) (t : Table) (es : List Entry)
 
     -- what ended at index i was its worker's operation under way, from its last call
     pub ended_last : (c i j : ℕ) (o : Operation) (r : Completion) → Ended s (machines s lent) m t es c i j o r
-        → ((worker i j).operation ≡ some o) × (last_call i j ≡ c) × From c i j o
+        → ((worker i j).operation ≡ Some o) × (last_call i j ≡ c) × From c i j o
     ended_last c i j o r e = go (operation_status c j o e.called i e.later (omega (arith, e.in_list)))
       where
         accepted : StepParts s (at i) j
         accepted = accepted_step s (at i) j (ap moves e.answered)
 
-        go : OperationStatus c i j o → ((worker i j).operation ≡ some o) × (last_call i j ≡ c) × From c i j o
+        go : OperationStatus c i j o → ((worker i j).operation ≡ Some o) × (last_call i j ≡ c) × From c i j o
         go (unanswered q u) = (q, from_one (last_call i j) c i j o o (under-way i j o (omega (arith, e.in_list)) q) u, u)
         go (answered_at k x b f q z) =
             absurd (none_some (stays_idle (suc k) i j b z (λ p l h. e.latest p (omega (arith, f.later)) h)) accepted.under-way)

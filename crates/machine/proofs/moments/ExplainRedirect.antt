@@ -5,7 +5,7 @@ use native.Mathlib.Omega.{arith}
 use mathlib.Core.Path.{◌≡◌, refl, ap, sym, ◌∙◌, subst}
 use mathlib.Core.Logic.{◌⊎◌, inl, inr}
 use mathlib.Core.Bool.{Bool, true, false}
-use mathlib.Core.Option.{none, some}
+use Rattle.std.specs.Prelude.{Some, None}
 use borrow.Author.Tests.{eqb-true, not-true}
 use Rattle.interface.specs.declared.Settings.{Settings}
 use Rattle.machine.specs.Choice.{when◌then◌else◌, ◌and◌}
@@ -170,7 +170,7 @@ module _
         below = jn;
         under = under;
         wanted = u;
-        asks = let z : ann.wanted ≡ u = cc slot in ann.asks ∙ ap (λ (v : Update). some (update v)) z;
+        asks = let z : ann.wanted ≡ u = cc slot in ann.asks ∙ ap (λ (v : Update). Some (update v)) z;
         unsettled = rw (← ticket) (not-true _ (and_parts _ _ is_due).1);
       }
 
@@ -246,7 +246,7 @@ module _
               | inr x ↦ inl (record { asked = look.wanted; asks = look.asks; unanswered = rw z x.0; answered = rw z x.1 })
             ]
 
-    pub explained_redirect : ExplainedStep s w c tasks t (redirected_cells c (tasks w)) (goes (tasks w) (after_d p r) (tasks w).reads) none
+    pub explained_redirect : ExplainedStep s w c tasks t (redirected_cells c (tasks w)) (goes (tasks w) (after_d p r) (tasks w).reads) None
     explained_redirect = explained_goes s w (after_d p r) k.reads (rw here tt) (under_after_d p r)
         (explained_change s c c' tasks t updates.effects lookup_or_same (record {
           effects = updates.effects;

@@ -7,7 +7,7 @@ use mathlib.Core.Path.{◌≡◌, refl, ap, sym, ◌∙◌, subst}
 use mathlib.Core.Logic.{◌≢◌, inl, inr, by_cases}
 use mathlib.Core.Bool.{Bool, true, false}
 use mathlib.Core.List.{[], ◌∷◌}
-use mathlib.Core.Option.{Option, none, some}
+use Rattle.std.specs.Prelude.{Option, Some, None}
 use borrow.Author.Tests.{le-leb, lt-leb}
 use Rattle.interface.specs.declared.Settings.{Settings}
 use Rattle.interface.specs.declared.Answer.{Answer}
@@ -34,11 +34,11 @@ use Rattle.machine.proofs.moments.Statuses.{entry_status, status_entry}
 -- ---- the status of an operation
 
 -- an announced update that has had its moment, and one that has not
-entry_settled : (t : ℕ) (e : Settled) → t ≤ e.ticket → entry_status t e ≡ some e.answer
-entry_settled t e l = if_true _ none (le-leb t _ l)
+entry_settled : (t : ℕ) (e : Settled) → t ≤ e.ticket → entry_status t e ≡ Some e.answer
+entry_settled t e l = if_true _ None (le-leb t _ l)
 
-entry_unsettled : (t : ℕ) (e : Settled) → e.ticket < t → entry_status t e ≡ none
-entry_unsettled t e l = if_false _ none (lt-leb t _ l)
+entry_unsettled : (t : ℕ) (e : Settled) → e.ticket < t → entry_status t e ≡ None
+entry_unsettled t e l = if_false _ None (lt-leb t _ l)
 
 -- what holds of the outcome for the step's worker, and of the statuses of the others, holds of each outcome
 outcome_elim :
@@ -46,8 +46,8 @@ outcome_elim :
     → P w (outcome reply c w k) → ((j : ℕ) → j ≢ w → P j (status c j (tasks j)))
     → (j : ℕ) → P j (outcome (reply_to w reply j) c j (assign tasks w k j))
 outcome_elim P w c tasks k reply me others j = by_cases (ℕ_discrete j w)
-    (λ e. rw (if_eq j w reply none e, assign_at tasks w k j e, e) me)
-    (λ n. rw (if_ne j w reply none n, assign_other tasks w k j n) (others j n))
+    (λ e. rw (if_eq j w reply None e, assign_at tasks w k j e, e) me)
+    (λ n. rw (if_ne j w reply None n, assign_other tasks w k j n) (others j n))
 
 -- ---- cells that differ in slots and toggles at most
 
@@ -74,7 +74,7 @@ module _ (c c' : Cells) (h : SameBuckets c c') where
 
   status_same_buckets : (j : ℕ) (k : Task) (pc : PC) → status_at pc c' j k ≡ status_at pc c j k
   status_same_buckets j k = by_counter (λ pc. status_at pc c' j k ≡ status_at pc c j k) refl refl refl
-      (λ i. when same (held k) (leaf_same_buckets (target k) i) then none else some (looked (find (h.bodies (held k) i).items (target k))))
+      (λ i. when same (held k) (leaf_same_buckets (target k) i) then None else Some (looked (find (h.bodies (held k) i).items (target k))))
       refl
       (λ pc u. status_entry c' j k pc u ∙ ap (λ b. entry_status k.ticket (b.settled j)) (leaf_body_same_buckets (target k))
       ∙ sym (status_entry c j k pc u))
@@ -117,17 +117,17 @@ module _ (s : Settings) (w : ℕ) (wn : w < s.workers) (c : Cells) (tasks : ℕ 
 
   -- the worker's operation takes effect and is answered; it leaves the table as it is
   served_step :
-      (k : Task) (r : Answer) (o : Operation) → (tasks w).operation ≡ some o → status c w (tasks w) ≡ none → serve_if s (some o) t ≡ (r, t)
-      → To c k (some r)
+      (k : Task) (r : Answer) (o : Operation) → (tasks w).operation ≡ Some o → status c w (tasks w) ≡ None → serve_if s (Some o) t ≡ (r, t)
+      → To c k (Some r)
   unfolding serve_all answers_of
   served_step k r o asks none_before e = record {
     effects = w ∷ [];
     distinct = (λ m. m, tt);
     waiting = λ j m. rw (only m) (wn, none_before, (o, asks));
     parts = subst (Parts c) (sym (ap (λ x. x.1) answer)) parts;
-    gained = λ j r' m. outcome_elim (λ j o. j ≡ w → o ≡ some r') w c tasks k (some r)
-        (λ g. ap some (sym (ap (λ x. x.1) (only m) ∙ ap (λ x. x.0) answer))) (λ j n g. absurd (n g)) j (ap (λ x. x.0) (only m));
-    others = λ j jn m. outcome_elim (λ j o. j ≢ w → o ≡ status c j (tasks j)) w c tasks k (some r)
+    gained = λ j r' m. outcome_elim (λ j o. j ≡ w → o ≡ Some r') w c tasks k (Some r)
+        (λ g. ap Some (sym (ap (λ x. x.1) (only m) ∙ ap (λ x. x.0) answer))) (λ j n g. absurd (n g)) j (ap (λ x. x.0) (only m));
+    others = λ j jn m. outcome_elim (λ j o. j ≢ w → o ≡ status c j (tasks j)) w c tasks k (Some r)
         (λ n. absurd (n refl)) (λ j n g. refl) j (λ g. m (inl g));
   }
     where
@@ -141,17 +141,17 @@ module _ (s : Settings) (w : ℕ) (wn : w < s.workers) (c : Cells) (tasks : ℕ 
   -- ---- steps without an answer
 
   -- only the worker's task changes
-  pub explained_no_effect : (k : Task) → status c w k ≡ status c w (tasks w) → To c k none
-  explained_no_effect k e = no_effect_step c (same_buckets_refl c) k none e
+  pub explained_no_effect : (k : Task) → status c w k ≡ status c w (tasks w) → To c k None
+  explained_no_effect k e = no_effect_step c (same_buckets_refl c) k None e
 
-  pub explained_under_way : (pc pc' : PC) (r : Reads) → (tasks w).pc ≡ pc → UnderWay pc → UnderWay pc' → To c (goes (tasks w) pc' r) none
+  pub explained_under_way : (pc pc' : PC) (r : Reads) → (tasks w).pc ≡ pc → UnderWay pc → UnderWay pc' → To c (goes (tasks w) pc' r) None
   explained_under_way pc pc' r at u u' =
       explained_no_effect (goes (tasks w) pc' r) (status_entry c w (goes (tasks w) pc' r) pc' u' ∙ sym (entry_at at u))
 
   -- a check without an answer; the last one always has one
   pub explained_pass :
-      (p x : Two) → (tasks w).pc ≡ check_s p x → checked w (tasks w).ticket (body c (held (tasks w))) ≡ none
-      → To c (goes (tasks w) (after_c p x) (tasks w).reads) none
+      (p x : Two) → (tasks w).pc ≡ check_s p x → checked w (tasks w).ticket (body c (held (tasks w))) ≡ None
+      → To c (goes (tasks w) (after_c p x) (tasks w).reads) None
   explained_pass p x at e =
       let pair = subst (λ k. Pair s w c k k) (task_at at) (i.pair w w wn wn) in
       explained_under_way (check_s p x) (after_c p x) (tasks w).reads at tt
@@ -163,18 +163,18 @@ module _ (s : Settings) (w : ℕ) (wn : w < s.workers) (c : Cells) (tasks : ℕ 
       go two two o = absurd o.slot
 
   -- a lookup reads the directory: the bucket it then holds is its account's
-  pub explained_look : (tasks w).pc ≡ look₁ → To c (goes (tasks w) look₂ (with_directory (tasks w).reads c.directory)) none
+  pub explained_look : (tasks w).pc ≡ look₁ → To c (goes (tasks w) look₂ (with_directory (tasks w).reads c.directory)) None
   unfolding with_directory
   explained_look at = explained_no_effect (goes (tasks w) look₂ (with_directory (tasks w).reads c.directory))
-      (if_true none _ (eq_same (leaf c (target (tasks w))) _ refl) ∙ sym (status-at at))
+      (if_true None _ (eq_same (leaf c (target (tasks w))) _ refl) ∙ sym (status-at at))
 
   -- an update is announced: its ticket is newer than any that is settled
   pub explained_announce :
-      (u : Update) → (tasks w).pc ≡ announce → (tasks w).operation ≡ some (update u)
-      → To (assign_slot c w (announced u (tasks w).ticket)) (goes (tasks w) (read_d one) (tasks w).reads) none
+      (u : Update) → (tasks w).pc ≡ announce → (tasks w).operation ≡ Some (update u)
+      → To (assign_slot c w (announced u (tasks w).ticket)) (goes (tasks w) (read_d one) (tasks w).reads) None
   unfolding assign_slot
   explained_announce u at asks =
-      no_effect_step told alike (goes (tasks w) (read_d one) (tasks w).reads) none
+      no_effect_step told alike (goes (tasks w) (read_d one) (tasks w).reads) None
       (status_same_buckets c told alike w (tasks w) (read_d one) ∙ status_entry c w (tasks w) (read_d one) tt
       ∙ entry_unsettled _ _ newer ∙ sym (status-at at))
     where
@@ -188,9 +188,9 @@ module _ (s : Settings) (w : ℕ) (wn : w < s.workers) (c : Cells) (tasks : ℕ 
       alike = record { directory = refl; bodies = λ x. refl }
 
   pub explained_flip :
-      (p : Two) → (tasks w).pc ≡ flip p → To (flipped_cells w c (tasks w)) (goes (tasks w) (in_b p one read_s) (tasks w).reads) none
+      (p : Two) → (tasks w).pc ≡ flip p → To (flipped_cells w c (tasks w)) (goes (tasks w) (in_b p one read_s) (tasks w).reads) None
   unfolding assign_toggle assign_bucket
-  explained_flip p at = no_effect_step flipped alike (goes (tasks w) (in_b p one read_s) (tasks w).reads) none
+  explained_flip p at = no_effect_step flipped alike (goes (tasks w) (in_b p one read_s) (tasks w).reads) None
       (status_same_buckets c flipped alike w (tasks w) (in_b p one read_s) ∙ sym (status-at at))
     where
       flipped : Cells
@@ -207,7 +207,7 @@ module _ (s : Settings) (w : ℕ) (wn : w < s.workers) (c : Cells) (tasks : ℕ 
   -- Where the bucket held is the account's, the lookup takes effect now. Where it is not, the lookup has had this answer.
   pub explained_find :
       (tasks w).pc ≡ look₂ → To c (ended_task (tasks w) (tasks w).reads)
-      (some (looked (find (body c (held (tasks w))).items (target (tasks w)))))
+      (Some (looked (find (body c (held (tasks w))).items (target (tasks w)))))
   explained_find at = go (same x (leaf c a)) refl
     where
       a : ℕ
@@ -219,7 +219,7 @@ module _ (s : Settings) (w : ℕ) (wn : w < s.workers) (c : Cells) (tasks : ℕ 
       wanted : ℕ
       wanted = (own_at at).slot.wanted
 
-      asks : (tasks w).operation ≡ some (lookup wanted)
+      asks : (tasks w).operation ≡ Some (lookup wanted)
       asks = (own_at at).slot.asks
 
       found : x ≡ leaf c a → find (body c x).items a ≡ find t wanted
@@ -227,21 +227,21 @@ module _ (s : Settings) (w : ℕ) (wn : w < s.workers) (c : Cells) (tasks : ℕ 
           ap (λ y. find (body c y).items a) e ∙ ap (λ l. find l a) (parts.part a) ∙ find_having_in (leaf c a).depth _ t a refl
           ∙ ap (λ o. find t (about o)) asks
 
-      go : (b : Bool) → same x (leaf c a) ≡ b → To c (ended_task (tasks w) (tasks w).reads) (some (looked (find (body c x).items a)))
-      go true e = served_step _ _ (lookup wanted) asks (status-at at ∙ if_true none _ e)
+      go : (b : Bool) → same x (leaf c a) ≡ b → To c (ended_task (tasks w) (tasks w).reads) (Some (looked (find (body c x).items a)))
+      go true e = served_step _ _ (lookup wanted) asks (status-at at ∙ if_true None _ e)
           (serve_if_lookup s wanted t ∙ ap (λ v. (looked v, t)) (sym (found (same_true _ _ e))))
-      go false e = no_effect_step c (same_buckets_refl c) _ _ (sym (status-at at ∙ if_false none _ e))
+      go false e = no_effect_step c (same_buckets_refl c) _ _ (sym (status-at at ∙ if_false None _ e))
 
   -- What is settled at the bucket held is settled at the account's: the update has had this answer.
   pub explained_answer :
       (p x : Two) (r : Answer) → (tasks w).pc ≡ check_s p x
-      → checked w (tasks w).ticket (body c (held (tasks w))) ≡ some r
-      → To c (ended_task (tasks w) (tasks w).reads) (some r)
+      → checked w (tasks w).ticket (body c (held (tasks w))) ≡ Some r
+      → To c (ended_task (tasks w) (tasks w).reads) (Some r)
   explained_answer p x r at e =
       let v = check_settled w k.ticket (body c (held k)) r e in
-      no_effect_step c (same_buckets_refl c) _ (some r)
+      no_effect_step c (same_buckets_refl c) _ (Some r)
       (sym (entry_at at tt ∙ ap (entry_status k.ticket) (entry (own_at at).read.0.is v.0) ∙ entry_settled _ _ v.0
-      ∙ ap some (sym v.1)))
+      ∙ ap Some (sym v.1)))
     where
       k : Task
       k = goes (tasks w) (check_s p x) (tasks w).reads

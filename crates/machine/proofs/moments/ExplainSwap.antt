@@ -5,7 +5,7 @@ use native.Mathlib.Omega.{arith}
 use mathlib.Core.Path.{◌≡◌, refl, ap, sym, ◌∙◌, subst}
 use mathlib.Core.Logic.{◌≢◌, inl, inr}
 use mathlib.Core.Bool.{true, false}
-use mathlib.Core.Option.{none, some}
+use Rattle.std.specs.Prelude.{Some, None}
 use borrow.Author.Tests.{not-true}
 use Rattle.interface.specs.declared.Settings.{Settings}
 use Rattle.machine.specs.Choice.{when◌then◌else◌}
@@ -84,8 +84,8 @@ module _ (s : Settings) (small : s.depth ≤ 32) (w : ℕ) (wn : w < s.workers) 
     ticket : tk ≡ (tasks j).ticket
     ticket = cc slot
 
-    asks : (tasks j).operation ≡ some (update u)
-    asks = let z : ann.wanted ≡ u = cc slot in ann.asks ∙ ap (λ v. some (update v)) z
+    asks : (tasks j).operation ≡ Some (update u)
+    asks = let z : ann.wanted ≡ u = cc slot in ann.asks ∙ ap (λ v. Some (update v)) z
 
     -- where nothing is held back, its bucket is its account's
     own_bucket : leaf c (account u) ≡ x
@@ -152,12 +152,12 @@ module _ (s : Settings) (small : s.depth ≤ 32) (w : ℕ) (wn : w < s.workers) 
   lookup_kept j jn h = go h.is
     where
       go : HeldOrSuperseded s c j (tasks j) → lookup_status c' (tasks j) ≡ lookup_status c (tasks j)
-      go (inl e) = let z = eq_same (held (tasks j)) (leaf c (target (tasks j))) e in if_true none _ z ∙ sym (if_true none _ z)
+      go (inl e) = let z = eq_same (held (tasks j)) (leaf c (target (tasks j))) e in if_true None _ z ∙ sym (if_true None _ z)
       go (inr g) =
-          ap (λ b. when same (held (tasks j)) (leaf c (target (tasks j))) then none else some (looked (find b.items (target (tasks j)))))
+          ap (λ b. when same (held (tasks j)) (leaf c (target (tasks j))) then None else Some (looked (find b.items (target (tasks j)))))
           ((kept_bucket s w wn c tasks i p r here fresh j jn).unchanged g.blocked)
 
-  pub explained_swap : ExplainedStep s w c tasks t (swapped_cells s c (tasks w)) (goes (tasks w) (after_b p r) (tasks w).reads) none
+  pub explained_swap : ExplainedStep s w c tasks t (swapped_cells s c (tasks w)) (goes (tasks w) (after_b p r) (tasks w).reads) None
   unfolding assign_state assign_bucket
   explained_swap = explained_goes s w (after_b p r) k.reads (rw here tt) (under_after_b p r) (record {
     effects = last.effects;

@@ -6,7 +6,7 @@ use mathlib.Core.Path.{◌≡◌, refl, ap, sym, ◌∙◌}
 use mathlib.Core.Logic.{◌⊎◌, inl, inr}
 use mathlib.Core.Bool.{Bool, true, false}
 use mathlib.Core.List.{List, ◌∷◌}
-use mathlib.Core.Option.{none, some}
+use Rattle.std.specs.Prelude.{Some, None}
 use Rattle.interface.specs.declared.Settings.{Settings}
 use Rattle.interface.specs.declared.Answer.{Answer}
 use Rattle.machine.specs.Sequential.{Table, lookup, find, looked}
@@ -25,25 +25,25 @@ use Rattle.machine.proofs.laws.Serving.{member_dec, serve_if_lookup}
 pub looked-up :
     (s : Settings) (c c' : Cells) (t : Table) → Parts c t → (j : ℕ) (k : Task) → LeafEvolves s c c' (target k) → own c' k ≡ own c k
     → Hold s c j k
-    → (lookup_status c' k ≡ lookup_status c k) ⊎ ((lookup_status c k ≡ none) × (lookup_status c' k ≡ some (looked (find t (target k)))))
+    → (lookup_status c' k ≡ lookup_status c k) ⊎ ((lookup_status c k ≡ None) × (lookup_status c' k ≡ Some (looked (find t (target k)))))
 looked-up s c c' t parts j k v e h = go (same (held k) (leaf c a)) refl (same (held k) (leaf c' a)) refl
   where
     a : ℕ
     a = target k
 
-    kept : some (looked (find (body c' (held k)).items a)) ≡ some (looked (find (body c (held k)).items a))
-    kept = ap (λ (b : Bucket). some (looked (find b.state.value.body.items a))) e
+    kept : Some (looked (find (body c' (held k)).items a)) ≡ Some (looked (find (body c (held k)).items a))
+    kept = ap (λ (b : Bucket). Some (looked (find b.state.value.body.items a))) e
 
     back : held k ≡ leaf c' a → LeafEvolves s c c' a → held k ≡ leaf c a
     back q (same_bucket x f g) = q ∙ x
     back q (deeper_bucket l m f) = absurd (omega (arith, h.depth, ap (λ x. x.depth) q))
 
     go : (x : Bool) → same (held k) (leaf c a) ≡ x → (y : Bool) → same (held k) (leaf c' a) ≡ y
-        → (lookup_status c' k ≡ lookup_status c k) ⊎ ((lookup_status c k ≡ none) × (lookup_status c' k ≡ some (looked (find t a))))
+        → (lookup_status c' k ≡ lookup_status c k) ⊎ ((lookup_status c k ≡ None) × (lookup_status c' k ≡ Some (looked (find t a))))
     go true x true y = inl (if_true _ _ y ∙ sym (if_true _ _ x))
     go false x false y = inl (if_false _ _ y ∙ kept ∙ sym (if_false _ _ x))
     go false x true y = absurd (same_false _ _ x (back (same_true _ _ y) v))
-    go true x false y = inr (if_true _ _ x, if_false _ _ y ∙ kept ∙ ap (λ o. some (looked o)) part)
+    go true x false y = inr (if_true _ _ x, if_false _ _ y ∙ kept ∙ ap (λ o. Some (looked o)) part)
       where
         part : find (body c (held k)).items a ≡ find t a
         part = rw (same_true _ _ x, parts.part a) (find_having_in _ _ t a refl)
@@ -52,9 +52,9 @@ module _ (s : Settings) (c c' : Cells) (tasks : ℕ → Task) (t : Table) where
   -- a lookup that takes effect in the change
   pub record LookupEffect (j : ℕ) : Type 0 where
     pub asked : ℕ
-    pub asks : (tasks j).operation ≡ some (lookup asked)
-    pub unanswered : status c j (tasks j) ≡ none
-    pub answered : status c' j (tasks j) ≡ some (looked (find t (target (tasks j))))
+    pub asks : (tasks j).operation ≡ Some (lookup asked)
+    pub unanswered : status c j (tasks j) ≡ None
+    pub answered : status c' j (tasks j) ≡ Some (looked (find t (target (tasks j))))
 
   -- The change as explained for the workers below m, and for the workers js, whose updates it carries out.
   pub record ExplainedBelow (js : List ℕ) (m : ℕ) : Type 0 where
@@ -63,7 +63,7 @@ module _ (s : Settings) (c c' : Cells) (tasks : ℕ → Task) (t : Table) where
     pub distinct : Distinct effects
     pub waiting : (j : ℕ) → Member j effects → Unserved s c tasks j
     pub parts : Parts c' (serve_all s tasks t effects)
-    pub gained : (j : ℕ) (r : Answer) → Member (j, r) (answers_of s tasks t effects) → status c' j (tasks j) ≡ some r
+    pub gained : (j : ℕ) (r : Answer) → Member (j, r) (answers_of s tasks t effects) → status c' j (tasks j) ≡ Some r
     pub others : (j : ℕ) → j < m → (Member j effects → ⊥) → status c' j (tasks j) ≡ status c j (tasks j)
 
   module _ {js : List ℕ} {m : ℕ} (q : ExplainedBelow js m) where
@@ -86,8 +86,8 @@ module _ (s : Settings) (c c' : Cells) (tasks : ℕ → Task) (t : Table) where
         waiting j (inl x) = rw x (mn, h.unanswered, (lookup h.asked, h.asks))
         waiting j (inr x) = q.waiting j x
 
-        gained : (j : ℕ) (r : Answer) → Member (j, r) (answers_of s tasks t (m ∷ q.effects)) → status c' j (tasks j) ≡ some r
-        gained j r (inl x) = rw (ap (λ z. z.0) x) (h.answered ∙ ap some (sym (ap (λ z. z.1) x ∙ ap (λ z. z.0) e)))
+        gained : (j : ℕ) (r : Answer) → Member (j, r) (answers_of s tasks t (m ∷ q.effects)) → status c' j (tasks j) ≡ Some r
+        gained j r (inl x) = rw (ap (λ z. z.0) x) (h.answered ∙ ap Some (sym (ap (λ z. z.1) x ∙ ap (λ z. z.0) e)))
         gained j r (inr x) = q.gained j r (rw e at x)
 
     keeps_status : ((Member m q.effects → ⊥) → status c' m (tasks m) ≡ status c m (tasks m)) → ExplainedBelow js (suc m)
@@ -116,7 +116,7 @@ module _ (s : Settings) (c c' : Cells) (tasks : ℕ → Task) (t : Table) where
               [ inl h ↦ takes_effect y (omega arith) h n | inr e ↦ keeps_status y (λ x. e) ]
         ]
 
-    pub explained_change : Explained s c c' tasks tasks (λ j. none) t
+    pub explained_change : Explained s c c' tasks tasks (λ j. None) t
     explained_change =
         let x = explained_below s.workers (omega arith) in
         record {

@@ -6,7 +6,7 @@ use mathlib.Core.Path.{◌≡◌, refl, ap, sym, ◌∙◌, subst, fun_ext}
 use mathlib.Core.Logic.{◌≢◌, ◌⊎◌, inl, inr, ⊎_elim}
 use mathlib.Core.Bool.{Bool, false}
 use mathlib.Core.List.{List, [], ◌∷◌, ◌++◌}
-use mathlib.Core.Option.{Option, none, some}
+use Rattle.std.specs.Prelude.{Option, Some, None}
 use lib.Dec.{eqb, leb}
 use borrow.Author.Tests.{le-leb}
 use Rattle.interface.specs.declared.Settings.{Settings}
@@ -34,7 +34,7 @@ use Rattle.machine.proofs.laws.Serving.{member_left, member_last, member_snoc, d
 
 -- what an update with ticket t has had, by its worker's entry in its bucket
 abbrev pub entry_status : ℕ → Settled → Option Answer
-entry_status t e = when leb t e.ticket then some e.answer else none
+entry_status t e = when leb t e.ticket then Some e.answer else None
 
 pub status_entry :
     (c : Cells) (j : ℕ) (k : Task) (pc : PC) → UnderWay pc → status_at pc c j k ≡ entry_status k.ticket ((leaf_body c (target k)).settled j)
@@ -50,7 +50,7 @@ status_entry c j k _ u = elim u [ ]
 -- a worker that then goes from one step of its update to another, unanswered, has had what it had
 pub explained_goes :
     (s : Settings) (w : ℕ) {c c' : Cells} {tasks : ℕ → Task} {t : Table} (pc : PC) (r : Reads) → UnderWay (tasks w).pc → UnderWay pc
-    → Explained s c c' tasks tasks (λ j. none) t → ExplainedStep s w c tasks t c' (goes (tasks w) pc r) none
+    → Explained s c c' tasks tasks (λ j. None) t → ExplainedStep s w c tasks t c' (goes (tasks w) pc r) None
 explained_goes s w {c} {c'} {tasks} pc r u v x = record {
   effects = x.effects;
   distinct = x.distinct;
@@ -63,9 +63,9 @@ explained_goes s w {c} {c'} {tasks} pc r u v x = record {
     k : Task
     k = goes (tasks w) pc r
 
-    stays : (j : ℕ) → outcome (reply_to w none j) c' j (assign tasks w k j) ≡ status c' j (tasks j)
+    stays : (j : ℕ) → outcome (reply_to w None j) c' j (assign tasks w k j) ≡ status c' j (tasks j)
     stays j =
-        ap (λ o. outcome o c' j (assign tasks w k j)) (if_same (eqb j w) none)
+        ap (λ o. outcome o c' j (assign tasks w k j)) (if_same (eqb j w) None)
         ∙ assign_elim (λ q. status c' j q ≡ status c' j (tasks j)) tasks w k j
         (λ e. status_entry c' j k pc v ∙ sym (status_entry c' j (tasks w) (tasks w).pc u) ∙ ap (λ i. status c' j (tasks i)) (sym e))
         (λ e. refl)
@@ -85,14 +85,14 @@ module _ (s : Settings) (c : Cells) (tasks : ℕ → Task) where
     pub below : j < s.workers
     pub under : UnderWay (tasks j).pc
     pub wanted : Update
-    pub asks : (tasks j).operation ≡ some (update wanted)
+    pub asks : (tasks j).operation ≡ Some (update wanted)
     pub unsettled : settled_at (leaf_body c (account wanted)) j (tasks j).ticket ≡ false
 
   pub unsettled_status : {j : ℕ} → UnsettledUpdate j → Unserved s c tasks j
   unfolding settled_at
   unsettled_status {j} h = (
     h.below,
-    status_entry c j (tasks j) (tasks j).pc h.under ∙ rw h.asks (if_false (some _) none h.unsettled),
+    status_entry c j (tasks j) (tasks j).pc h.under ∙ rw h.asks (if_false (Some _) None h.unsettled),
     (update h.wanted, h.asks),
   )
 
@@ -229,10 +229,10 @@ module _ (s : Settings) (c : Cells) (tasks : ℕ → Task) where
     pub linearized_parts : ((a : ℕ) → leaf c' a ≡ name_of (F a)) → Parts c' (serve_all s tasks t d.effects)
     linearized_parts leaves = record { ascending = d.ascending; part = λ a. ap (λ b. b.items) (holds a) ∙ rw (leaves a) (d.part a) }
 
-    pub linearized_gained : (j : ℕ) (r : Answer) → Member (j, r) (answers_of s tasks t d.effects) → status c' j (tasks j) ≡ some r
+    pub linearized_gained : (j : ℕ) (r : Answer) → Member (j, r) (answers_of s tasks t d.effects) → status c' j (tasks j) ≡ Some r
     linearized_gained j r m =
         status_entry c' j (tasks j) (tasks j).pc (d.unsettled j (answers_member s tasks t d.effects j r m)).under
-        ∙ rw (holds (target (tasks j)), d.gained j r m) (if_true (some r) none (le-leb (tasks j).ticket (tasks j).ticket (omega arith)))
+        ∙ rw (holds (target (tasks j)), d.gained j r m) (if_true (Some r) None (le-leb (tasks j).ticket (tasks j).ticket (omega arith)))
 
     pub linearized_others :
         (j : ℕ) (pc : PC) → UnderWay pc → (Member j d.effects → ⊥) → status_at pc c' j (tasks j) ≡ status_at pc c j (tasks j)

@@ -4,7 +4,7 @@ use Prim.Native.Nat.{ℕ, ◌≤◌, ◌<◌}
 use native.Mathlib.Omega.{arith}
 use mathlib.Core.Path.{◌≡◌, sym, subst}
 use mathlib.Core.Bool.{true}
-use mathlib.Core.Option.{Option, some}
+use Rattle.std.specs.Prelude.{Option, Some}
 use Rattle.interface.specs.Limits.{in_range, Range}
 use Rattle.interface.proofs.Laws.{range_of}
 use Rattle.interface.specs.declared.Settings.{Settings}
@@ -58,7 +58,7 @@ module _ (s : Settings) (range : in_range s.workers s.capacity s.depth ≡ true)
   limits = range_of s.workers s.capacity s.depth range
 
   pub step_explained :
-      (m : Machine) (j : ℕ) (o : Operation) (t : Table) → Good s m → Parts m.cells t → j < s.workers → (m.workers j).operation ≡ some o
+      (m : Machine) (j : ℕ) (o : Operation) (t : Table) → Good s m → Parts m.cells t → j < s.workers → (m.workers j).operation ≡ Some o
       → Explained s m.cells (step s m j).0.cells (tasks_of s m) (tasks_of s (step s m j).0) (reply_to j (effect_of s m j o).answer) t
   unfolding done
   step_explained m j o t g p jn e =

@@ -5,7 +5,7 @@ use native.Mathlib.Omega.{arith}
 use mathlib.Core.Path.{◌≡◌, refl, ap, sym, subst}
 use mathlib.Core.Logic.{inl, inr, ⊎_elim}
 use mathlib.Core.Bool.{Bool}
-use mathlib.Core.Option.{Option, none, some}
+use Rattle.std.specs.Prelude.{Option, Some, None}
 use borrow.Author.Tests.{leb-true, leb-false}
 use Rattle.interface.specs.declared.Settings.{Settings}
 use Rattle.interface.specs.declared.Answer.{Answer}
@@ -41,19 +41,19 @@ own_held c k q e = ap c.buckets e
 module _ (j t : ℕ) (b : Body) where
   -- by cases: settled, or no answer yet
   check_elim :
-      (P : Option Answer → Type 0) → (SettledIn j t b → P (some (b.settled j).answer)) → ((b.settled j).ticket < t → P none)
+      (P : Option Answer → Type 0) → (SettledIn j t b → P (Some (b.settled j).answer)) → ((b.settled j).ticket < t → P None)
       → P (checked j t b)
   unfolding checked settled_at
   check_elim P x y = if_elim P (settled_at b j t) _ _ (λ e. x (leb-true t _ e)) (λ e. y (leb-false t _ e))
 
   -- an answer is the settled ticket's
-  pub check_settled : (r : Answer) → checked j t b ≡ some r → SettledIn j t b × (r ≡ (b.settled j).answer)
+  pub check_settled : (r : Answer) → checked j t b ≡ Some r → SettledIn j t b × (r ≡ (b.settled j).answer)
   check_settled r =
-      check_elim (λ o. o ≡ some r → SettledIn j t b × (r ≡ (b.settled j).answer)) (λ l h. (l, cc)) (λ l h. absurd (none_some refl h))
+      check_elim (λ o. o ≡ Some r → SettledIn j t b × (r ≡ (b.settled j).answer)) (λ l h. (l, cc)) (λ l h. absurd (none_some refl h))
 
   -- what is settled is answered
-  check_none : checked j t b ≡ none → SettledIn j t b → ⊥
-  check_none = check_elim (λ o. o ≡ none → SettledIn j t b → ⊥) (λ l h x. none_some h refl) (λ l h x. omega arith)
+  check_none : checked j t b ≡ None → SettledIn j t b → ⊥
+  check_none = check_elim (λ o. o ≡ None → SettledIn j t b → ⊥) (λ l h x. none_some h refl) (λ l h x. omega arith)
 
 module _ (s : Settings) (w : ℕ) (c : Cells) where
   -- ---- facts that a step carries on
@@ -158,7 +158,7 @@ module _ (s : Settings) (w : ℕ) (c : Cells) where
     pub called_update :
         (u : Update)
         → Reading s w c (goes k idle k.reads)
-        (record { pc = announce; operation = some (update u); ticket = suc k.ticket; reads = k.reads })
+        (record { pc = announce; operation = Some (update u); ticket = suc k.ticket; reads = k.reads })
     called_update u = outside_rounds _ _ (refl, λ j x. x, λ x. x, λ x. x) (λ x. x) (λ x. x) (λ o. record {
       ticket = omega (arith, o.ticket);
       slot = record { wanted = u; asks = refl; settled = o.slot.1; newer = omega (arith, o.ticket) };
@@ -167,7 +167,7 @@ module _ (s : Settings) (w : ℕ) (c : Cells) where
 
     pub called_lookup :
         (a : ℕ) → Reading s w c (goes k idle k.reads)
-        (record { pc = look₁; operation = some (lookup a); ticket = k.ticket; reads = k.reads })
+        (record { pc = look₁; operation = Some (lookup a); ticket = k.ticket; reads = k.reads })
     called_lookup a = outside_rounds _ _ (refl, λ j x. x, λ x. x, λ x. x) (λ x. x) (λ x. x)
         (λ o. record { ticket = o.ticket; slot = record { wanted = a; asks = refl; settled = o.slot.1 }; read = tt })
 
@@ -236,7 +236,7 @@ module _ (s : Settings) (w : ℕ) (c : Cells) where
     -- ---- a check without answer
 
     pub unanswered_ok :
-        (p x : Two) → checked w k.ticket (body c (held k)) ≡ none
+        (p x : Two) → checked w k.ticket (body c (held k)) ≡ None
         → Reading s w c (goes k (check_s p x) k.reads) (goes k (after_c p x) k.reads)
     unanswered_ok one one e = outside_rounds _ _ (refl, λ j y. y, λ y. y, λ y. y) (λ y. y) (λ y. y)
         (λ o. record {
@@ -307,11 +307,11 @@ module _ (s : Settings) (w : ℕ) (c : Cells) where
       -- an update that is answered is settled
       pub check_settles :
           (p x : Two) → Own s c w (goes k (check_s p x) k.reads)
-          → (r : Answer) → checked w k.ticket (body c (held k)) ≡ some r → OwnSettled c w k
+          → (r : Answer) → checked w k.ticket (body c (held k)) ≡ Some r → OwnSettled c w k
       check_settles p x o r e = settled_here (check_s p x) o.read.0 (check_settled w _ _ r e).0
 
       pub answered_ok :
-          (p x : Two) (r : Answer) → checked w k.ticket (body c (held k)) ≡ some r
+          (p x : Two) (r : Answer) → checked w k.ticket (body c (held k)) ≡ Some r
           → Reading s w c (goes k (check_s p x) k.reads) (ended_task k k.reads)
       answered_ok p x r e = outside_rounds _ _ (refl, λ j y. y, λ y. y, λ y. absurd y) (λ y. y) (λ y. y)
           (λ o. record { ticket = o.ticket; slot = (refl, settled_slot (check_s p x) o.slot (check_settles p x o r e)); read = tt })

@@ -5,7 +5,7 @@ use native.Mathlib.Omega.{arith}
 use mathlib.Core.Path.{◌≡◌, refl, ap, sym, ◌∙◌, subst}
 use mathlib.Core.Logic.{◌≢◌, ◌⊎◌, inl, inr, ⊎_elim}
 use mathlib.Core.Bool.{Bool, not}
-use mathlib.Core.Option.{some}
+use Rattle.std.specs.Prelude.{Some}
 use Rattle.interface.specs.declared.Settings.{Settings}
 use Rattle.machine.specs.Choice.{assign}
 use Rattle.machine.specs.Sequential.{Update, update}
@@ -28,7 +28,7 @@ module _ (s : Settings) (w : ℕ) (wn : w < s.workers) (c : Cells) (tasks : ℕ 
 
   -- ---- announcing
 
-  module _ (u : Update) (at : (tasks w).pc ≡ announce) (asks : (tasks w).operation ≡ some (update u)) where
+  module _ (u : Update) (at : (tasks w).pc ≡ announce) (asks : (tasks w).operation ≡ Some (update u)) where
     abbrev new_slot : Slot
     new_slot = announced u (tasks w).ticket
 

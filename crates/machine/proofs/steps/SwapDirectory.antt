@@ -5,7 +5,7 @@ use native.Mathlib.Omega.{arith}
 use mathlib.Core.Path.{◌≡◌, refl, ap, sym, ◌∙◌, subst}
 use mathlib.Core.Logic.{◌⊎◌, inl, inr, ⊎_elim}
 use mathlib.Core.Bool.{Bool, true, false, not}
-use mathlib.Core.Option.{Option, none, some}
+use Rattle.std.specs.Prelude.{Option, Some, None}
 use borrow.Author.Tests.{eq-eqb, eqb-true, leb-true, leb-false, not-true}
 use Rattle.interface.specs.declared.Settings.{Settings}
 use Rattle.machine.specs.Choice.{assign}
@@ -86,8 +86,8 @@ module _
         no_body b e (inr g) = omega (arith, g.deeper, ap (λ (y : Leaf). (name_of y).depth) e)
 
         go : (o : Option Body) → body_made copy (name_at d a) ≡ o → created (c.buckets (name_at d a)) o ≡ c.buckets (name_at d a)
-        go none e = refl
-        go (some b) e = absurd (no_body b (body_made_some small copy_coherent (name_at d a) b e a refl) (kept_or_resolved a))
+        go None e = refl
+        go (Some b) e = absurd (no_body b (body_made_some small copy_coherent (name_at d a) b e a refl) (kept_or_resolved a))
 
     -- an account's bucket that is not split
     pub leaf_old : (a : ℕ) → leaf_of copy a ≡ kept (leaf c a) → (leaf c' a ≡ leaf c a) × (leaf_body c' a ≡ leaf_body c a)
@@ -215,8 +215,8 @@ module _
       bits_applied_kept x = rw (bucket_is x) (go (body_made copy x))
         where
           go : (o : Option Body) → Applied (created (c.buckets x) o) j ⊎ (Rounds q.pc × (held q ≡ x))
-          go none = i.bits_applied x j jn
-          go (some b) = inl refl
+          go None = i.bits_applied x j jn
+          go (Some b) = inl refl
 
     module _ (j m : ℕ) (jn : j < s.workers) (mn : m < s.workers) where
       toggle_same : HasToggle (tasks m).pc → own c' (tasks m) ≡ own c (tasks m)

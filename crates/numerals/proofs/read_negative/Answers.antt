@@ -2,7 +2,7 @@
 -- Rests on the laws that it cites and on the contracts of what is called.
 use Prim.Native.Nat.{ℕ, suc, ◌-◌, ◌^◌, ◌<◌}
 use mathlib.Core.Path.{◌≡◌, sym, ◌∙◌, ap}
-use mathlib.Core.Option.{some}
+use Rattle.std.specs.Prelude.{Some}
 use native.Mathlib.Omega.{arith}
 use native.Mathlib.Nat.{pos_of_ne-zero}
 use lib.IntN.{negsuc}
@@ -16,7 +16,7 @@ use Rattle.numerals.proofs.read_negative.Goals as goal
 use Rattle.numerals.proofs.read_negative.Goals.{Else-size-eq0}
 
 read : (c : Else-size-eq0)
-    → up_to least_total_size (numeral c.args.field.now) ≡ some
+    → up_to least_total_size (numeral c.args.field.now) ≡ Some
     c.in-Value.size
 read c =
     number_some _ c.in-Value.size
@@ -33,7 +33,7 @@ pub returns-then-size-eq0 : goal.returns-then-size-eq0
 unfolding minus
 returns-then-size-eq0 c =
     no_signed _ (minus_limit _ ∙ ap minus (number_some _ c.in-Value.size
-    (sym c.in-Value.is ∙ c.read_number.ensures) ∙ ap some c.if-size-eq0.true))
+    (sym c.in-Value.is ∙ c.read_number.ensures) ∙ ap Some c.if-size-eq0.true))
 
 pub overflow_cast-result : goal.overflow_cast-result
 overflow_cast-result c = record { sfits = omega (arith, limited least_total_size _ _ (read c)) }

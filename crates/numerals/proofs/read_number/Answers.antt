@@ -2,7 +2,7 @@
 -- Rests on the laws that it cites and on the contracts of what is called.
 use Prim.Native.Nat.{ℕ, zero-le}
 use mathlib.Core.Path.{sym, ◌∙◌, ap}
-use mathlib.Core.Option.{Option}
+use Rattle.std.specs.Prelude.{Option}
 use native.Mathlib.Omega.{arith}
 use Rattle.numerals.specs.Numerals.{up_to, as_number}
 use Rattle.numerals.proofs.NumeralLaws.{nothing, value, up-to, no_bytes, only_zero, leading_zero, no_leading_zero}

@@ -1,6 +1,6 @@
 -- `read_positive`: the size is read up to the greatest total.
 -- Rests on the laws that it cites and on the contracts of what is called.
-use mathlib.Core.Option.{some}
+use Rattle.std.specs.Prelude.{Some}
 use mathlib.Core.Path.{◌≡◌, sym, ◌∙◌, ap}
 use native.Mathlib.Omega.{arith}
 use lib.IntN.{pos}
@@ -13,7 +13,7 @@ use Rattle.numerals.proofs.read_positive.Goals as goal
 use Rattle.numerals.proofs.read_positive.Goals.{In-Value}
 
 read : (c : In-Value)
-    → up_to greatest_total (numeral c.args.field.now) ≡ some c.in-Value.size
+    → up_to greatest_total (numeral c.args.field.now) ≡ Some c.in-Value.size
 read c = number_some _ c.in-Value.size (sym c.in-Value.is ∙ c.read_number.ensures)
 
 pub returns-in_default : goal.returns-in_default

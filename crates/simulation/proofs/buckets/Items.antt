@@ -5,7 +5,7 @@ use native.Mathlib.Omega.{arith}
 use mathlib.Core.Path.{◌≡◌, refl, ap, sym, ◌∙◌, subst}
 use mathlib.Core.Logic.{◌≢◌}
 use mathlib.Core.List.{List, [], ◌∷◌, ◌++◌, map, append-nil, map-append}
-use mathlib.Core.Option.{none, some}
+use Rattle.std.specs.Prelude.{Some, None}
 use lib.Dec.{leb, eqb}
 use lib.IntN.{ℤ}
 use lib.ListN.{length, get_or, set, take, drop, replicate, length-append, length-take, length-drop, length-set, length-map}
@@ -245,7 +245,7 @@ put_next a (x ∷ l) (y ∷ v) z e h = if_true _ _ (lt-ltb a x h)
 
 -- account a is not in the table, so that it is not found, and to take it out changes nothing
 abbrev Absent : ℕ → Table → Type 0
-Absent a t = (find t a ≡ none) × (remove t a ≡ t)
+Absent a t = (find t a ≡ None) × (remove t a ≡ t)
 
 absent_above : (b a : ℕ) (t : Table) → a ≤ b → AccountsAbove b t → Absent a t
 unfolding find remove
@@ -329,7 +329,7 @@ module _ (x : BucketState) (s : Sound x) where
         ∙ ap (λ (t : Table). span x 0 i ++ t) (if_eq a a _ _ refl))
         )
 
-    found_items : find (items_of x) a ≡ some (signed (get_or x.totals i 0))
+    found_items : find (items_of x) a ≡ Some (signed (get_or x.totals i 0))
     unfolding find
     found_items = rw cut_at (find_past a (take i x.accounts) (take i x.totals) _ h.1 ∙ if_eq a a _ _ refl)
 
@@ -394,7 +394,7 @@ module _ (x : BucketState) (s : Sound x) where
 
     module _ (v : ℕ) (narrow : a < 2 ^ 32) (fits : v < 2 ^ 64) where
       put_at_becomes :
-          (p : Position) → Stands x a p → (total_at x p ≡ none → x.count < array_size)
+          (p : Position) → Stands x a p → (total_at x p ≡ None → x.count < array_size)
           → Becomes x (put (items_of x) a (signed v)) (put_of x p a v)
       unfolding put_of total_at
       put_at_becomes (At i) h room =
@@ -417,7 +417,7 @@ module _ (x : BucketState) (s : Sound x) where
 
       -- "sets the account's total"; where the account is not there, there must be room for it
       pub put_becomes :
-          (find (items_of x) a ≡ none → x.count < array_size)
+          (find (items_of x) a ≡ None → x.count < array_size)
           → Becomes x (put (items_of x) a (signed v)) (put_of x (search_of x a) a v)
       put_becomes room = put_at_becomes (search_of x a) search_stands (λ e. room (find_search ∙ e))
 

@@ -7,7 +7,7 @@ use mathlib.Core.Path.{◌≡◌, refl, ap, ap₂, sym, ◌∙◌, subst}
 use mathlib.Core.Logic.{◌≢◌}
 use mathlib.Core.Bool.{Bool, true, false, not, xor}
 use mathlib.Core.List.{List}
-use mathlib.Core.Option.{none}
+use Rattle.std.specs.Prelude.{None}
 use lib.Dec.{ltb, leb, eqb}
 use lib.IntN.{ℤ}
 use mir.Syntax.{w64}
@@ -18,7 +18,8 @@ use borrow.Author.Tests.{leb-true, leb-false, le-ltb, lt-ltb}
 use lib.Seq.{get_or-set_same, get_or-set_other}
 use Rattle.interface.specs.Numbers.{kind_none, kind_insert, kind_post, answer_total, answer_number}
 use Rattle.interface.specs.declared.Answer.{Answer}
-use Rattle.interface.specs.declared.Answer.TheVariants.{Added, Replaced, Removed, Absent, Found, None, Posted, Crowded, Overrun}
+use Rattle.interface.specs.declared.Answer.TheVariants.{Added, Replaced, Removed, Absent, Found, Posted, Crowded, Overrun}
+use Rattle.interface.specs.declared.Answer.TheVariants as Answer
 use Rattle.interface.specs.declared.Settings.{Settings}
 use Rattle.fields.specs.Fields.{slot_size}
 use Rattle.machine.specs.Choice.{when◌then◌else◌, ◌and◌}
@@ -47,14 +48,14 @@ use Rattle.simulation.proofs.buckets.Items.{Becomes, stays_as, find_search, put_
 -- ---- answers
 
 -- every answer without a total is read back from its number
-pub answer_back : (a : Answer) (total : ℕ) → answer_total a ≡ none → answer_of (answer_number a) total ≡ a
+pub answer_back : (a : Answer) (total : ℕ) → answer_total a ≡ None → answer_of (answer_number a) total ≡ a
 unfolding answer_of answer_total when◌then◌else◌
 answer_back Added total e = refl
 answer_back Replaced total e = refl
 answer_back Removed total e = refl
 answer_back Absent total e = refl
 answer_back (Found v) total e = cc
-answer_back None total e = refl
+answer_back Answer.None total e = refl
 answer_back (Posted v) total e = cc
 answer_back Crowded total e = refl
 answer_back Overrun total e = refl

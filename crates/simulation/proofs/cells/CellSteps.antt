@@ -7,7 +7,7 @@ use mathlib.Core.Path.{◌≡◌, refl, ap, sym, ◌∙◌, subst}
 use mathlib.Core.Logic.{◌≢◌, inl, inr, ⊎_elim, by_cases}
 use mathlib.Core.Bool.{Bool, not}
 use mathlib.Core.List.{List}
-use mathlib.Core.Option.{none, some}
+use Rattle.std.specs.Prelude.{Some, None}
 use lib.ListN.{length, set, length-set}
 use lib.Seq.{get_or-set_other}
 use Rattle.interface.specs.Numbers.{kind_none, kind_lookup}
@@ -112,7 +112,7 @@ module _ {s : Settings} {l : List ℕ} {m : Machine} {w : ℕ} (ready : Ready s 
 
   -- the worker after the step, and the counter that comes next
   abbrev further : Worker
-  further = counted (m.workers w) k.reads none
+  further = counted (m.workers w) k.reads None
 
   abbrev next : PC
   next = (task_of s.workers (going ready k.reads)).pc
@@ -130,14 +130,14 @@ module _ {s : Settings} {l : List ℕ} {m : Machine} {w : ℕ} (ready : Ready s 
   -- the step of an update that goes on to counter pc, leaves words l₂ and cells c, and reads nothing
   moves :
       (pc : PC) (l₂ : List ℕ) (c : Cells) → step_in l s w ≡ (l₂, Stepped.Moved) → (next ≡ pc → MeansAfter l₂ c) → (y : Reads)
-      → task_of s.workers (counted (m.workers w) y none) ≡ goes k pc k.reads → Next ready c y none
+      → task_of s.workers (counted (m.workers w) y None) ≡ goes k pc k.reads → Next ready c y None
   unfolding counted step_reply
   moves pc l₂ c e h y g = rw (e, ap (λ (o : Task). o.reads) g) (h (ap (λ (o : Task). o.pc) g), refl)
 
   pub announces_means :
-      (u : Update) → k.pc ≡ announce → k.operation ≡ some (update u) → (y : Reads)
-      → task_of s.workers (counted (m.workers w) y none) ≡ goes k (read_d one) k.reads
-      → Next ready (assign_slot m.cells w (announced u k.ticket)) y none
+      (u : Update) → k.pc ≡ announce → k.operation ≡ Some (update u) → (y : Reads)
+      → task_of s.workers (counted (m.workers w) y None) ≡ goes k (read_d one) k.reads
+      → Next ready (assign_slot m.cells w (announced u k.ticket)) y None
   unfolding update_at descriptor_in
   announces_means u e o =
       moves (read_d one) l₂ _ (update_enters s ready.range l m ready.means ready.good w ready.known u announce o e)
@@ -372,8 +372,8 @@ module _ {s : Settings} {l : List ℕ} {m : Machine} {w : ℕ} (ready : Ready s 
           }))
 
   pub flips_means :
-      (p : Two) → k.pc ≡ flip p → (y : Reads) → task_of s.workers (counted (m.workers w) y none) ≡ goes k (in_b p one read_s) k.reads
-      → Next ready (flipped_cells w m.cells k) y none
+      (p : Two) → k.pc ≡ flip p → (y : Reads) → task_of s.workers (counted (m.workers w) y None) ≡ goes k (in_b p one read_s) k.reads
+      → Next ready (flipped_cells w m.cells k) y None
   unfolding update_at
   flips_means p e =
       let a : Announced s m.cells w k = announced-at ready (flip p) e in
@@ -381,8 +381,8 @@ module _ {s : Settings} {l : List ℕ} {m : Machine} {w : ℕ} (ready : Ready s 
 
   pub swaps_means :
       (p r : Two) → k.pc ≡ in_b p r swap → Fresh m.cells k → (y : Reads)
-      → task_of s.workers (counted (m.workers w) y none) ≡ goes k (after_b p r) k.reads
-      → Next ready (swapped_cells s m.cells k) y none
+      → task_of s.workers (counted (m.workers w) y None) ≡ goes k (after_b p r) k.reads
+      → Next ready (swapped_cells s m.cells k) y None
   unfolding update_at
   swaps_means p r e fresh =
       let a : Announced s m.cells w k = announced-at ready (in_b p r swap) e in

@@ -8,7 +8,7 @@ use mathlib.Core.Path.{◌≡◌, refl, ap, sym, ◌∙◌, subst}
 use mathlib.Core.Logic.{◌≢◌}
 use mathlib.Core.Bool.{true}
 use mathlib.Core.List.{List}
-use mathlib.Core.Option.{Option, none, some}
+use Rattle.std.specs.Prelude.{Option, Some, None}
 use lib.Dec.{eqb}
 use lib.ListN.{length, set, length-set}
 use borrow.Author.Tests.{le-leb}
@@ -99,9 +99,9 @@ module _ (d : Descriptor) where
       (λ h q. let e : update_from d ≡ u = cc in record { busy = h; update = e; account = sym account-of ∙ ap account e; ticket = cc })
 
   data OperationOf : Option Operation → Type 0 where
-    nothing : d.kind ≡ kind_none → OperationOf none
-    a_lookup : d.kind ≡ kind_lookup → OperationOf (some (lookup d.account))
-    an_update : d.kind ≢ kind_none → d.kind ≢ kind_lookup → OperationOf (some (update (update_from d)))
+    nothing : d.kind ≡ kind_none → OperationOf None
+    a_lookup : d.kind ≡ kind_lookup → OperationOf (Some (lookup d.account))
+    an_update : d.kind ≢ kind_none → d.kind ≢ kind_lookup → OperationOf (Some (update (update_from d)))
 
   operation-of : {o : Option Operation} → operation_in d ≡ o → OperationOf o
   unfolding operation_in
@@ -109,29 +109,29 @@ module _ (d : Descriptor) where
       subst OperationOf e
       (eq_elim OperationOf d.kind kind_none _ _ nothing (λ h. eq_elim OperationOf d.kind kind_lookup _ _ a_lookup (an_update h)))
 
-  update_of : {u : Update} → OperationOf (some (update u)) → (d.kind ≢ kind_none) × (d.kind ≢ kind_lookup) × (u ≡ update_from d)
+  update_of : {u : Update} → OperationOf (Some (update u)) → (d.kind ≢ kind_none) × (d.kind ≢ kind_lookup) × (u ≡ update_from d)
   update_of (an_update h k) = (h, k, refl)
 
-  lookup_of : {c : ℕ} → OperationOf (some (lookup c)) → (d.kind ≡ kind_lookup) × (c ≡ d.account)
+  lookup_of : {c : ℕ} → OperationOf (Some (lookup c)) → (d.kind ≡ kind_lookup) × (c ≡ d.account)
   lookup_of (a_lookup h) = (h, refl)
 
-  none_of : OperationOf none → d.kind ≡ kind_none
+  none_of : OperationOf None → d.kind ≡ kind_none
   none_of (nothing h) = h
 
-  pub is-update : {u : Update} → operation_in d ≡ some (update u) → (d.kind ≢ kind_none) × (d.kind ≢ kind_lookup) × (u ≡ update_from d)
+  pub is-update : {u : Update} → operation_in d ≡ Some (update u) → (d.kind ≢ kind_none) × (d.kind ≢ kind_lookup) × (u ≡ update_from d)
   is-update e = update_of (operation-of e)
 
-  pub is_lookup : {c : ℕ} → operation_in d ≡ some (lookup c) → (d.kind ≡ kind_lookup) × (c ≡ d.account)
+  pub is_lookup : {c : ℕ} → operation_in d ≡ Some (lookup c) → (d.kind ≡ kind_lookup) × (c ≡ d.account)
   is_lookup e = lookup_of (operation-of e)
 
-  pub is_idle : operation_in d ≡ none → d.kind ≡ kind_none
+  pub is_idle : operation_in d ≡ None → d.kind ≡ kind_none
   is_idle e = none_of (operation-of e)
 
-  pub is_busy : (o : Operation) → operation_in d ≡ some o → d.kind ≢ kind_none
+  pub is_busy : (o : Operation) → operation_in d ≡ Some o → d.kind ≢ kind_none
   is_busy (update u) e = (is-update e).0
   is_busy (lookup c) e = λ h. omega (arith, (is_lookup e).0)
 
-  pub is_about : (o : Operation) → operation_in d ≡ some o → about (some o) ≡ d.account
+  pub is_about : (o : Operation) → operation_in d ≡ Some o → about (Some o) ≡ d.account
   is_about (update u) e = ap account (is-update e).2 ∙ account-of
   is_about (lookup c) e = (is_lookup e).1
 
@@ -157,13 +157,13 @@ module _ (s : Settings) (l : List ℕ) (enough : words_needed s ≤ length l) (w
 
 -- the check that a worker is told with its answer, by its operation
 abbrev pub check_by : Settings → Worker → Option Operation → ℕ
-check_by s v none = 0
-check_by s v (some o) = check_of s v o
+check_by s v None = 0
+check_by s v (Some o) = check_of s v o
 
 -- the counter of a worker by its operation
 pub counter_is :
-    (s : Settings) (m : Machine) (w : ℕ) {o : Operation} {pc : PC} → (m.workers w).operation ≡ some o → (tasks_of s m w).pc ≡ pc
-    → counter_of s.workers (some o) (m.workers w).steps ≡ pc
+    (s : Settings) (m : Machine) (w : ℕ) {o : Operation} {pc : PC} → (m.workers w).operation ≡ Some o → (tasks_of s m w).pc ≡ pc
+    → counter_of s.workers (Some o) (m.workers w).steps ≡ pc
 counter_is s m w e f = sym (ap (λ o. counter_of s.workers o (m.workers w).steps) e) ∙ f
 
 module _ (s : Settings) (range : in_range s.workers s.capacity s.depth ≡ true) (l : List ℕ) (m : Machine) (means : Meaning s l m)
@@ -185,7 +185,7 @@ module _ (s : Settings) (range : in_range s.workers s.capacity s.depth ≡ true)
       if_ne (word l (p + worker_kind)) kind_none _ _ busy ∙ ap (operation_at l s p w) count
 
   pub update_enters :
-      (u : Update) (pc : PC) → (m.workers w).operation ≡ some (update u) → (tasks_of s m w).pc ≡ pc
+      (u : Update) (pc : PC) → (m.workers w).operation ≡ Some (update u) → (tasks_of s m w).pc ≡ pc
       → step_in l s w ≡ update_at (raised s l w (m.workers w).steps) s (start_of s (worker w)) w (m.workers w).steps (phase_of pc)
   unfolding operation_at descriptor_in
   update_enters u pc e f =
@@ -196,7 +196,7 @@ module _ (s : Settings) (range : in_range s.workers s.capacity s.depth ≡ true)
       step_enters h.0 (omega arith) ∙ if_ne (word l (p + worker_kind)) kind_lookup _ _ h.1 ∙ rw (add-one, counter_phase, at_pc)
 
   pub lookup_enters :
-      (a : ℕ) → (m.workers w).operation ≡ some (lookup a)
+      (a : ℕ) → (m.workers w).operation ≡ Some (lookup a)
       → step_in l s w ≡ lookup_at (raised s l w (m.workers w).steps) s (start_of s (worker w)) (m.workers w).steps
   unfolding operation_at descriptor_in
   lookup_enters a e =
@@ -204,7 +204,7 @@ module _ (s : Settings) (range : in_range s.workers s.capacity s.depth ≡ true)
       let few = lookup_under_way s range m w a wn good e in
       step_enters (λ g. omega (arith, h.0)) (omega arith) ∙ if_eq (word l (p + worker_kind)) kind_lookup _ _ h.0 ∙ rw add-one
 
-  pub idle_enters : (m.workers w).operation ≡ none → step_in l s w ≡ (l, Stepped.Refused Refusal.Idle)
+  pub idle_enters : (m.workers w).operation ≡ None → step_in l s w ≡ (l, Stepped.Refused Refusal.Idle)
   unfolding step_in descriptor_in start_of
   idle_enters e = if_eq (word l (p + worker_kind)) kind_none _ _ (is_idle asked ((means.workers w wn).operation ∙ e))
 
@@ -217,12 +217,12 @@ module _ (s : Settings) (range : in_range s.workers s.capacity s.depth ≡ true)
   abbrev pub Simulated : Type 0
   Simulated = Meaning s (step_in l s w).0 (step s m w).0 × ((step_in l s w).1 ≡ (step s m w).1)
 
-  pub simulated_idle : (m.workers w).operation ≡ none → Simulated
+  pub simulated_idle : (m.workers w).operation ≡ None → Simulated
   simulated_idle e = rw (idle_enters e, step_idle s m w wn e) (means, refl)
 
   -- the step is a transition of the worker's task
   pub simulated :
-      (o : Operation) → (m.workers w).operation ≡ some o
+      (o : Operation) → (m.workers w).operation ≡ Some o
       → ((c : Cells) (k : Task) (a : Option Answer) → Transition s w m.cells (tasks_of s m w) c k a
       → (x : Reads) → task_of s.workers (counted (m.workers w) x a) ≡ k → Follows c x a)
       → Simulated

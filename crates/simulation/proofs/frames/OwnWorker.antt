@@ -8,7 +8,7 @@ use mathlib.Core.Path.{◌≡◌, refl, ap, sym, ◌∙◌, subst, subst⁻¹}
 use mathlib.Core.Logic.{◌≢◌, by_cases}
 use mathlib.Core.Bool.{Bool, true}
 use mathlib.Core.List.{List}
-use mathlib.Core.Option.{Option, none}
+use Rattle.std.specs.Prelude.{Option, None}
 use lib.ListN.{length, get_or, set}
 use Rattle.interface.specs.Limits.{in_range}
 use Rattle.interface.specs.Numbers.{kind_none}
@@ -301,7 +301,7 @@ module _ {s : Settings} {l : List ℕ} {m : Machine} {w : ℕ} (ready : Ready s 
   -- the words after a step mean the machine whose worker has gone on to counter pc, having read x
   abbrev pub Onward : PC → Reads → Type 0
   Onward pc x =
-      (y : Reads) → task_of s.workers (counted (m.workers w) y none) ≡ goes (tasks_of s m w) pc x → Next ready m.cells y none
+      (y : Reads) → task_of s.workers (counted (m.workers w) y None) ≡ goes (tasks_of s m w) pc x → Next ready m.cells y None
 
   pub goes-on :
       (l' : List ℕ) (lo hi : ℕ) (pc : PC) (x : Reads) → step_in l s w ≡ (l', Stepped.Moved) → Changed s l w (m.workers w).steps l' lo hi
@@ -439,7 +439,7 @@ module _ {s : Settings} {l : List ℕ} {m : Machine} {w : ℕ} (ready : Ready s 
   pub raised_means :
       (pc : PC) → (HoldsBucket pc → HoldsBucket k.pc) → (HasState pc → ⊥) → (HasDirectory pc → ⊥)
       → (task_of s.workers (going k.reads)).pc ≡ pc
-      → Meaning s l₁ (record { cells = m.cells; workers = assign m.workers w (counted (m.workers w) k.reads none) })
+      → Meaning s l₁ (record { cells = m.cells; workers = assign m.workers w (counted (m.workers w) k.reads None) })
   unfolding counted
   raised_means pc holds no_state no_directory there =
       mine_means l₁ (going k.reads) pc there own₁ (going_called l₁ k.reads changed₁.call changed₁.count)

@@ -3,7 +3,7 @@ use Prim.Native.Nat.{ℕ, zero, suc, ◌+◌, ◌-◌, ◌%◌, ◌≤◌, ◌<�
 use native.Mathlib.Omega.{arith}
 use mathlib.Core.Path.{◌≡◌, refl, sym, ◌∙◌, subst⁻¹}
 use mathlib.Core.List.{List}
-use mathlib.Core.Option.{Option, none, some}
+use Rattle.std.specs.Prelude.{Option, Some, None}
 use lib.Dec.{leb, eqb}
 use lib.ListN.{length, set, length-set, length-append, length-replicate}
 use lib.IntN.{ℤ}
@@ -105,8 +105,8 @@ module _ (l : List ℕ) (s : Settings) (w : ℕ) (f : Fits l s) (known : w < s.w
 
   length_check : (k c : ℕ) (o : Option Answer) → LongAfter l (check_at l p k c o)
   unfolding check_at
-  length_check k c none = refl
-  length_check k c (some a) = length_ended k c a
+  length_check k c None = refl
+  length_check k c (Some a) = length_ended k c a
 
   length_update : (k n : ℕ) (x : Phase) → n ≡ s.workers → x ≡ phase n k → LongAfter l (update_at l s p w k x)
   unfolding update_at bucket_read_at flipped_at state_read_at toggle_read_at directory_read_at state_step_at
@@ -154,8 +154,8 @@ module _ (l : List ℕ) (s : Settings) (w : ℕ) (f : Fits l s) (known : w < s.w
 
 length_or : (l m : List ℕ) (o : Option Ran) (later : List ℕ × Ran) → Long l m → LongAfter l later → LongAfter l (or_else m o later)
 unfolding or_else
-length_or l m none later h k = k
-length_or l m (some r) later h k = h
+length_or l m None later h k = k
+length_or l m (Some r) later h k = h
 
 length_run_in : (n : ℕ) (l : List ℕ) (s : Settings) (w k : ℕ) → Fits l s → w < s.workers → LongAfter l (run_in l s w k n)
 unfolding run_in

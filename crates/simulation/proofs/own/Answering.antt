@@ -5,7 +5,7 @@ use native.Mathlib.Omega.{arith}
 use mathlib.Core.Path.{◌≡◌, refl, ap, ap₂, sym, ◌∙◌, subst}
 use mathlib.Core.Bool.{not}
 use mathlib.Core.List.{List}
-use mathlib.Core.Option.{none, some}
+use Rattle.std.specs.Prelude.{Some, None}
 use lib.Dec.{ltb, leb}
 use lib.ListN.{length, take, length-take}
 use mir.Syntax.{w64}
@@ -127,4 +127,4 @@ module _ (s : Settings) (narrow : s.capacity ≤ array_size) (few : s.workers �
     pub checked_is :
         (p t : ℕ) → word l (p + worker_ticket) ≡ t → checked_at l s p (start_of s (record' r)) w ≡ checked w t x.state.value.body
     unfolding checked_at checked settled_at
-    checked_is p t e = λ i. when leb (e i) (ticket_is i) then some (answer_is i) else none
+    checked_is p t e = λ i. when leb (e i) (ticket_is i) then Some (answer_is i) else None

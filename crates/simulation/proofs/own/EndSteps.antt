@@ -4,7 +4,7 @@ use native.Mathlib.Omega.{arith}
 use native.Mathlib.Numerals.{add-one}
 use mathlib.Core.Path.{◌≡◌, refl, ap, ap₂, sym, ◌∙◌, subst⁻¹}
 use mathlib.Core.List.{List}
-use mathlib.Core.Option.{Option, none, some}
+use Rattle.std.specs.Prelude.{Option, Some, None}
 use lib.ListN.{set}
 use Rattle.interface.specs.Numbers.{kind_none}
 use Rattle.interface.proofs.Laws.{range_of}
@@ -38,7 +38,7 @@ use Rattle.simulation.proofs.frames.Entering.{raised, check_by, counter_is, is_a
 use Rattle.simulation.proofs.own.Answering.{looked_is, checked_is}
 use Rattle.simulation.proofs.frames.OwnWorker.{worker_means, nowhere, Ready, Next, Words, Free, words_here, words_set, mine_means, slots_kept, toggle_kept, Onward, enough₁, beside₁, free, mine, at_mine, keeps₁, announced-at, plan_step, stays}
 
-operation_none : (d : Descriptor) → d.kind ≡ kind_none → operation_in d ≡ none
+operation_none : (d : Descriptor) → d.kind ≡ kind_none → operation_in d ≡ None
 unfolding operation_in
 operation_none d e = if_eq d.kind kind_none _ _ e
 
@@ -64,8 +64,8 @@ module _ {s : Settings} {l : List ℕ} {m : Machine} {w : ℕ} (ready : Ready s 
   -- the words after it mean the machine whose worker is idle again
   abbrev pub Ends : Answer → Type 0
   Ends a =
-      (y : Reads) → task_of s.workers (counted (m.workers w) y (some a)) ≡ ended_task (tasks_of s m w) (m.workers w).reads
-      → Next ready m.cells y (some a)
+      (y : Reads) → task_of s.workers (counted (m.workers w) y (Some a)) ≡ ended_task (tasks_of s m w) (m.workers w).reads
+      → Next ready m.cells y (Some a)
 
   -- told at check c, which is that of its operation
   ends :
@@ -75,7 +75,7 @@ module _ {s : Settings} {l : List ℕ} {m : Machine} {w : ℕ} (ready : Ready s 
   ends a c told e y g =
       let read : y ≡ k.reads = ap (λ (q : Task). q.reads) g in
       rw (e, read, add-one, told) (
-        mine_means ready l₂ (record { last = (m.workers w).last; operation = none; steps = 0; reads = k.reads }) idle refl words.own
+        mine_means ready l₂ (record { last = (m.workers w).last; operation = None; steps = 0; reads = k.reads }) idle refl words.own
             (record {
               operation = operation_none _ (words.are worker_kind (omega arith));
               narrow = rw (words.are worker_account (omega arith)) (worker_means ready).narrow;
@@ -103,7 +103,7 @@ module _ {s : Settings} {l : List ℕ} {m : Machine} {w : ℕ} (ready : Ready s 
       words : Words s w l l₂ (assign (assign f₁ worker_kind kind_none) worker_steps 0)
       words = words_set s w ready.known l ready.means.lent _ _ words₂ worker_steps 0 (omega arith)
 
-  target_is : (o : Operation) → (m.workers w).operation ≡ some o → target k ≡ at s l (worker w) worker_account
+  target_is : (o : Operation) → (m.workers w).operation ≡ Some o → target k ≡ at s l (worker w) worker_account
   unfolding descriptor_in
   target_is o e = ap about e ∙ is_about (descriptor_in l me) o ((worker_means ready).operation ∙ e)
 
@@ -161,14 +161,14 @@ module _ {s : Settings} {l : List ℕ} {m : Machine} {w : ℕ} (ready : Ready s 
         (beside₁ ready worker_ticket (omega arith) (λ g. omega arith) ∙ (worker_means ready).ticket))
 
     pub answers_means :
-        (a : Answer) → checked w k.ticket (body m.cells (held k)) ≡ some a → Ends a
+        (a : Answer) → checked w k.ticket (body m.cells (held k)) ≡ Some a → Ends a
     unfolding check_at check_of
     answers_means a q =
         ends a number (ap (check_by s (m.workers w)) (announced-at ready (check_s p x) e).asks)
         (check_enters ∙ ap (check_at l₁ me (m.workers w).steps number) (check_finds ∙ q))
 
     pub passes_means :
-        checked w k.ticket (body m.cells (held k)) ≡ none → Onward ready (after_c p x) k.reads
+        checked w k.ticket (body m.cells (held k)) ≡ None → Onward ready (after_c p x) k.reads
     unfolding check_at
     passes_means q =
         stays ready (after_c p x) (λ z. absurd ((nothing p x).0 z)) (nothing p x).1 (nothing p x).2

@@ -7,7 +7,7 @@ use native.Mathlib.Decide.{ℕ_discrete, dec_lt}
 use mathlib.Core.Path.{◌≡◌, refl, ap, sym, ◌∙◌, subst, subst⁻¹}
 use mathlib.Core.Logic.{◌≢◌, by_cases}
 use mathlib.Core.List.{List}
-use mathlib.Core.Option.{some}
+use Rattle.std.specs.Prelude.{Some}
 use lib.ListN.{length, set}
 use lib.Pow.{pow_pos}
 use Rattle.interface.specs.declared.Settings.{Settings}
@@ -64,7 +64,7 @@ module _ {s : Settings} {l : List ℕ} {m : Machine} {w : ℕ} (ready : Ready s 
 
   -- the directory is read: looks, reads_d, checks_d
   reads_directory :
-      (o : Operation) → (m.workers w).operation ≡ some o → (pc : PC) → (HasState pc → ⊥) → (HasDirectory pc → ⊥)
+      (o : Operation) → (m.workers w).operation ≡ Some o → (pc : PC) → (HasState pc → ⊥) → (HasDirectory pc → ⊥)
       → step_in l s w ≡ (bucket_read_at l₁ s me, Stepped.Moved)
       → Onward ready pc (with_directory k.reads m.cells.directory)
   unfolding bucket_read_at with_directory descriptor_in
@@ -268,7 +268,7 @@ module _ {s : Settings} {l : List ℕ} {m : Machine} {w : ℕ} (ready : Ready s 
               (λ e. let same = slot_beside j h e in rw (same slot_kind (omega arith), same slot_ticket (omega arith)) (y.quiet j h));
         }
 
-  step_in_range : {u : Update} → (m.workers w).operation ≡ some (update u) → {pc : PC} → k.pc ≡ pc → Counter.StepInRange s.workers pc
+  step_in_range : {u : Update} → (m.workers w).operation ≡ Some (update u) → {pc : PC} → k.pc ≡ pc → Counter.StepInRange s.workers pc
   step_in_range e f =
       subst (Counter.StepInRange s.workers) (counter_is s m w e f) (counter_in_range s.workers (m.workers w).steps)
 

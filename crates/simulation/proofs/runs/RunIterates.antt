@@ -7,7 +7,7 @@ use mathlib.Core.Path.{◌≡◌, refl, ap, sym, ◌∙◌}
 use mathlib.Core.Logic.{◌≢◌, by_cases}
 use mathlib.Core.Bool.{true}
 use mathlib.Core.List.{List}
-use mathlib.Core.Option.{Option, none, some}
+use Rattle.std.specs.Prelude.{Option, Some, None}
 use lib.Dec.{eqb}
 use borrow.Author.Tests.{le-leb, lt-leb}
 use Rattle.interface.specs.Limits.{in_range}
@@ -41,14 +41,14 @@ use Rattle.simulation.proofs.Represents.{Represents, step_alike, represents_next
 
 -- ---- a step of a worker whose operation is under way
 
-module _ (s : Settings) (m : Machine) (w : ℕ) (known : w < s.workers) {o : Operation} (asked : (m.workers w).operation ≡ some o) where
+module _ (s : Settings) (m : Machine) (w : ℕ) (known : w < s.workers) {o : Operation} (asked : (m.workers w).operation ≡ Some o) where
   never_refused : {r : Refusal} → (step s m w).1 ≡ Stepped.Refused r → ⊥
   never_refused {r} e = done_never m w _ _ (ap (λ (x : Machine × Stepped). x.1) (sym (step_made s m w known asked)) ∙ e)
 
   -- after a step that moved, the worker with one own step more
   moved_worker :
       (step s m w).1 ≡ Stepped.Moved
-      → (((step s m w).0.workers w).operation ≡ some o) × (((step s m w).0.workers w).steps ≡ suc (m.workers w).steps)
+      → (((step s m w).0.workers w).operation ≡ Some o) × (((step s m w).0.workers w).steps ≡ suc (m.workers w).steps)
   unfolding done counted step_reply
   moved_worker = rw (step_made s m w known asked) (by (perform (access s w (m.workers w) o) m.cells) _ refl)
     where
@@ -56,9 +56,9 @@ module _ (s : Settings) (m : Machine) (w : ℕ) (known : w < s.workers) {o : Ope
       c = check_of s (m.workers w) o
 
       by : (e : Effect Cells) (a : Option Answer) → e.answer ≡ a → (done m w c e).1 ≡ Stepped.Moved
-          → (((done m w c e).0.workers w).operation ≡ some o) × (((done m w c e).0.workers w).steps ≡ suc (m.workers w).steps)
-      by e none f g = rw (assign_at, f) (asked, refl)
-      by e (some a) f g = absurd (let z : ◌≡◌ {A = ℕ} 0 1 = cc in omega arith)
+          → (((done m w c e).0.workers w).operation ≡ Some o) × (((done m w c e).0.workers w).steps ≡ suc (m.workers w).steps)
+      by e None f g = rw (assign_at, f) (asked, refl)
+      by e (Some a) f g = absurd (let z : ◌≡◌ {A = ℕ} 0 1 = cc in omega arith)
 
 -- ---- one step of a run
 
@@ -101,7 +101,7 @@ record Busy (s : Settings) (l : List ℕ) (m : Machine) (w : ℕ) : Type 0 where
   represents : Represents s l m
   known : w < s.workers
   operation : Operation
-  asked : (m.workers w).operation ≡ some operation
+  asked : (m.workers w).operation ≡ Some operation
 
 module _ (s : Settings) (range : in_range s.workers s.capacity s.depth ≡ true) where
   module _ (l : List ℕ) (m : Machine) (w : ℕ) where
@@ -139,7 +139,7 @@ module _ (s : Settings) (range : in_range s.workers s.capacity s.depth ≡ true)
       few : (m.workers w).steps < 12 * s.workers + 33
       few = by b.operation b.asked
         where
-          by : (o : Operation) → (m.workers w).operation ≡ some o → (m.workers w).steps < 12 * s.workers + 33
+          by : (o : Operation) → (m.workers w).operation ≡ Some o → (m.workers w).steps < 12 * s.workers + 33
           by (update u) e = update_under_way s range m w u b.known b.represents.good e
           by (lookup a) e = omega (arith, lookup_under_way s range m w a b.known b.represents.good e)
 
@@ -189,7 +189,7 @@ module _ (s : Settings) (range : in_range s.workers s.capacity s.depth ≡ true)
           ∙ if_ne (word l (worker_at s.workers w + worker_kind)) kind_none _ _ (busy_word l m w b)
           ∙ run-in (least most longest_run) 0 l m b ∙ unbounded b ∙ accepted_run l w most (λ r e. busy_never l m w b e)
 
-      idle_run : Represents s l m → w < s.workers → (m.workers w).operation ≡ none → run_words l w most ≡ by_steps l w most
+      idle_run : Represents s l m → w < s.workers → (m.workers w).operation ≡ None → run_words l w most ≡ by_steps l w most
       unfolding start_of descriptor_in
       idle_run h known e =
           let p : ℕ = worker_at s.workers w in
@@ -211,5 +211,5 @@ module _ (s : Settings) (range : in_range s.workers s.capacity s.depth ≡ true)
       by_cases (dec_lt w s.workers) (λ known. by known (m.workers w).operation refl) (λ d. stranger_run w l m most h (omega arith))
     where
       by : w < s.workers → (o : Option Operation) → (m.workers w).operation ≡ o → run_words l w most ≡ by_steps l w most
-      by known none e = idle_run w l m most h known e
-      by known (some o) e = busy_run w l m most (record { represents = h; known = known; operation = o; asked = e })
+      by known None e = idle_run w l m most h known e
+      by known (Some o) e = busy_run w l m most (record { represents = h; known = known; operation = o; asked = e })

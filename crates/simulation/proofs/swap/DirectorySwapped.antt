@@ -5,7 +5,7 @@ use native.Mathlib.Omega.{arith}
 use mathlib.Core.Path.{◌≡◌, refl, ap, sym, ◌∙◌, subst, subst⁻¹}
 use mathlib.Core.Logic.{◌≢◌, inl, inr}
 use mathlib.Core.List.{List}
-use mathlib.Core.Option.{none}
+use Rattle.std.specs.Prelude.{None}
 use lib.ListN.{length, set}
 use lib.Seq.{get_or-set_same, get_or-set_other}
 use Rattle.interface.specs.declared.Settings.{Settings}
@@ -60,7 +60,7 @@ directory_bounded s c j k _ h f = elim h [ ]
 -- worker w is about to swap the directory that it has read, which is the current one
 module _ {s : Settings} {l : List ℕ} {m : Machine} {w : ℕ} (ready : Ready s l m w) (p r : Two)
     (here : (tasks_of s m w).pc ≡ in_d p r swap_d) (fresh : DirectoryFresh m.cells (tasks_of s m w))
-    (next : (task_of s.workers (counted (m.workers w) (m.workers w).reads none)).pc ≡ after_d p r) where
+    (next : (task_of s.workers (counted (m.workers w) (m.workers w).reads None)).pc ≡ after_d p r) where
   abbrev k : Task
   k = tasks_of s m w
 
@@ -71,7 +71,7 @@ module _ {s : Settings} {l : List ℕ} {m : Machine} {w : ℕ} (ready : Ready s 
   c' = redirected_cells c k
 
   abbrev v : Worker
-  v = counted (m.workers w) (m.workers w).reads none
+  v = counted (m.workers w) (m.workers w).reads None
 
   -- the machine with the step counted, and after it
   abbrev m₁ : Machine

@@ -6,7 +6,7 @@ use mathlib.Core.Path.{◌≡◌, refl, ap, sym, ◌∙◌, subst, subst⁻¹}
 use mathlib.Core.Logic.{inl, inr}
 use mathlib.Core.Bool.{or-false}
 use mathlib.Core.List.{List}
-use mathlib.Core.Option.{none}
+use Rattle.std.specs.Prelude.{None}
 use lib.Dec.{eqb}
 use lib.ListN.{length, set}
 use borrow.Author.Tests.{le-ltb}
@@ -58,7 +58,7 @@ module _ {s : Settings} {l : List ℕ} {m : Machine} {w : ℕ} (ready : Ready s 
 
   -- the worker with the step counted
   abbrev v : Worker
-  v = counted (m.workers w) (m.workers w).reads none
+  v = counted (m.workers w) (m.workers w).reads None
 
   marks_same : at s l₁ (worker w) worker_marks ≡ at s l (worker w) worker_marks
   marks_same = beside₁ ready worker_marks (omega arith) (λ e. omega arith)
@@ -137,8 +137,8 @@ module _ {s : Settings} {l : List ℕ} {m : Machine} {w : ℕ} (ready : Ready s 
 
   pub redirects_means :
       (p r : Two) → (tasks_of s m w).pc ≡ in_d p r swap_d → DirectoryFresh m.cells (tasks_of s m w) → (y : Reads)
-      → task_of s.workers (counted (m.workers w) y none) ≡ goes (tasks_of s m w) (after_d p r) (m.workers w).reads
-      → Next ready (redirected_cells m.cells (tasks_of s m w)) y none
+      → task_of s.workers (counted (m.workers w) y None) ≡ goes (tasks_of s m w) (after_d p r) (m.workers w).reads
+      → Next ready (redirected_cells m.cells (tasks_of s m w)) y None
   unfolding update_at counted step_reply
   redirects_means p r e fresh y f =
       let a = announced-at ready (in_d p r swap_d) e in

@@ -4,7 +4,8 @@ use mathlib.Core.Path.{refl}
 use lib.IntN.{pos}
 use lib.ListN.{drop}
 use Rattle.interface.specs.Numbers.{bytes, answer_word}
-use Rattle.interface.specs.declared.Answer.TheVariants.{Added, Replaced, Removed, Absent, Found, None, Posted, Crowded, Overrun}
+use Rattle.interface.specs.declared.Answer.TheVariants.{Added, Replaced, Removed, Absent, Found, Posted, Crowded, Overrun}
+use Rattle.interface.specs.declared.Answer.TheVariants as Answer
 use Rattle.numerals.specs.Numerals.{as_number}
 use Rattle.loglines.specs.Fields.{number_among, all_answers, answer_named}
 use Rattle.loglines.proofs.FieldLaws.{answer_first}
@@ -19,7 +20,7 @@ returns c =
     (answer_first f Removed (drop 3 all_answers) c.answer_or-rest-7.ensures
     (answer_first f Absent (drop 4 all_answers) c.answer_or-rest-6.ensures
     (answer_first f (Found (pos 0)) (drop 5 all_answers) c.answer_or-rest-5.ensures
-    (answer_first f None (drop 6 all_answers) c.answer_or-rest-4.ensures
+    (answer_first f Answer.None (drop 6 all_answers) c.answer_or-rest-4.ensures
     (answer_first f (Posted (pos 0)) (drop 7 all_answers) c.answer_or-rest-3.ensures
     (answer_first f Crowded (drop 8 all_answers) c.answer_or-rest-2.ensures
     (answer_first f Overrun (drop 9 all_answers) c.answer_or-rest.ensures refl))))))))

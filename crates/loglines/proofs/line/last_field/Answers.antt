@@ -1,7 +1,7 @@
 -- `last_field`: one field, and its word behind the others.
 -- Rests on the laws that it cites and on the contracts of what is called.
 use mathlib.Core.Path.{◌≡◌, sym, ◌∙◌, ap}
-use mathlib.Core.Option.{some}
+use Rattle.std.specs.Prelude.{Some}
 use native.Mathlib.Omega.{arith}
 use lib.ListN.{length, set, length-set}
 use lib.Seq.{take_all, take-suc-set}
@@ -28,6 +28,6 @@ returns c =
     let v = c.in-Value.word in
     let n : length ws ≡ 8 = omega arith in
     let e = length-set ws 7 v in
-    ap some (sym (take_all 8 (set ws 7 v) (omega arith)) ∙ take-suc-set ws 7 v (omega arith))
+    ap Some (sym (take_all 8 (set ws 7 v) (omega arith)) ∙ take-suc-set ws 7 v (omega arith))
     ∙ last_read _ _ v (rw c.first_field.ensures at c.if-first_field-rest.false)
     (number_some _ _ (sym c.in-Value.is ∙ c.read_field.ensures))
