@@ -12,7 +12,7 @@ use fields::{
     HEADER_SETTINGS, WORKER_ACCOUNT, WORKER_KIND, WORKER_STEPS, WORKER_TICKET, WORKER_TOTAL,
 };
 use interface::{
-    Called, GREATEST_KIND, GREATEST_TICKET, KIND_DELETE, KIND_INSERT, KIND_LOOKUP, KIND_NONE,
+    GREATEST_KIND, GREATEST_TICKET, KIND_DELETE, KIND_INSERT, KIND_LOOKUP, KIND_NONE,
     Refusal, Settings,
 };
 use layout::addresses::worker_at;
@@ -33,20 +33,20 @@ fn begin(words: &mut [u64], g: Settings, w: usize, u: Descriptor)
 }
 
 // A call of worker w: checks 4, 6, 7.
-fn call_in(words: &mut [u64], g: Settings, w: usize, kind: u64, account: u32, total: i64) -> Called
+fn call_in(words: &mut [u64], g: Settings, w: usize, kind: u64, account: u32, total: i64) -> Result<(), Refusal>
     requires { Fits words.old g × (w < g.workers) }
     ensures { (words.new, result)
         ≡ call_in words.old (worker_at g.workers w) kind account total }
 {
     let p = worker_at(g, w);
     if memory::get(words, p + WORKER_KIND) != KIND_NONE {
-        return Called::Refused(Refusal::Busy);
+        return Err(Refusal::Busy);
     }
     if kind < KIND_INSERT {
-        return Called::Refused(Refusal::Kind);
+        return Err(Refusal::Kind);
     }
     if GREATEST_KIND < kind {
-        return Called::Refused(Refusal::Kind);
+        return Err(Refusal::Kind);
     }
     let account = account as u64;
     let last = memory::get(words, p + WORKER_TICKET);
@@ -62,10 +62,10 @@ fn call_in(words: &mut [u64], g: Settings, w: usize, kind: u64, account: u32, to
                 ticket: last,
             },
         );
-        return Called::Accepted;
+        return Ok(());
     }
     if GREATEST_TICKET <= last {
-        return Called::Refused(Refusal::Spent);
+        return Err(Refusal::Spent);
     }
     let total = if kind == KIND_DELETE {
         0
@@ -83,19 +83,19 @@ fn call_in(words: &mut [u64], g: Settings, w: usize, kind: u64, account: u32, to
             ticket: last + 1,
         },
     );
-    Called::Accepted
+    Ok(())
 }
 
 // An operation handed to a worker: checks 8, 3, 4, 6, 7; an update takes its ticket here.
-pub fn call(words: &mut [u64], worker: u64, kind: u64, account: u32, total: i64) -> Called
+pub fn call(words: &mut [u64], worker: u64, kind: u64, account: u32, total: i64) -> Result<(), Refusal>
     ensures { (words.new, result) ≡ call_words words.old worker kind account total }
 {
     if strange_words(words) {
-        return Called::Refused(Refusal::Strange);
+        return Err(Refusal::Strange);
     }
     let g = settings_of(words[HEADER_SETTINGS]);
     if g.workers <= worker {
-        return Called::Refused(Refusal::Stranger);
+        return Err(Refusal::Stranger);
     }
     call_in(words, g, worker as usize, kind, account, total)
 }

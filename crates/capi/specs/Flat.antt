@@ -6,7 +6,7 @@ use Rattle.rebates.specs.Rebates.{Rebated, rebates_words}
 use Rattle.export.specs.Export.{export_words}
 use Rattle.turns.specs.Turns.{step_words}
 use Rattle.runs.specs.Runs.{run_words}
-use Rattle.numbers.specs.Returned.{stepped_number, ran_number, listed_number, exported_number, stepped_report, ran_report, listed_report, exported_report}
+use Rattle.numbers.specs.Returned.{stepped_number, ran_number, counted_number, stepped_report, ran_report, counted_report}
 
 -- the words, and an answer's number
 unfoldable pub flat : {A : Type 0} → (A → ℕ) → List ℕ × A → List ℕ × ℕ
@@ -30,7 +30,7 @@ run_left words report worker most = reported ran_number ran_report report (run_w
 
 -- what an export leaves and returns, over these words, this output and this report
 abbrev pub export_left : List ℕ → List ℕ → List ℕ → Left
-export_left words out report = reported exported_number exported_report report (export_words words out)
+export_left words out report = reported counted_number counted_report report (export_words words out)
 
 -- both lists of a listing, the report, and a number
 pub record Written : Type 0 where
@@ -44,8 +44,8 @@ written before x =
     record {
       accounts = x.accounts;
       totals = x.totals;
-      report = listed_report before x.listed;
-      number = listed_number x.listed;
+      report = counted_report before x.listed;
+      number = counted_number x.listed;
     }
 
 -- what a listing leaves and returns, over these words, lists and report
@@ -64,8 +64,8 @@ written_rebates before x =
     record {
       accounts = x.accounts;
       rebates = x.rebates;
-      report = listed_report before x.listed;
-      number = listed_number x.listed;
+      report = counted_report before x.listed;
+      number = counted_number x.listed;
     }
 
 -- what the rebates leave and return, over these words, lists and report

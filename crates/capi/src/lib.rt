@@ -10,12 +10,11 @@ ghost use Rattle.rebate.specs.Rebate.{rebate_on};
 ghost use Rattle.opening.specs.Opening.{needed_for, open_words};
 ghost use Rattle.calls.specs.Calls.{call_words};
 ghost use Rattle.logs.specs.Judging.{check_log_words};
-ghost use Rattle.numbers.specs.Returned.{needed_number, opened_number, called_number, verdict_number};
+ghost use Rattle.numbers.specs.Returned.{needed_number, done_number, verdict_number};
 ghost use Rattle.capi.specs.Flat.{flat, step_left, run_left, export_left, list_written, rebates_written};
 
 use numbers::{
-    called_number, exported_number, listed_number, needed_number, opened_number, ran_number,
-    stepped_number, verdict_number,
+    counted_number, done_number, needed_number, ran_number, stepped_number, verdict_number,
 };
 
 // How many words a table of these settings needs, or 1 for wrong settings.
@@ -29,19 +28,19 @@ pub fn totals_words_needed(workers: u64, capacity: u64, depth: u64) -> u64
 // A fresh table: 0, or 1, 2.
 pub fn totals_open(words: &mut [u64], workers: u64, capacity: u64, depth: u64) -> u64
     ensures { (words.new, result)
-        ≡ flat opened_number (open_words words.old workers capacity depth) }
+        ≡ flat done_number (open_words words.old workers capacity depth) }
 {
     let answer = table::open(words, workers, capacity, depth);
-    opened_number(answer)
+    done_number(answer)
 }
 
 // An operation handed to a worker: 0, or 8, 3, 4, 6, 7.
 pub fn totals_call(words: &mut [u64], worker: u64, kind: u64, account: u32, total: i64) -> u64
     ensures { (words.new, result)
-        ≡ flat called_number (call_words words.old worker kind account total) }
+        ≡ flat done_number (call_words words.old worker kind account total) }
 {
     let answer = table::call(words, worker, kind, account, total);
-    called_number(answer)
+    done_number(answer)
 }
 
 // One step of a worker: 0 where its operation goes on, 16 and the answer's number where it ended, or 8, 3, 5.
@@ -78,7 +77,7 @@ pub fn totals_list(
     } ≡ list_written words.now accounts.old totals.old report.old }
 {
     let answer = table::listing(words, accounts, totals);
-    listed_number(report, answer)
+    counted_number(report, answer)
 }
 
 // The accounts in ascending order with the rebates on their totals: 0 and the count reported, or 8, 10.
@@ -96,7 +95,7 @@ pub fn totals_rebates(
     } ≡ rebates_written words.now accounts.old rebates.old report.old }
 {
     let answer = table::rebates(words, accounts, rebates);
-    listed_number(report, answer)
+    counted_number(report, answer)
 }
 
 // The listing as a file of RFC 4180 records: 0 and the bytes written reported, or 8, 10.
@@ -105,7 +104,7 @@ pub fn totals_export(words: &[u64], out: &mut [u8], report: &mut [u64]) -> u64
         ≡ export_left words.now out.old report.old }
 {
     let answer = table::export(words, out);
-    exported_number(report, answer)
+    counted_number(report, answer)
 }
 
 // The rebate on a total.

@@ -9,7 +9,7 @@ ghost use Rattle.rebate.specs.Rebate.{rebate_on};
 ghost use Rattle.opening.specs.Opening.{needed_for, open_words};
 ghost use Rattle.calls.specs.Calls.{call_words};
 ghost use Rattle.logs.specs.Judging.{check_log_words};
-ghost use Rattle.numbers.specs.Returned.{needed_number, opened_number, called_number, verdict_number};
+ghost use Rattle.numbers.specs.Returned.{needed_number, done_number, verdict_number};
 ghost use Rattle.capi.specs.Flat.{flat, step_left, run_left, export_left, list_written, rebates_written};
 
 // How many words a table of these settings needs, or 1 for wrong settings.
@@ -24,7 +24,7 @@ pub extern "C" fn totals_words_needed(workers: u64, capacity: u64, depth: u64) -
 #[unsafe(no_mangle)]
 pub extern "C" fn totals_open(words: &mut [u64], workers: u64, capacity: u64, depth: u64) -> u64
     ensures { (words.new, result)
-        ≡ flat opened_number (open_words words.old workers capacity depth) }
+        ≡ flat done_number (open_words words.old workers capacity depth) }
 {
     capi::totals_open(words, workers, capacity, depth)
 }
@@ -39,7 +39,7 @@ pub extern "C" fn totals_call(
     total: i64,
 ) -> u64
     ensures { (words.new, result)
-        ≡ flat called_number (call_words words.old worker kind account total) }
+        ≡ flat done_number (call_words words.old worker kind account total) }
 {
     capi::totals_call(words, worker, kind, account, total)
 }

@@ -9,7 +9,6 @@ use lib.IntN.{ℤ}
 use lib.ListN.{length}
 use borrow.Author.Tests.{ltb-false}
 use Rattle.interface.specs.declared.Refusal.{Refusal}
-use Rattle.interface.specs.declared.Exported.{Exported}
 use Rattle.machine.proofs.laws.Base.{if_true, if_false}
 use Rattle.lists.specs.Parts.{overlay}
 use Rattle.layout.specs.Shape.{shape_of}
@@ -20,10 +19,11 @@ use Rattle.rows.proofs.AllRows.{AllRows, OnlyStrange}
 use Rattle.csv_file.specs.Csv.{csv_file, header_size, longest_row}
 use Rattle.export.proofs.Files.{small_file}
 use Rattle.export.specs.Export.{written, export_words}
+use Rattle.std.specs.Prelude.{Ok, Err}
 
 -- by a listing that refuses strange words alone
 pub export_refused :
-    {l : List ℕ} {why : Refusal} → OnlyStrange l why → (out : List ℕ) → (out, Exported.Refused why) ≡ export_words l out
+    {l : List ℕ} {why : Refusal} → OnlyStrange l why → (out : List ℕ) → (out, Err why) ≡ export_words l out
 unfolding export_words
 export_refused o out = rw o.reason (sym (if_true _ _ o.fails))
 
@@ -39,7 +39,7 @@ module _ {l : List ℕ} {n : ℕ} {accounts : List ℕ} {totals : List ℤ} (all
   unfolding export_words
   of_rows = rw all.read (sym (if_false _ _ all.passed))
 
-  pub export_narrow : short ≡ true → (out, Exported.Refused Refusal.Narrow) ≡ export_words l out
+  pub export_narrow : short ≡ true → (out, Err Refusal.Narrow) ≡ export_words l out
   unfolding written
   export_narrow e = sym (if_true _ _ (sym measured ∙ e)) ∙ of_rows
 
@@ -48,6 +48,6 @@ module _ {l : List ℕ} {n : ℕ} {accounts : List ℕ} {totals : List ℤ} (all
 
   pub export_all :
       (after : List ℕ) (size : ℕ) → short ≡ false → after ≡ overlay out 0 (csv_file (rows_at accounts totals 0 n))
-      → size ≡ length (csv_file (rows_at accounts totals 0 n)) → (after, Exported.Bytes size) ≡ export_words l out
+      → size ≡ length (csv_file (rows_at accounts totals 0 n)) → (after, Ok size) ≡ export_words l out
   unfolding written
   export_all after size e f g = rw (f, g) (sym (if_false _ _ (sym measured ∙ e)) ∙ of_rows)

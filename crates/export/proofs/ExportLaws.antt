@@ -6,15 +6,13 @@ use mathlib.Core.Path.{◌≡◌, refl}
 use mathlib.Core.Logic.{◌≢◌}
 use mathlib.Core.Bool.{false}
 use mathlib.Core.List.{List}
-use Rattle.std.specs.Prelude.{Some}
+use Rattle.std.specs.Prelude.{Some, Result, Ok, Err}
 use lib.Dec.{ltb}
 use lib.IntN.{ℤ}
 use lib.ListN.{length, take}
 use lib.Seq.{take_at}
 use borrow.Author.Tests.{ltb-true}
 use Rattle.interface.specs.declared.Refusal.{Refusal}
-use Rattle.interface.specs.declared.Listed.{Listed}
-use Rattle.interface.specs.declared.Exported.{Exported}
 use Rattle.machine.proofs.laws.Base.{if_elim, if_false}
 use Rattle.lists.proofs.PartLaws.{overlay_first}
 use Rattle.layout.specs.Shape.{strange, shape_of}
@@ -32,8 +30,8 @@ use Rattle.export.specs.Export.{written, export_words, longest_file, ExportLaws}
 -- ---- what was written is the file
 
 module _ (out file : List ℕ) (k : ℕ) where
-  abbrev Holds : List ℕ × Exported → Type 0
-  Holds x = x.1 ≡ Exported.Bytes k → take k x.0 ≡ file
+  abbrev Holds : List ℕ × Result ℕ Refusal → Type 0
+  Holds x = x.1 ≡ Ok k → take k x.0 ≡ file
 
   written_holds : Holds (written out file)
   unfolding written
@@ -42,8 +40,8 @@ module _ (out file : List ℕ) (k : ℕ) where
       (λ _ e. let c : length file ≡ k = cc in rw (← c, overlay_first out file) (take_at file _ _ refl))
 
 as_listed :
-    (l out accounts : List ℕ) (totals : List ℤ) (k n : ℕ) → (export_words l out).1 ≡ Exported.Bytes k
-    → (listing_words l accounts totals).listed ≡ Listed.Count n
+    (l out accounts : List ℕ) (totals : List ℤ) (k n : ℕ) → (export_words l out).1 ≡ Ok k
+    → (listing_words l accounts totals).listed ≡ Ok n
     → read_file (take k (export_words l out).0)
     ≡ Some (rows_at (listing_words l accounts totals).accounts (listing_words l accounts totals).totals 0 n)
 unfolding export_words
@@ -61,8 +59,8 @@ file_within l passed =
     omega (arith, small_file r (rows_small l (shape_of l)), rows_few l passed)
 
 module _ (l out : List ℕ) (long : longest_file ≤ length out) where
-  abbrev Wide : List ℕ × Exported → Type 0
-  Wide x = x.1 ≢ Exported.Refused Refusal.Narrow
+  abbrev Wide : List ℕ × Result ℕ Refusal → Type 0
+  Wide x = x.1 ≢ Err Refusal.Narrow
 
   written_wide : strange l ≡ false → Wide (written out (csv_file (rows l (shape_of l))))
   unfolding written

@@ -10,7 +10,7 @@ ghost use Rattle.csv_file.specs.Csv.{csv_file, header_size, longest_row};
 ghost use Rattle.export.specs.Export.{export_words};
 
 use csv_file::{HEADER_SIZE, LONGEST_ROW, row_size, write_header, write_row};
-use interface::{Exported, Listed, Refusal};
+use interface::Refusal;
 use rows::{GREATEST_COUNT, listing};
 
 // How many bytes the file of the first k rows takes.
@@ -59,20 +59,14 @@ fn write_file(accounts: &[u32], totals: &[i64], k: usize, out: &mut [u8]) -> usi
 }
 
 // The listing as a file at the start of the output, nothing past it: checks 8, 10.
-pub fn export(words: &[u64], out: &mut [u8]) -> Exported
+pub fn export(words: &[u64], out: &mut [u8]) -> Result<u64, Refusal>
     ensures { (out.new, result) ≡ export_words words.now out.old }
 {
     let mut accounts = [0u32; GREATEST_COUNT];
     let mut totals = [0i64; GREATEST_COUNT];
-    match listing(words, &mut accounts, &mut totals) {
-        Listed::Refused(r) => Exported::Refused(r),
-        Listed::Count(n) => {
-            let k = n as usize;
-            if too_short(&accounts, &totals, k, out.len()) {
-                return Exported::Refused(Refusal::Narrow);
-            }
-            let size = write_file(&accounts, &totals, k, out);
-            Exported::Bytes(size as u64)
-        }
+    let k = listing(words, &mut accounts, &mut totals)? as usize;
+    if too_short(&accounts, &totals, k, out.len()) {
+        return Err(Refusal::Narrow);
     }
+    Ok(write_file(&accounts, &totals, k, out) as u64)
 }

@@ -5,12 +5,11 @@ use native.Mathlib.Omega.{arith}
 use mathlib.Core.Path.{refl, ◌≡◌, sym, ap, ◌∙◌}
 use mathlib.Core.Bool.{Bool, true, false, not}
 use mathlib.Core.List.{List, []}
-use Rattle.std.specs.Prelude.{Option, Some, None}
+use Rattle.std.specs.Prelude.{Option, Some, None, Ok, Err}
 use lib.ListN.{length, replicate}
 use borrow.Author.Tests.{ltb-true, lt-ltb, le-ltb}
 use Rattle.interface.specs.Limits.{least_workers, in_range, built}
 use Rattle.interface.specs.declared.Settings.{Settings}
-use Rattle.interface.specs.declared.Built.{Built}
 use Rattle.interface.specs.declared.Refusal.{Refusal}
 use Rattle.interface.specs.declared.Verdict.{Verdict}
 use Rattle.interface.proofs.Laws.{wrong_settings as outside_range, right_settings}
@@ -38,14 +37,14 @@ zeros = replicate 24 0
 -- ---- settings
 
 module _ (b M : ℕ) where
-  pub settings_in : (s : Settings) → built least_workers b M ≡ Built.Settings s → in_range least_workers b M ≡ true
+  pub settings_in : (s : Settings) → built least_workers b M ≡ Ok s → in_range least_workers b M ≡ true
   settings_in s e = go (in_range least_workers b M) refl
     where
       go : (t : Bool) → in_range least_workers b M ≡ t → t ≡ true
       go true h = refl
       go false h = let w = outside_range least_workers b M h in let z : ◌≡◌ {A = ℕ} 0 1 = cc in absurd (omega arith)
 
-  pub settings_out : (r : Refusal) → built least_workers b M ≡ Built.Refused r → in_range least_workers b M ≡ false
+  pub settings_out : (r : Refusal) → built least_workers b M ≡ Err r → in_range least_workers b M ≡ false
   settings_out r e = go (in_range least_workers b M) refl
     where
       go : (t : Bool) → in_range least_workers b M ≡ t → t ≡ false
@@ -98,7 +97,7 @@ module _ (l : List ℕ) (b M : ℕ) where
         no_refusal room = if_false _ _ (ap not range) ∙ if_false _ _ (ap not good) ∙ if_false _ _ (le-ltb _ _ room)
 
   module _ (before : List ℕ) where
-    pub refused_as : (r : Refusal) → refusal l b M (length before) ≡ Some r → (before, Verdict.Refused r) ≡ check_log_words l b M before
+    pub refused_as : (r : Refusal) → refusal l b M (length before) ≡ Some r → (before, Err r) ≡ check_log_words l b M before
     refused_as r e = sym (refused l b M before r e)
 
     module _ (range : in_range least_workers b M ≡ true) (good : are_log l ≡ true) (room : count_of l ≤ length before) (left after : List ℕ)
@@ -111,11 +110,11 @@ module _ (l : List ℕ) (b M : ℕ) where
           unrefused l b M before (no_refusal (length before) range good room)
           ∙ ap (verdict_on before) (sym (rw all (judged_by_search (few l good))))
 
-      by_order : (f : Option (List ℕ)) → (written_in before f, when is_found f then Verdict.Accepted else Verdict.No) ≡ verdict_on before f
+      by_order : (f : Option (List ℕ)) → (written_in before f, when is_found f then Ok Verdict.Accepted else Ok Verdict.No) ≡ verdict_on before f
       unfolding written_in is_found when◌then◌else◌ verdict_on
       by_order None = refl
       by_order (Some o) = refl
 
       pub answered : after ≡ written_in before found → (r : Bool) → r ≡ is_found found
-          → (after, when r then Verdict.Accepted else Verdict.No) ≡ check_log_words l b M before
+          → (after, when r then Ok Verdict.Accepted else Ok Verdict.No) ≡ check_log_words l b M before
       answered w r e = rw (w, e) (by_order found ∙ sym by_search)

@@ -7,7 +7,7 @@ ghost use Rattle.logs.specs.Judging.{check_log_words};
 ghost use Rattle.logs.specs.Log.{greatest_operations};
 ghost use Rattle.judging.specs.Places.{all_left};
 
-use interface::{Built, Refusal, Settings, Verdict};
+use interface::{Refusal, Settings, Verdict};
 use logs::{GREATEST_OPERATIONS, OPERATION_WORDS};
 use replay::BALANCES;
 use searching::search;
@@ -29,19 +29,17 @@ fn all_left(n: usize) -> [u64; GREATEST_OPERATIONS]
 
 // Whether some order explains the log, as crate logs defines it; `order` then begins with the first of all that do.
 // Checks 1, 14, 10; a refusal and a no leave `order` as it is.
-pub fn check_log(log: &[u64], capacity: u64, depth: u64, order: &mut [u64]) -> Verdict
+pub fn check_log(log: &[u64], capacity: u64, depth: u64, order: &mut [u64]) -> Result<Verdict, Refusal>
     ensures { (order.new, result)
         ≡ check_log_words log.now capacity depth order.old }
 {
-    let Built::Settings(_) = Settings::new(Settings::LEAST_WORKERS, capacity, depth) else {
-        return Verdict::Refused(Refusal::Settings);
-    };
+    Settings::new(Settings::LEAST_WORKERS, capacity, depth)?;
     if !is_log(log) {
-        return Verdict::Refused(Refusal::BadLog);
+        return Err(Refusal::BadLog);
     }
     let count = log.len() / OPERATION_WORDS;
     if order.len() < count {
-        return Verdict::Refused(Refusal::Narrow);
+        return Err(Refusal::Narrow);
     }
     let empty = [0u64; BALANCES];
     if search(
@@ -55,7 +53,7 @@ pub fn check_log(log: &[u64], capacity: u64, depth: u64, order: &mut [u64]) -> V
         order,
         count,
     ) {
-        return Verdict::Accepted;
+        return Ok(Verdict::Accepted);
     }
-    Verdict::No
+    Ok(Verdict::No)
 }

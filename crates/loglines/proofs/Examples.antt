@@ -38,7 +38,7 @@ unfolding reading
 two_operations = refl
 
 -- "wherever it stands": the third line has seven fields
-pub third_unread : read_lines (lines_of (bytes "2 1\n0 1 5 7 added 0 0 1\n1 3 5 0 found 7 2\n1 3 5 0 None 0 2 3")) ≡ unread 3
+pub third_unread : read_lines (lines_of (bytes "2 1\n0 1 5 7 added 0 0 1\n1 3 5 0 found 7 2\n1 3 5 0 none 0 2 3")) ≡ unread 3
 unfolding reading
 third_unread = refl
 

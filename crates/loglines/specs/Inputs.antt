@@ -1,7 +1,7 @@
 -- A whole input of `judge`, and what is printed for it, as docs/USING.md has them: the first line is `b M`, each
 -- further one an operation; the first line that is no such line is unread, counted from 1. Rests on specs/Lines,
 -- specs/Texts and on crate logs' verdicts.
-use Rattle.std.specs.Prelude.{ℕ, suc, List, [], ◌∷◌, ◌++◌, take, replicate, Option, Some, None}
+use Rattle.std.specs.Prelude.{ℕ, suc, List, [], ◌∷◌, ◌++◌, take, replicate, Option, Some, None, Result}
 use Rattle.interface.specs.declared.Verdict.{Verdict}
 use Rattle.numerals.specs.declared.Pair.{Pair}
 use Rattle.numerals.specs.declared.Pair.TheVariants.{Values, Nothing}
@@ -10,6 +10,7 @@ use Rattle.logs.specs.Log.{greatest_operations, count_of}
 use Rattle.logs.specs.Judging.{check_log_words}
 use Rattle.loglines.specs.Lines.{settings_line, operation_line}
 use Rattle.loglines.specs.Texts.{unread_text, verdict_text}
+use Rattle.interface.specs.declared.Refusal.{Refusal}
 
 -- ---- what is read
 
@@ -41,7 +42,7 @@ read_lines (l ∷ ls) = after_settings (settings_line l) ls
 -- ---- what is printed for it
 
 -- by the list for the order, and the verdict
-unfoldable pub judged_text : ℕ → List ℕ × Verdict → List ℕ
+unfoldable pub judged_text : ℕ → List ℕ × Result Verdict Refusal → List ℕ
 judged_text count judged = verdict_text judged.1 (take count judged.0)
 
 unfoldable pub input_text : Input → List ℕ

@@ -64,9 +64,9 @@ fn print_judged(progress: Progress, out: &mut [u8]) -> usize
         &mut order,
     );
     match verdict {
-        Verdict::Accepted => print_order(out, &order[..filled / OPERATION_WORDS]),
-        Verdict::No => print_word(out, 0, b"no\n"),
-        Verdict::Refused(refusal) => print_counted(out, 0, b"refused ", refusal.number()),
+        Ok(Verdict::Accepted) => print_order(out, &order[..filled / OPERATION_WORDS]),
+        Ok(Verdict::No) => print_word(out, 0, b"no\n"),
+        Err(refusal) => print_counted(out, 0, b"refused ", refusal.number()),
     }
 }
 

@@ -4,7 +4,7 @@ use native.Mathlib.Omega.{arith}
 use mathlib.Core.Path.{◌≡◌, refl, sym, ap, ◌∙◌, subst}
 use mathlib.Core.Bool.{Bool, true, false, not}
 use mathlib.Core.List.{List}
-use Rattle.std.specs.Prelude.{Option, Some, None}
+use Rattle.std.specs.Prelude.{Option, Some, None, Result}
 use lib.Dec.{ltb, eqb}
 use lib.ListN.{length}
 use borrow.Author.Tests.{eqb-true, leb-true}
@@ -57,7 +57,7 @@ module _ (l : List ℕ) (b M : ℕ) where
     pub is-log : refusal l b M (length before) ≡ None → is_log (log_of l) ≡ true
     is-log e = (log_parts l (passes (length before) e).0).1
 
-    abbrev Done : List ℕ × Verdict → Type 0
+    abbrev Done : List ℕ × Result Verdict Refusal → Type 0
     Done x = Judged l b M before x.0 x.1
 
     judged : Done (check_log_words l b M before)
@@ -81,7 +81,7 @@ module _ (l : List ℕ) (b M : ℕ) where
     unfolding check_log_words refused_or
     refused r e = rw e
 
-    only : (after : List ℕ) (v : Verdict) → Judged l b M before after v → (after, v) ≡ check_log_words l b M before
+    only : (after : List ℕ) (v : Result Verdict Refusal) → Judged l b M before after v → (after, v) ≡ check_log_words l b M before
     unfolding verdict_on
     only after (Refused r) h = sym (refused r h.0 ∙ ap (λ (x : List ℕ). (x, Refused r)) (sym h.1))
     only after Accepted h =
@@ -99,6 +99,6 @@ module _ (l : List ℕ) (b M : ℕ) where
 pub all_judged : AllJudged
 all_judged =
     record {
-      judged = λ l b M before after v e. subst (λ (x : List ℕ × Verdict). Judged l b M before x.0 x.1) (sym e) (judged l b M before);
+      judged = λ l b M before after v e. subst (λ (x : List ℕ × Result Verdict Refusal). Judged l b M before x.0 x.1) (sym e) (judged l b M before);
       only = only;
     }

@@ -1,7 +1,7 @@
 -- What judging a log answers. 02, No. 9: "It accepts, showing one such order, exactly if some order ..; Otherwise it
 -- answers no. An empty log is accepted. Checks: 14, bad log, ..; b and M outside 01's ranges give 1 before it." No. 10:
 -- "The checker shall show the first". Rests on specs/Orders, specs/Comparing and specs/Search.
-use Rattle.std.specs.Prelude.{ℕ, ◌≡◌, Bool, true, not, List, [], ltb, length, Option, Some, None}
+use Rattle.std.specs.Prelude.{ℕ, ◌≡◌, Bool, true, not, List, [], ltb, length, Option, Some, None, Result}
 use Rattle.interface.specs.Limits.{least_workers, in_range}
 use Rattle.interface.specs.declared.Refusal.{Refusal}
 use Rattle.interface.specs.declared.Verdict.{Verdict}
@@ -57,23 +57,23 @@ refusal l b M places =
     else None
 
 -- the list for the order, and the verdict, by what was found
-unfoldable pub verdict_on : List ℕ → Option (List ℕ) → List ℕ × Verdict
+unfoldable pub verdict_on : List ℕ → Option (List ℕ) → List ℕ × Result Verdict Refusal
 verdict_on before None = (before, No)
 verdict_on before (Some o) = (overlay before 0 o, Accepted)
 
 -- a refusal leaves the list as it was
-unfoldable pub refused_or : List ℕ → Option Refusal → List ℕ × Verdict → List ℕ × Verdict
+unfoldable pub refused_or : List ℕ → Option Refusal → List ℕ × Result Verdict Refusal → List ℕ × Result Verdict Refusal
 refused_or before None judged = judged
 refused_or before (Some r) judged = (before, Refused r)
 
 -- what judging leaves of the list for the order, and its verdict
-unfoldable pub check_log_words : List ℕ → ℕ → ℕ → List ℕ → List ℕ × Verdict
+unfoldable pub check_log_words : List ℕ → ℕ → ℕ → List ℕ → List ℕ × Result Verdict Refusal
 check_log_words l b M before =
     refused_or before (refusal l b M (length before)) (verdict_on before (order_of b M (log_of l)))
 
 -- The same told without the search: a log is accepted with the first of all orders that explain it written at the start
 -- of the list, or none does; else the list is as it was.
-abbrev pub Judged : List ℕ → ℕ → ℕ → List ℕ → List ℕ → Verdict → Type 0
+abbrev pub Judged : List ℕ → ℕ → ℕ → List ℕ → List ℕ → Result Verdict Refusal → Type 0
 Judged l b M before after (Refused r) = (refusal l b M (length before) ≡ Some r) × (after ≡ before)
 Judged l b M before after Accepted =
     (refusal l b M (length before) ≡ None)
@@ -85,8 +85,8 @@ Judged l b M before after No =
 -- for any words: judging does that, and nothing else is that
 pub record AllJudged : Type 0 where
   pub judged :
-      (l : List ℕ) (b M : ℕ) (before after : List ℕ) (v : Verdict) → (after, v) ≡ check_log_words l b M before
+      (l : List ℕ) (b M : ℕ) (before after : List ℕ) (v : Result Verdict Refusal) → (after, v) ≡ check_log_words l b M before
       → Judged l b M before after v
   pub only :
-      (l : List ℕ) (b M : ℕ) (before after : List ℕ) (v : Verdict) → Judged l b M before after v
+      (l : List ℕ) (b M : ℕ) (before after : List ℕ) (v : Result Verdict Refusal) → Judged l b M before after v
       → (after, v) ≡ check_log_words l b M before

@@ -7,14 +7,13 @@ use mathlib.Core.Path.{◌≡◌, refl}
 use mathlib.Core.Logic.{inl}
 use mathlib.Core.Bool.{false}
 use mathlib.Core.List.{List, [], ◌∷◌, ◌++◌}
-use Rattle.std.specs.Prelude.{Option, Some, None}
+use Rattle.std.specs.Prelude.{Option, Some, None, Result, Ok, Err}
 use lib.IntN.{pos}
 use lib.ListN.{get_or, replicate}
 use Rattle.interface.specs.Numbers.{kind_insert}
 use Rattle.interface.specs.declared.Settings.{Settings}
 use Rattle.interface.specs.declared.Answer.TheVariants.{Added}
 use Rattle.interface.specs.declared.Refusal.{Refusal}
-use Rattle.interface.specs.declared.Called.{Called}
 use Rattle.interface.specs.declared.Stepped.{Stepped}
 use Rattle.interface.specs.declared.Completion.{Completion}
 use Rattle.machine.specs.Computing.{computing}
@@ -60,8 +59,8 @@ abbrev refusing : System
 refusing = record {
   State = Machine;
   opening = (machines small lent).opening;
-  call = λ m j kind a v. (m, Called.Refused Refusal.Busy);
-  step = λ m j. (m, Stepped.Refused Refusal.Idle);
+  call = λ m j kind a v. (m, Err Refusal.Busy);
+  step = λ m j. (m, Err Refusal.Idle);
   listing = listing;
 }
 
@@ -69,7 +68,7 @@ pub refusing_fails : AlwaysLinearizable small refusing opened → ⊥
 unfolding computing under_way updates_made call_reply idle_reply entry_at
 refusing_fails h =
     let l = h (inserting 0) (λ i. opens_nothing refusing (inserting 0) ((λ m. tt), tt) _ i) in
-    let wrong : Called.Refused Refusal.Busy ≡ Called.Accepted = l.calls 0 0 kind_insert 5 (pos 7) (omega arith) refl in
+    let wrong : Err Refusal.Busy ≡ Ok tt = l.calls 0 0 kind_insert 5 (pos 7) (omega arith) refl in
     let z : ◌≡◌ {A = ℕ} 0 1 = cc in omega arith
 
 -- ---- one that answers an update twice
@@ -79,12 +78,12 @@ abbrev Repeating : Type 0
 Repeating = Machine × Option Completion
 
 -- a step after that, refused for want of an operation, is answered once more, as one step later
-abbrev repeated : Option Completion → Machine × Stepped → Repeating × Stepped
-repeated last (m, Stepped.Moved) = ((m, None), Stepped.Moved)
-repeated last (m, Stepped.Answered c) = ((m, Some c), Stepped.Answered c)
-repeated None (m, Stepped.Refused r) = ((m, None), Stepped.Refused r)
-repeated (Some c) (m, Stepped.Refused r) =
-    ((m, None), Stepped.Answered (record { answer = c.answer; steps = suc c.steps; check = c.check }))
+abbrev repeated : Option Completion → Machine × Result Stepped Refusal → Repeating × Result Stepped Refusal
+repeated last (m, Ok Stepped.Moved) = ((m, None), Ok Stepped.Moved)
+repeated last (m, Ok (Stepped.Answered c)) = ((m, Some c), Ok (Stepped.Answered c))
+repeated None (m, Err r) = ((m, None), Err r)
+repeated (Some c) (m, Err r) =
+    ((m, None), Ok (Stepped.Answered (record { answer = c.answer; steps = suc c.steps; check = c.check })))
 
 abbrev answering_twice : System
 answering_twice = record {
@@ -107,10 +106,10 @@ answering_twice_fails h =
 
 -- ---- one that tells no check
 
-abbrev untold : Machine × Stepped → Machine × Stepped
-untold (m, Stepped.Moved) = (m, Stepped.Moved)
-untold (m, Stepped.Answered c) = (m, Stepped.Answered (record { answer = c.answer; steps = c.steps; check = 0 }))
-untold (m, Stepped.Refused r) = (m, Stepped.Refused r)
+abbrev untold : Machine × Result Stepped Refusal → Machine × Result Stepped Refusal
+untold (m, Ok Stepped.Moved) = (m, Ok Stepped.Moved)
+untold (m, Ok (Stepped.Answered c)) = (m, Ok (Stepped.Answered (record { answer = c.answer; steps = c.steps; check = 0 })))
+untold (m, Err r) = (m, Err r)
 
 abbrev telling_no_check : System
 telling_no_check = record {

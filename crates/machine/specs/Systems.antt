@@ -1,11 +1,9 @@
 -- What demand 3's lists are made of and given to: an entry, a system with its opening, call, step and listing, and what
 -- an entry leaves and is replied there. The machine is such a system. Rests on the machine's opening, calls and steps.
-use Rattle.std.specs.Prelude.{ℕ, ◌≡◌, Bool, true, false, eqb, ℤ, Option, Some, None}
+use Rattle.std.specs.Prelude.{ℕ, ◌≡◌, Bool, true, false, eqb, ℤ, Option, Some, None, Result, Ok, Err, ⊤}
 use Rattle.interface.specs.declared.Settings.{Settings}
 use Rattle.interface.specs.declared.Refusal.{Refusal}
 use Rattle.interface.specs.declared.Stepped.{Stepped}
-use Rattle.interface.specs.declared.Called.{Called}
-use Rattle.interface.specs.declared.Opened.{Opened}
 use Rattle.machine.specs.Choice.{◌and◌}
 use Rattle.machine.specs.Sequential.{Operation, update, lookup}
 use Rattle.machine.specs.Records.{Machine}
@@ -24,15 +22,15 @@ pub data Entry : Type 0 where
 -- What a list is given to: its states, and what an opening, a call, a step and a listing do in them.
 pub record System : Type 1 where
   pub State : Type 0
-  pub opening : State → ℕ → ℕ → ℕ → State × Opened
-  pub call : State → ℕ → ℕ → ℕ → ℤ → State × Called
-  pub step : State → ℕ → State × Stepped
+  pub opening : State → ℕ → ℕ → ℕ → State × Result ⊤ Refusal
+  pub call : State → ℕ → ℕ → ℕ → ℤ → State × Result ⊤ Refusal
+  pub step : State → ℕ → State × Result Stepped Refusal
   pub listing : State → ℕ → ℕ → Listing
 
 -- what an opening makes of machine m
-unfoldable pub opened_by : Machine → Opening → Machine × Opened
-opened_by m (opens s fresh) = (fresh, Opened.Opened)
-opened_by m (refuses r) = (m, Opened.Refused r)
+unfoldable pub opened_by : Machine → Opening → Machine × Result ⊤ Refusal
+opened_by m (opens s fresh) = (fresh, Ok tt)
+opened_by m (refuses r) = (m, Err r)
 
 -- the machine, where so many words are lent; the lent words with the library's calls are another system
 abbrev pub machines : Settings → ℕ → System
@@ -53,10 +51,10 @@ next x m (reopening n b M) = (x.opening m n b M).0
 
 -- what an entry is met with
 pub data Replied : Type 0 where
-  to_call : Called → Replied
-  to_step : Stepped → Replied
+  to_call : Result ⊤ Refusal → Replied
+  to_step : Result Stepped Refusal → Replied
   to_listing : Listing → Replied
-  to_opening : Opened → Replied
+  to_opening : Result ⊤ Refusal → Replied
 
 unfoldable pub reply : (x : System) → x.State → Entry → Replied
 reply x m (calling j kind a v) = to_call (x.call m j kind a v).1
@@ -69,7 +67,7 @@ abbrev pub OpensNothing : (x : System) → x.State → Entry → Type 0
 OpensNothing x m (calling j kind a v) = Unit {0}
 OpensNothing x m (stepping j) = Unit {0}
 OpensNothing x m (showing p q) = Unit {0}
-OpensNothing x m (reopening n b M) = (r : Refusal) × ((x.opening m n b M).1 ≡ Opened.Refused r)
+OpensNothing x m (reopening n b M) = (r : Refusal) × ((x.opening m n b M).1 ≡ Err r)
 
 -- the operation that an entry asks for
 unfoldable pub asked : Entry → Option Operation
@@ -83,19 +81,19 @@ is_update None = false
 is_update (Some (update u)) = true
 is_update (Some (lookup a)) = false
 
-abbrev pub accepts : Called → Bool
-accepts Called.Accepted = true
-accepts (Called.Refused r) = false
+abbrev pub accepts : Result ⊤ Refusal → Bool
+accepts (Ok _) = true
+accepts (Err r) = false
 
-abbrev pub moves : Stepped → Bool
-moves Stepped.Moved = true
-moves (Stepped.Answered c) = true
-moves (Stepped.Refused r) = false
+abbrev pub moves : Result Stepped Refusal → Bool
+moves (Ok Stepped.Moved) = true
+moves (Ok (Stepped.Answered c)) = true
+moves (Err r) = false
 
-abbrev pub is_answer : Stepped → Bool
-is_answer Stepped.Moved = false
-is_answer (Stepped.Answered c) = true
-is_answer (Stepped.Refused r) = false
+abbrev pub is_answer : Result Stepped Refusal → Bool
+is_answer (Ok Stepped.Moved) = false
+is_answer (Ok (Stepped.Answered c)) = true
+is_answer (Err r) = false
 
 -- "An operation is an accepted call to a worker": is this one to worker j?
 unfoldable pub calls_to : (x : System) → x.State → Entry → ℕ → Bool

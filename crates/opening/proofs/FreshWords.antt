@@ -9,10 +9,7 @@ use lib.ListN.{length, set, replicate, length-append, length-replicate}
 use borrow.Author.Tests.{le-leb, lt-leb}
 use Rattle.interface.specs.Limits.{in_range, built, greatest_workers, greatest_capacity}
 use Rattle.interface.specs.declared.Settings.{Settings}
-use Rattle.interface.specs.declared.Built.{Built}
 use Rattle.interface.specs.declared.Refusal.{Refusal}
-use Rattle.interface.specs.declared.Needed.{Needed}
-use Rattle.interface.specs.declared.Opened.{Opened}
 use Rattle.interface.proofs.Laws.{range_of, wrong_settings, right_settings}
 use Rattle.fields.specs.Fields.{header_settings, header_needed, header_depth, header_number, header_spare, header_size, deepest, record_size, spare_words}
 use Rattle.fields.specs.Regions.{directory_start, record_start, words_needed}
@@ -21,6 +18,7 @@ use Rattle.lists.specs.Parts.{overlay}
 use Rattle.lists.proofs.PartLaws.{overlay_nil, overlay_join, overlay_more}
 use Rattle.layout.specs.Shape.{first_word}
 use Rattle.opening.specs.Opening.{fresh_words, needed_for, opened_words, open_words}
+use Rattle.std.specs.Prelude.{Result, Ok, Err}
 
 -- ---- the words of a fresh table
 
@@ -92,7 +90,7 @@ pub record Ranged (s : Settings) : Type 0 where
   pub depth : s.depth ≤ deepest
 
 module _ (n b M : ℕ) where
-  pub ranged : (r : Built) (s : Settings) → r ≡ built n b M → r ≡ Built.Settings s → Ranged s
+  pub ranged : (r : Result Settings Refusal) (s : Settings) → r ≡ built n b M → r ≡ Ok s → Ranged s
   ranged r s e h = go (in_range n b M) refl
     where
       go : (t : Bool) → in_range n b M ≡ t → Ranged s
@@ -109,24 +107,24 @@ module _ (n b M : ℕ) where
             depth = omega arith;
           })
 
-  module _ (r : Built) (e : r ≡ built n b M) where
-    pub needed_words : (s : Settings) (k : ℕ) → r ≡ Built.Settings s → k ≡ words_needed s → Needed.Words k ≡ needed_for (built n b M)
+  module _ (r : Result Settings Refusal) (e : r ≡ built n b M) where
+    pub needed_words : (s : Settings) (k : ℕ) → r ≡ Ok s → k ≡ words_needed s → Ok k ≡ needed_for (built n b M)
     unfolding needed_for
     needed_words s k h g = rw (← e, h, g)
 
-    pub needed_none : (x : Refusal) → r ≡ Built.Refused x → Needed.Refused x ≡ needed_for (built n b M)
+    pub needed_none : (x : Refusal) → r ≡ Err x → Err x ≡ needed_for (built n b M)
     unfolding needed_for
     needed_none x h = rw (← e, h)
 
-    pub opened_none : (l : List ℕ) (x : Refusal) → r ≡ Built.Refused x → (l, Opened.Refused x) ≡ open_words l n b M
+    pub opened_none : (l : List ℕ) (x : Refusal) → r ≡ Err x → (l, Err x) ≡ open_words l n b M
     unfolding open_words opened_words
     opened_none l x h = rw (← e, h)
 
-    module _ (l : List ℕ) (s : Settings) (k : ℕ) (h : r ≡ Built.Settings s) (g : k ≡ words_needed s) where
-      pub opened_short : length l < k → (l, Opened.Refused Refusal.Short) ≡ open_words l n b M
+    module _ (l : List ℕ) (s : Settings) (k : ℕ) (h : r ≡ Ok s) (g : k ≡ words_needed s) where
+      pub opened_short : length l < k → (l, Err Refusal.Short) ≡ open_words l n b M
       unfolding open_words opened_words
       opened_short m = rw (← e, h, ← g) (sym (if_false _ _ (lt-leb k (length l) m)))
 
-      pub opened_fresh : (w : List ℕ) → k ≤ length l → w ≡ overlay l 0 (fresh_words s) → (w, Opened.Opened) ≡ open_words l n b M
+      pub opened_fresh : (w : List ℕ) → k ≤ length l → w ≡ overlay l 0 (fresh_words s) → (w, Ok tt) ≡ open_words l n b M
       unfolding open_words opened_words
       opened_fresh w m f = rw (← e, h, ← g, f) (sym (if_true _ _ (le-leb k (length l) m)))

@@ -13,18 +13,16 @@ use fields::{
     CAPACITY_UNIT, DEPTH_UNIT, HEADER_DEPTH, HEADER_NEEDED, HEADER_NUMBER, HEADER_SETTINGS,
     HEADER_SPARE, MARK, MARK_UNIT,
 };
-use interface::{Built, Needed, Opened, Refusal, Settings};
+use interface::{Refusal, Settings};
 use layout::shape::directory_start;
 use spares::needed;
 
 // How many words a table of these settings needs, or refusal 1.
-pub fn words_needed(workers: u64, capacity: u64, depth: u64) -> Needed
+pub fn words_needed(workers: u64, capacity: u64, depth: u64) -> Result<u64, Refusal>
     ensures { result ≡ needed_for (built workers capacity depth) }
 {
-    match Settings::new(workers, capacity, depth) {
-        Built::Settings(s) => Needed::Words(needed(s) as u64),
-        Built::Refused(r) => Needed::Refused(r),
-    }
+    let s = Settings::new(workers, capacity, depth)?;
+    Ok(needed(s) as u64)
 }
 
 // The first word of a table of these settings: the mark, and the settings below it.
@@ -65,17 +63,13 @@ fn fresh(words: &mut [u64], s: Settings)
 }
 
 // A fresh table, whatever the words held.
-pub fn open(words: &mut [u64], workers: u64, capacity: u64, depth: u64) -> Opened
+pub fn open(words: &mut [u64], workers: u64, capacity: u64, depth: u64) -> Result<(), Refusal>
     ensures { (words.new, result) ≡ open_words words.old workers capacity depth }
 {
-    match Settings::new(workers, capacity, depth) {
-        Built::Settings(s) => {
-            if words.len() < needed(s) {
-                return Opened::Refused(Refusal::Short);
-            }
-            fresh(words, s);
-            Opened::Opened
-        }
-        Built::Refused(r) => Opened::Refused(r),
+    let s = Settings::new(workers, capacity, depth)?;
+    if words.len() < needed(s) {
+        return Err(Refusal::Short);
     }
+    fresh(words, s);
+    Ok(())
 }

@@ -12,7 +12,6 @@ use lib.ListN.{length, get_or}
 use lib.Dec.{ltb}
 use borrow.Author.Tests.{leb-true, ltb-false}
 use Rattle.interface.specs.Numbers.{number_of}
-use Rattle.interface.specs.declared.Listed.{Listed}
 use Rattle.interface.specs.declared.Refusal.{Refusal}
 use Rattle.machine.specs.Choice.{when◌then◌else◌}
 use Rattle.layout.specs.Shape.{strange, shape_of}
@@ -23,6 +22,7 @@ use Rattle.lists.specs.Parts.{overlay}
 use Rattle.printers.specs.Written.{fits, Wrote}
 use Rattle.replies.specs.Printed.{printed_row, printed_end, printed_reply}
 use Rattle.outputs.specs.Outputs.{Output, emitted, put_rows, put_listed, DriverState, listed_as, listed}
+use Rattle.std.specs.Prelude.{Ok, Err}
 
 module _ {l : List ℕ} {at : ℕ} {xs : List ℕ} {r : ℕ} {after : List ℕ} (w : Wrote l at xs r after) where
   pub wrote_put : ◌≡◌ {A = Output} (record { bytes = after; used = at + r }) (emitted (record { bytes = l; used = at }) xs)
@@ -64,14 +64,14 @@ module _ (accounts : List ℕ) (totals : List ℤ) where
 module _ (l accounts : List ℕ) (totals : List ℤ) where
   counted : (s p q : Bool) (r : List (ℕ × ℤ)) (n : ℕ) (x : Shown) → ltb (length accounts) (length r) ≡ p
       → ltb (length totals) (length r) ≡ q
-      → x ≡ when s then record { accounts = accounts; totals = totals; listed = Listed.Refused Refusal.Strange }
-      else when p || q then record { accounts = accounts; totals = totals; listed = Listed.Refused Refusal.Narrow }
+      → x ≡ when s then record { accounts = accounts; totals = totals; listed = Err Refusal.Strange }
+      else when p || q then record { accounts = accounts; totals = totals; listed = Err Refusal.Narrow }
       else record {
         accounts = overlay accounts 0 (map (λ y. y.0) r);
         totals = overlay totals 0 (map (λ y. y.1) r);
-        listed = Listed.Count (length r);
+        listed = Ok (length r);
       }
-      → x.listed ≡ Listed.Count n → (n ≤ length accounts) × (n ≤ length totals)
+      → x.listed ≡ Ok n → (n ≤ length accounts) × (n ≤ length totals)
   unfolding when◌then◌else◌
   counted true p q r n x e f g h = let z : ◌≡◌ {A = ℕ} 0 1 = cc (ap (λ (y : Shown). y.listed) g) in absurd (omega arith)
   counted false true q r n x e f g h = let z : ◌≡◌ {A = ℕ} 0 1 = cc (ap (λ (y : Shown). y.listed) g) in absurd (omega arith)
@@ -83,18 +83,18 @@ module _ (l accounts : List ℕ) (totals : List ℤ) where
       (omega arith, omega arith)
 
   -- a count is no more than either list's length
-  pub count_within : (n : ℕ) → (listing_words l accounts totals).listed ≡ Listed.Count n → (n ≤ length accounts) × (n ≤ length totals)
+  pub count_within : (n : ℕ) → (listing_words l accounts totals).listed ≡ Ok n → (n ≤ length accounts) × (n ≤ length totals)
   unfolding listing_words shown
   count_within n e = counted (strange l) _ _ (rows l (shape_of l)) n _ refl refl refl e
 
 module _ (s : DriverState) (x : Shown) (e : x ≡ listing_words s.words s.accounts s.totals) (q : Output) where
-  pub listed_count : (n : ℕ) (p : Output) → x.listed ≡ Listed.Count n → p ≡ put_rows s.output (rows_at x.accounts x.totals 0 n)
+  pub listed_count : (n : ℕ) (p : Output) → x.listed ≡ Ok n → p ≡ put_rows s.output (rows_at x.accounts x.totals 0 n)
       → q ≡ emitted p (printed_end n)
       → ◌≡◌ {A = DriverState} (record { words = s.words; accounts = x.accounts; totals = x.totals; output = q }) (listed s)
   unfolding listed listed_as put_listed
   listed_count n p f g h = rw (← e, f, h, g)
 
-  pub listed_refused : (r : Refusal) (k : ℕ) → x.listed ≡ Listed.Refused r → k ≡ number_of r
+  pub listed_refused : (r : Refusal) (k : ℕ) → x.listed ≡ Err r → k ≡ number_of r
       → q ≡ emitted s.output (printed_reply (Reply.Refused k))
       → ◌≡◌ {A = DriverState} (record { words = s.words; accounts = x.accounts; totals = x.totals; output = q }) (listed s)
   unfolding listed listed_as put_listed

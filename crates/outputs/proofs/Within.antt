@@ -4,12 +4,13 @@ use mathlib.Core.List.{List, [], ◌∷◌}
 use lib.IntN.{ℤ}
 use lib.ListN.{length}
 use borrow.Author.Tests.{leb-true}
-use Rattle.interface.specs.declared.Listed.{Listed}
 use Rattle.machine.proofs.laws.Base.{if_elim}
 use Rattle.printers.specs.Written.{fits}
 use Rattle.replies.specs.Printed.{printed_row, printed_end}
 use Rattle.lists.proofs.PartLaws.{length_overlay}
 use Rattle.outputs.specs.Outputs.{Output, emitted, put_rows, put_listed}
+use Rattle.std.specs.Prelude.{Result, Ok, Err}
+use Rattle.interface.specs.declared.Refusal.{Refusal}
 
 pub record Within (o : Output) : Type 0 where
   pub used : o.used ≤ length o.bytes
@@ -28,7 +29,7 @@ unfolding put_rows
 rows_within o [] w = w
 rows_within o (e ∷ t) w = rows_within (emitted o (printed_row e.0 e.1)) t (put_within o _ w)
 
-pub listing_within : (o : Output) (accounts : List ℕ) (totals : List ℤ) (x : Listed) → Within o → Within (put_listed o accounts totals x)
+pub listing_within : (o : Output) (accounts : List ℕ) (totals : List ℤ) (x : Result ℕ Refusal) → Within o → Within (put_listed o accounts totals x)
 unfolding put_listed
-listing_within o accounts totals (Listed.Count n) w = put_within _ (printed_end n) (rows_within o _ w)
-listing_within o accounts totals (Listed.Refused r) w = put_within o _ w
+listing_within o accounts totals (Ok n) w = put_within _ (printed_end n) (rows_within o _ w)
+listing_within o accounts totals (Err r) w = put_within o _ w

@@ -1,8 +1,7 @@
 -- What is printed behind the bytes of a buffer that are used. 01, The driver: "`T` prints account and total, ascending,
 -- then `end` and the count." Rests on the table's listing and on the replies' texts.
-use Rattle.std.specs.Prelude.{ℕ, ◌+◌, List, [], ◌∷◌, ℤ, length}
+use Rattle.std.specs.Prelude.{ℕ, ◌+◌, List, [], ◌∷◌, ℤ, length, Result, Ok, Err}
 use Rattle.interface.specs.Numbers.{number_of}
-use Rattle.interface.specs.declared.Listed.{Listed}
 use Rattle.machine.specs.Choice.{when◌then◌else◌}
 use Rattle.sorting.specs.RowLists.{rows_at}
 use Rattle.rows.specs.Rows.{Shown, listing_words}
@@ -10,6 +9,7 @@ use Rattle.replies.specs.declared.Reply.{Reply}
 use Rattle.lists.specs.Parts.{overlay}
 use Rattle.printers.specs.Written.{fits}
 use Rattle.replies.specs.Printed.{printed_reply, printed_row, printed_end}
+use Rattle.interface.specs.declared.Refusal.{Refusal}
 
 -- ---- output
 
@@ -32,9 +32,9 @@ put_rows o [] = o
 put_rows o (e ∷ t) = put_rows (emitted o (printed_row e.0 e.1)) t
 
 -- the listing's rows and its end, or its refusal
-unfoldable pub put_listed : Output → List ℕ → List ℤ → Listed → Output
-put_listed o accounts totals (Listed.Count n) = emitted (put_rows o (rows_at accounts totals 0 n)) (printed_end n)
-put_listed o accounts totals (Listed.Refused r) = emitted o (printed_reply (Reply.Refused (number_of r)))
+unfoldable pub put_listed : Output → List ℕ → List ℤ → Result ℕ Refusal → Output
+put_listed o accounts totals (Ok n) = emitted (put_rows o (rows_at accounts totals 0 n)) (printed_end n)
+put_listed o accounts totals (Err r) = emitted o (printed_reply (Reply.Refused (number_of r)))
 
 -- ---- listings
 

@@ -8,7 +8,6 @@ ghost use Rattle.outputs.specs.Outputs.{output_of, emitted, put_rows, state_of, 
 ghost use Rattle.sorting.specs.RowLists.{rows_at};
 ghost use Rattle.outputs.specs.Room.{longest, room_for};
 
-use interface::Listed;
 use replies::Reply;
 
 // The longest text that one line is met with: 4,096 rows of 32 bytes each, and `end` with a count of up to 20 digits.
@@ -27,11 +26,11 @@ pub fn show(
         used) }
 {
     match rows::listing(words, accounts, totals) {
-        Listed::Count(count) => {
+        Ok(count) => {
             let next = put_rows(accounts, totals, count as usize, out, used);
             put_end(out, next, count)
         }
-        Listed::Refused(why) => put_reply(out, used, Reply::Refused(why.number())),
+        Err(why) => put_reply(out, used, Reply::Refused(why.number())),
     }
 }
 

@@ -8,7 +8,6 @@ use mathlib.Core.List.{List, map}
 use lib.Dec.{ltb}
 use lib.IntN.{ℤ, pos}
 use lib.ListN.{length, length-map, get_or, get_or-append, get_or-map}
-use Rattle.interface.specs.declared.Listed.{Listed}
 use Rattle.machine.proofs.laws.Base.{if_elim₂}
 use Rattle.lists.specs.Parts.{overlay}
 use Rattle.lists.proofs.PartLaws.{overlay_first}
@@ -17,12 +16,13 @@ use Rattle.sorting.specs.RowLists.{totals_with}
 use Rattle.rows.specs.Rows.{rows, Shown, shown, listing_words}
 use Rattle.rebate.specs.Rebate.{rebate_on, rounded, due_by, inside}
 use Rattle.rebates.specs.Rebates.{rebates_with, Rebated, rebated, rebates_words, AsListed}
+use Rattle.std.specs.Prelude.{Ok}
 
 -- rebates, and a listing
 abbrev Beside : Rebated → Shown → Type 0
 Beside x y =
     (x.listed ≡ y.listed) × ((x.accounts ≡ y.accounts)
-    × ((k i : ℕ) → y.listed ≡ Listed.Count k → i < k → get_or x.rebates i 0 ≡ rebate_on (get_or y.totals i (pos 0))))
+    × ((k i : ℕ) → y.listed ≡ Ok k → i < k → get_or x.rebates i 0 ≡ rebate_on (get_or y.totals i (pos 0))))
 
 -- what was written of a row stands at its place
 written_at :

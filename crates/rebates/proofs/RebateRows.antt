@@ -9,7 +9,6 @@ use lib.IntN.{ℤ}
 use lib.ListN.{length, set}
 use borrow.Author.Tests.{lt-ltb, le-ltb}
 use Rattle.interface.specs.declared.Refusal.{Refusal}
-use Rattle.interface.specs.declared.Listed.{Listed}
 use Rattle.machine.specs.Choice.{when◌then◌else◌}
 use Rattle.machine.proofs.laws.Base.{if_true, if_false}
 use Rattle.lists.specs.Parts.{overlay}
@@ -21,6 +20,7 @@ use Rattle.rows.specs.Rows.{rows}
 use Rattle.rows.proofs.RowLaws.{written_behind}
 use Rattle.rows.proofs.AllRows.{AllRows, OnlyStrange}
 use Rattle.rebates.specs.Rebates.{rebates_with, rebated, rebates_words}
+use Rattle.std.specs.Prelude.{Ok, Err}
 
 -- ---- the first rows of two lists
 
@@ -37,7 +37,7 @@ module _ (accounts : List ℕ) (totals : List ℤ) where
 
 -- a listing that refuses strange words alone
 pub rebates_refused : {l : List ℕ} {why : Refusal} → OnlyStrange l why
-    → (a b : List ℕ) → record { accounts = a; rebates = b; listed = Listed.Refused why } ≡ rebates_words l a b
+    → (a b : List ℕ) → record { accounts = a; rebates = b; listed = Err why } ≡ rebates_words l a b
 unfolding rebates_words
 rebates_refused o a b = rw o.reason (sym (if_true _ _ o.fails))
 
@@ -47,7 +47,7 @@ module _ {l : List ℕ} {n : ℕ} {accounts : List ℕ} {totals : List ℤ} (all
   rebates_of_rows = sym (if_false _ _ all.passed)
 
   pub rebates_narrow :
-      (length a < n) ⊎ (length b < n) → record { accounts = a; rebates = b; listed = Listed.Refused Refusal.Narrow } ≡ rebates_words l a b
+      (length a < n) ⊎ (length b < n) → record { accounts = a; rebates = b; listed = Err Refusal.Narrow } ≡ rebates_words l a b
   unfolding rebated when◌then◌else◌
   rebates_narrow h =
       ⊎_elim (λ m. rw (lt-ltb _ _ (rw all.count at m))) (λ m. rw (lt-ltb _ _ (rw all.count at m), or-true)) h ∙ rebates_of_rows
@@ -55,7 +55,7 @@ module _ {l : List ℕ} {n : ℕ} {accounts : List ℕ} {totals : List ℤ} (all
   pub rebates_all :
       (a' b' : List ℕ) → n ≤ length a → n ≤ length b → a' ≡ accounts_with a 0 (rows_at accounts totals 0 n)
       → b' ≡ rebates_with b 0 (rows_at accounts totals 0 n)
-      → record { accounts = a'; rebates = b'; listed = Listed.Count n } ≡ rebates_words l a b
+      → record { accounts = a'; rebates = b'; listed = Ok n } ≡ rebates_words l a b
   unfolding rebated when◌then◌else◌
   rebates_all a' b' h k e f =
       rw (e, f, all.read, all.count) ((rw (

@@ -6,7 +6,7 @@ ghost use Rattle.std.specs.Prelude.{◌≡◌, ◌≤◌, length};
 ghost use Rattle.sorting.specs.RowLists.{accounts_with, rows_at};
 ghost use Rattle.rebates.specs.Rebates.{rebates_with, rebates_words};
 
-use interface::{Listed, Refusal};
+use interface::Refusal;
 use rebate::rebate;
 use rows::{GREATEST_COUNT, listing};
 
@@ -28,24 +28,17 @@ fn write(listed: &[u32], totals: &[i64], k: usize, accounts: &mut [u32], rebates
 }
 
 // The accounts in ascending order with the rebates on their totals, nothing past the count: checks 8, 10.
-pub fn rebates(words: &[u64], accounts: &mut [u32], rebates: &mut [u64]) -> Listed
+pub fn rebates(words: &[u64], accounts: &mut [u32], rebates: &mut [u64]) -> Result<u64, Refusal>
     ensures { record { accounts = accounts.new; rebates = rebates.new; listed = result }
         ≡ rebates_words words.now accounts.old rebates.old }
 {
     let mut listed = [0u32; GREATEST_COUNT];
     let mut totals = [0i64; GREATEST_COUNT];
-    match listing(words, &mut listed, &mut totals) {
-        Listed::Refused(r) => Listed::Refused(r),
-        Listed::Count(n) => {
-            let k = n as usize;
-            if accounts.len() < k {
-                return Listed::Refused(Refusal::Narrow);
-            }
-            if rebates.len() < k {
-                return Listed::Refused(Refusal::Narrow);
-            }
-            write(&listed, &totals, k, accounts, rebates);
-            Listed::Count(n)
-        }
+    let n = listing(words, &mut listed, &mut totals)?;
+    let k = n as usize;
+    if accounts.len() < k || rebates.len() < k {
+        return Err(Refusal::Narrow);
     }
+    write(&listed, &totals, k, accounts, rebates);
+    Ok(n)
 }

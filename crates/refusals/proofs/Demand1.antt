@@ -6,7 +6,7 @@ use native.Mathlib.Omega.{arith}
 use mathlib.Core.Path.{◌≡◌, refl, ap, sym, ◌∙◌}
 use mathlib.Core.Bool.{Bool, true, false, not, ◌||◌}
 use mathlib.Core.List.{List, [], ◌∷◌}
-use Rattle.std.specs.Prelude.{Option, Some, None}
+use Rattle.std.specs.Prelude.{Option, Some, None, Result, Ok, Err}
 use lib.Dec.{ltb, leb, eqb}
 use lib.ListN.{length, drop, replicate, length-map}
 use lib.IntN.{ℤ}
@@ -16,14 +16,9 @@ use Rattle.interface.specs.Limits.{in_range, built, greatest_ticket}
 use Rattle.interface.specs.Numbers.{kind_none, kind_insert, kind_delete, kind_lookup, kind_post, greatest_kind}
 use Rattle.interface.specs.declared.Settings.{Settings}
 use Rattle.interface.specs.declared.Refusal.{Refusal}
-use Rattle.interface.specs.declared.Built.{Built}
-use Rattle.interface.specs.declared.Needed.{Needed}
-use Rattle.interface.specs.declared.Opened.{Opened}
 use Rattle.interface.specs.declared.Answer.{Answer}
-use Rattle.interface.specs.declared.Called.{Called}
 use Rattle.interface.specs.declared.Stepped.{Stepped}
 use Rattle.interface.specs.declared.Ran.{Ran}
-use Rattle.interface.specs.declared.Listed.{Listed}
 use Rattle.interface.proofs.Laws.{wrong_settings, right_settings}
 use Rattle.machine.specs.Choice.{when◌then◌else◌}
 use Rattle.machine.specs.Plan.{Phase, announce, read_directory, flip_toggle, read_state, read_toggle, swap_state, check_state, copy_directory, swap_directory, read_slot, resize_for}
@@ -57,49 +52,49 @@ if_not k j x y = go (leb k j) refl
 
 -- ---- answers that are no refusal
 
-words_never : {k : ℕ} (r : Refusal) → Needed.Words k ≡ Needed.Refused r → ⊥
+words_never : {k : ℕ} (r : Refusal) → Ok k ≡ Err r → ⊥
 words_never r e = let z : ◌≡◌ {A = ℕ} 0 1 = cc in omega arith
 
-opened_never : (r : Refusal) → Opened.Opened ≡ Opened.Refused r → ⊥
+opened_never : (r : Refusal) → Ok tt ≡ Err r → ⊥
 opened_never r e = let z : ◌≡◌ {A = ℕ} 0 1 = cc in omega arith
 
-accepted_never : (r : Refusal) → Called.Accepted ≡ Called.Refused r → ⊥
+accepted_never : (r : Refusal) → Ok tt ≡ Err r → ⊥
 accepted_never r e = let z : ◌≡◌ {A = ℕ} 0 1 = cc in omega arith
 
-moved_never : {r : Refusal} → Stepped.Moved ≡ Stepped.Refused r → ⊥
+moved_never : {r : Refusal} → Ok Stepped.Moved ≡ Err r → ⊥
 moved_never e = let z : ◌≡◌ {A = ℕ} 0 1 = cc in omega arith
 
-ended_never : (l : List ℕ) (p k c : ℕ) (a : Answer) {r : Refusal} → (ended_at l p k c a).1 ≡ Stepped.Refused r → ⊥
+ended_never : (l : List ℕ) (p k c : ℕ) (a : Answer) {r : Refusal} → (ended_at l p k c a).1 ≡ Err r → ⊥
 unfolding ended_at
 ended_never l p k c a e = let z : ◌≡◌ {A = ℕ} 0 1 = cc in omega arith
 
-pub count_never : {k : ℕ} (r : Refusal) → Listed.Count k ≡ Listed.Refused r → ⊥
+pub count_never : {k : ℕ} (r : Refusal) → Ok k ≡ Err r → ⊥
 count_never r e = let z : ◌≡◌ {A = ℕ} 0 1 = cc in omega arith
 
 -- ---- settings and openings
 
 module _ (n b M : ℕ) where
   built_is :
-      {A : Type 0} (f : Built → A)
+      {A : Type 0} (f : Result Settings Refusal → A)
       → f (built n b M)
-      ≡ when not (in_range n b M) then f (Built.Refused Refusal.Settings)
-      else f (Built.Settings (record { workers = n; capacity = b; depth = M }))
+      ≡ when not (in_range n b M) then f (Err Refusal.Settings)
+      else f (Ok (record { workers = n; capacity = b; depth = M }))
   unfolding when◌then◌else◌
   built_is f = go (in_range n b M) refl
     where
       go :
           (t : Bool) → in_range n b M ≡ t
           → f (built n b M)
-          ≡ when not t then f (Built.Refused Refusal.Settings)
-          else f (Built.Settings (record { workers = n; capacity = b; depth = M }))
+          ≡ when not t then f (Err Refusal.Settings)
+          else f (Ok (record { workers = n; capacity = b; depth = M }))
       go true e = ap f (right_settings n b M e)
       go false e = ap f (wrong_settings n b M e)
 
-  pub needed-checks : RefusedBy Needed.Refused (needed_checks n b M) (tt {0}) (tt, needed_for (built n b M))
+  pub needed-checks : RefusedBy Err (needed_checks n b M) (tt {0}) (tt, needed_for (built n b M))
   unfolding needed_checks needed_for
-  needed-checks = rw (built_is {A = Unit {0} × Needed} (λ x. (tt, needed_for x))) (check_then (passed words_never) _)
+  needed-checks = rw (built_is {A = Unit {0} × Result ℕ Refusal} (λ x. (tt, needed_for x))) (check_then (passed words_never) _)
 
-  pub opening-checks : (l : List ℕ) → RefusedBy Opened.Refused (opening_checks l n b M) l (open_words l n b M)
+  pub opening-checks : (l : List ℕ) → RefusedBy Err (opening_checks l n b M) l (open_words l n b M)
   unfolding opening_checks open_words opened_words
   opening-checks l = rw (built_is (opened_words l), if_not) (check_then (check_then (passed opened_never) _) _)
 
@@ -108,11 +103,11 @@ module _ (n b M : ℕ) where
 -- the checks of the kind and of the worker's updates, kind by kind
 kind_checks :
     (l m n : List ℕ) (w kind : ℕ)
-    → RefusedBy Called.Refused (check6 kind ∷ check7 l w kind ∷ []) l
-    (when ltb kind kind_insert || ltb greatest_kind kind then (l, Called.Refused Refusal.Kind)
-    else when eqb kind kind_lookup then (m, Called.Accepted)
-    else when leb greatest_ticket (own_word l w worker_ticket) then (l, Called.Refused Refusal.Spent)
-    else (n, Called.Accepted))
+    → RefusedBy Err (check6 kind ∷ check7 l w kind ∷ []) l
+    (when ltb kind kind_insert || ltb greatest_kind kind then (l, Err Refusal.Kind)
+    else when eqb kind kind_lookup then (m, Ok tt)
+    else when leb greatest_ticket (own_word l w worker_ticket) then (l, Err Refusal.Spent)
+    else (n, Ok tt))
 unfolding when◌then◌else◌
 kind_checks l m n w zero = stopped
 kind_checks l m n w (suc zero) = going_on (check_then (passed accepted_never) _)
@@ -131,23 +126,23 @@ kind_checks l m n w (suc (suc (suc (suc (suc k))))) =
     ) stopped
 
 pub call-checks :
-    (l : List ℕ) (w kind a : ℕ) (v : ℤ) → RefusedBy Called.Refused (call_checks l w kind) l (call_words l w kind a v)
+    (l : List ℕ) (w kind a : ℕ) (v : ℤ) → RefusedBy Err (call_checks l w kind) l (call_words l w kind a v)
 unfolding call_checks call_words call_in
 call-checks l w kind a v = check_then (check_then (check_then (kind_checks l _ _ w kind) _) _) _
 
 -- ---- a step
 
-lookup_never : (l : List ℕ) (s : Settings) (p k : ℕ) {r : Refusal} → (lookup_at l s p k).1 ≡ Stepped.Refused r → ⊥
+lookup_never : (l : List ℕ) (s : Settings) (p k : ℕ) {r : Refusal} → (lookup_at l s p k).1 ≡ Err r → ⊥
 unfolding lookup_at
 lookup_never l s p zero e = moved_never e
 lookup_never l s p (suc k) e = ended_never l p (suc k) _ _ e
 
-check_never : (l : List ℕ) (p k c : ℕ) (o : Option Answer) {r : Refusal} → (check_at l p k c o).1 ≡ Stepped.Refused r → ⊥
+check_never : (l : List ℕ) (p k c : ℕ) (o : Option Answer) {r : Refusal} → (check_at l p k c o).1 ≡ Err r → ⊥
 unfolding check_at
 check_never l p k c None e = moved_never e
 check_never l p k c (Some a) e = ended_never l p k c a e
 
-update_never : (l : List ℕ) (s : Settings) (p w k : ℕ) (f : Phase) {r : Refusal} → (update_at l s p w k f).1 ≡ Stepped.Refused r → ⊥
+update_never : (l : List ℕ) (s : Settings) (p w k : ℕ) (f : Phase) {r : Refusal} → (update_at l s p w k f).1 ≡ Err r → ⊥
 unfolding update_at
 update_never l s p w k announce e = moved_never e
 update_never l s p w k read_directory e = moved_never e
@@ -162,30 +157,30 @@ update_never l s p w k (resize_for j) e = moved_never e
 update_never l s p w k swap_directory e = moved_never e
 
 -- a step of an operation is not refused
-pub operation_never : (l : List ℕ) (s : Settings) (p w k : ℕ) (r : Refusal) → (operation_at l s p w k).1 ≡ Stepped.Refused r → ⊥
+pub operation_never : (l : List ℕ) (s : Settings) (p w k : ℕ) (r : Refusal) → (operation_at l s p w k).1 ≡ Err r → ⊥
 unfolding operation_at
 operation_never l s p w k r =
-    if_elim (λ (x : List ℕ × Stepped). x.1 ≡ Stepped.Refused r → ⊥) (eqb (word l (p + worker_kind)) kind_lookup) _ _
+    if_elim (λ (x : List ℕ × Result Stepped Refusal). x.1 ≡ Err r → ⊥) (eqb (word l (p + worker_kind)) kind_lookup) _ _
     (λ _. lookup_never _ s p k) (λ _. update_never _ s p w k _)
 
-pub step-checks : (l : List ℕ) (w : ℕ) → RefusedBy Stepped.Refused (step_checks l w) l (step_words l w)
+pub step-checks : (l : List ℕ) (w : ℕ) → RefusedBy Err (step_checks l w) l (step_words l w)
 unfolding step_checks step_words step_in
 step-checks l w = check_then (check_then (check_then (passed (operation_never l _ _ w _)) _) _) _
 
 -- ---- a run
 
 module _ (r : Refusal) where
-  abbrev Runs : List ℕ × Ran → Type 0
-  Runs x = x.1 ≡ Ran.Refused r → ⊥
+  abbrev Runs : List ℕ × Result Ran Refusal → Type 0
+  Runs x = x.1 ≡ Err r → ⊥
 
-  moved_runs : (l : List ℕ) (k : ℕ) → Runs (l, Ran.Moved k)
+  moved_runs : (l : List ℕ) (k : ℕ) → Runs (l, Ok (Ran.Moved k))
   moved_runs l k e = let z : ◌≡◌ {A = ℕ} 0 1 = cc in omega arith
 
-  else_runs : (l : List ℕ) (k : ℕ) (x : Stepped) (later : List ℕ × Ran) → Runs later → Runs (or_else l (last_of k x) later)
+  else_runs : (l : List ℕ) (k : ℕ) (x : Result Stepped Refusal) (later : List ℕ × Result Ran Refusal) → Runs later → Runs (or_else l (last_of k x) later)
   unfolding or_else last_of
-  else_runs l k Stepped.Moved later h e = h e
-  else_runs l k (Stepped.Answered c) later h e = let z : ◌≡◌ {A = ℕ} 0 1 = cc in omega arith
-  else_runs l k (Stepped.Refused o) later h e = moved_runs l k e
+  else_runs l k (Ok Stepped.Moved) later h e = h e
+  else_runs l k (Ok (Stepped.Answered c)) later h e = let z : ◌≡◌ {A = ℕ} 0 1 = cc in omega arith
+  else_runs l k (Err o) later h e = moved_runs l k e
 
   -- a run that has begun is not refused
   run_never : (f : ℕ) (l : List ℕ) (s : Settings) (w k : ℕ) → Runs (run_in l s w k f)
@@ -195,7 +190,7 @@ module _ (r : Refusal) where
       if_elim Runs (eqb (word l (worker_at s.workers w + worker_kind)) kind_none) _ _ (λ _. moved_runs l k)
       (λ _. else_runs _ k _ _ (run_never f _ s w (suc k)))
 
-pub run_checks : (l : List ℕ) (w most : ℕ) → RefusedBy Ran.Refused (step_checks l w) l (run_words l w most)
+pub run_checks : (l : List ℕ) (w most : ℕ) → RefusedBy Err (step_checks l w) l (run_words l w most)
 unfolding step_checks run_words
 run_checks l w most = check_then (check_then (check_then (passed (λ r. run_never r _ l _ w 0)) _) _) _
 
@@ -212,18 +207,18 @@ laid l xs k e h = record {
 
 module _ (l accounts : List ℕ) (totals : List ℤ) where
   pub listing-checks :
-      RefusedBy Listed.Refused (listing_checks l accounts totals) (accounts, totals) (lists_of (listing_words l accounts totals))
+      RefusedBy Err (listing_checks l accounts totals) (accounts, totals) (lists_of (listing_words l accounts totals))
   unfolding listing_checks listing_words shown lists_of
   listing-checks = check_part lists_of (strange l) _ _ refl (check_part lists_of _ _ _ refl (passed count_never))
 
-  refused_past : (r : Refusal) → PastCount accounts totals (record { accounts = accounts; totals = totals; listed = Listed.Refused r })
+  refused_past : (r : Refusal) → PastCount accounts totals (record { accounts = accounts; totals = totals; listed = Err r })
   refused_past r k e = absurd (count_never r (sym e))
 
   module _ (r : List (ℕ × ℤ)) where
     written_past :
         length r ≤ length accounts → length r ≤ length totals
         → PastCount accounts totals
-        (record { accounts = accounts_with accounts 0 r; totals = totals_with totals 0 r; listed = Listed.Count (length r) })
+        (record { accounts = accounts_with accounts 0 r; totals = totals_with totals 0 r; listed = Ok (length r) })
     written_past a t k e =
         let count : length r ≡ k = cc in
         (laid accounts _ k (length-map r _ ∙ count) (omega arith), laid totals _ k (length-map r _ ∙ count) (omega arith))

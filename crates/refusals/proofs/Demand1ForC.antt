@@ -9,21 +9,17 @@ use Rattle.interface.specs.Limits.{built}
 use Rattle.interface.specs.Numbers.{number_of}
 use Rattle.interface.specs.declared.Settings.{Settings}
 use Rattle.interface.specs.declared.Refusal.{Refusal}
-use Rattle.interface.specs.declared.Built.{Built}
-use Rattle.interface.specs.declared.Needed.{Needed}
-use Rattle.interface.specs.declared.Opened.{Opened}
-use Rattle.interface.specs.declared.Called.{Called}
 use Rattle.interface.specs.declared.Stepped.{Stepped}
 use Rattle.interface.specs.declared.Ran.{Ran}
-use Rattle.interface.specs.declared.Listed.{Listed}
 use Rattle.fields.specs.Regions.{directory_start, record_start, words_needed}
 use Rattle.opening.specs.Opening.{needed_for}
 use Rattle.report.specs.Report.{ended_number}
-use Rattle.numbers.specs.Returned.{needed_number, opened_number, called_number, stepped_number, ran_number, listed_number, stepped_report, ran_report, listed_report}
+use Rattle.numbers.specs.Returned.{needed_number, done_number, stepped_number, ran_number, counted_number, stepped_report, ran_report, counted_report}
 use Rattle.capi.specs.Flat.{flat, reported, written}
 use Rattle.refusals.specs.Checks.{Check}
 use Rattle.refusals.specs.Demand1.{RefusedBy, RefusalNumber, RefusedInC, lists_of, left_of, written_of, AllStrange, AllStrangeInC, Demand1ForC}
 use Rattle.refusals.proofs.Demand1.{demand1}
+use Rattle.std.specs.Prelude.{Result, Ok, Err, ⊤}
 
 -- a function that returns the number of a call's answer, and leaves all as it was where the call is refused
 pub in_c :
@@ -41,42 +37,42 @@ in_c number same known leaves h =
 
 -- ---- a number that a caller takes for a refusal is one's
 
-needed_known : (b : Built) → RefusalNumber (needed_number (needed_for b)) → (r : Refusal) × (needed_for b ≡ Needed.Refused r)
+needed_known : (b : Result Settings Refusal) → RefusalNumber (needed_number (needed_for b)) → (r : Refusal) × (needed_for b ≡ Err r)
 unfolding needed_number needed_for words_needed record_start directory_start
-needed_known (Built.Settings s) k = absurd (let h = k.1 in omega arith)
-needed_known (Built.Refused r) k = (r, refl)
+needed_known (Ok s) k = absurd (let h = k.1 in omega arith)
+needed_known (Err r) k = (r, refl)
 
-opened_known : (a : Opened) → RefusalNumber (opened_number a) → (r : Refusal) × (a ≡ Opened.Refused r)
-unfolding opened_number
-opened_known Opened.Opened k = absurd (k.0 refl)
-opened_known (Opened.Refused r) k = (r, refl)
+opened_known : (a : Result ⊤ Refusal) → RefusalNumber (done_number a) → (r : Refusal) × (a ≡ Err r)
+unfolding done_number
+opened_known (Ok _) k = absurd (k.0 refl)
+opened_known (Err r) k = (r, refl)
 
-called_known : (a : Called) → RefusalNumber (called_number a) → (r : Refusal) × (a ≡ Called.Refused r)
-unfolding called_number
-called_known Called.Accepted k = absurd (k.0 refl)
-called_known (Called.Refused r) k = (r, refl)
+called_known : (a : Result ⊤ Refusal) → RefusalNumber (done_number a) → (r : Refusal) × (a ≡ Err r)
+unfolding done_number
+called_known (Ok _) k = absurd (k.0 refl)
+called_known (Err r) k = (r, refl)
 
-stepped_known : (a : Stepped) → RefusalNumber (stepped_number a) → (r : Refusal) × (a ≡ Stepped.Refused r)
+stepped_known : (a : Result Stepped Refusal) → RefusalNumber (stepped_number a) → (r : Refusal) × (a ≡ Err r)
 unfolding stepped_number ended_number
-stepped_known Stepped.Moved k = absurd (k.0 refl)
-stepped_known (Stepped.Answered c) k = absurd (let h = k.1 in omega arith)
-stepped_known (Stepped.Refused r) k = (r, refl)
+stepped_known (Ok Stepped.Moved) k = absurd (k.0 refl)
+stepped_known (Ok (Stepped.Answered c)) k = absurd (let h = k.1 in omega arith)
+stepped_known (Err r) k = (r, refl)
 
-ran_known : (a : Ran) → RefusalNumber (ran_number a) → (r : Refusal) × (a ≡ Ran.Refused r)
+ran_known : (a : Result Ran Refusal) → RefusalNumber (ran_number a) → (r : Refusal) × (a ≡ Err r)
 unfolding ran_number ended_number
-ran_known (Ran.Moved j) k = absurd (k.0 refl)
-ran_known (Ran.Answered c) k = absurd (let h = k.1 in omega arith)
-ran_known (Ran.Refused r) k = (r, refl)
+ran_known (Ok (Ran.Moved j)) k = absurd (k.0 refl)
+ran_known (Ok (Ran.Answered c)) k = absurd (let h = k.1 in omega arith)
+ran_known (Err r) k = (r, refl)
 
-pub listed_known : (a : Listed) → RefusalNumber (listed_number a) → (r : Refusal) × (a ≡ Listed.Refused r)
-unfolding listed_number
-listed_known (Listed.Count j) k = absurd (k.0 refl)
-listed_known (Listed.Refused r) k = (r, refl)
+pub listed_known : (a : Result ℕ Refusal) → RefusalNumber (counted_number a) → (r : Refusal) × (a ≡ Err r)
+unfolding counted_number
+listed_known (Ok j) k = absurd (k.0 refl)
+listed_known (Err r) k = (r, refl)
 
 -- ---- the functions
 
 strange_in_c : (l : List ℕ) → AllStrange l → AllStrangeInC l
-unfolding flat reported written called_number stepped_number ran_number listed_number stepped_report ran_report listed_report
+unfolding flat reported written done_number stepped_number ran_number counted_number stepped_report ran_report counted_report
 strange_in_c l h =
     record {
       call = λ w kind a v. rw (h.call w kind a v);
@@ -88,17 +84,17 @@ strange_in_c l h =
 -- Demand 1 for the C functions.
 pub demand1_for_c : Demand1ForC
 unfolding
-    flat reported written left_of written_of lists_of needed_number opened_number called_number stepped_number ran_number listed_number
-    stepped_report ran_report listed_report
+    flat reported written left_of written_of lists_of needed_number done_number done_number stepped_number ran_number counted_number
+    stepped_report ran_report counted_report
 demand1_for_c =
     record {
       needed = λ n b M. in_c needed_number (λ r. refl) (needed_known (built n b M)) (λ r e h. h) (demand1.needed n b M);
-      opening = λ l n b M. in_c opened_number (λ r. refl) (opened_known _) (λ r e h. h) (demand1.opening l n b M);
-      call = λ l w kind a v. in_c called_number (λ r. refl) (called_known _) (λ r e h. h) (demand1.call l w kind a v);
+      opening = λ l n b M. in_c done_number (λ r. refl) (opened_known _) (λ r e h. h) (demand1.opening l n b M);
+      call = λ l w kind a v. in_c done_number (λ r. refl) (called_known _) (λ r e h. h) (demand1.call l w kind a v);
       step = λ l report w. in_c stepped_number (λ r. refl) (stepped_known _) (λ r e h. rw (e, h)) (demand1.step l w);
       run = λ l report w most. in_c ran_number (λ r. refl) (ran_known _) (λ r e h. rw (e, h)) (demand1.run l w most);
       listing = λ l accounts totals report.
-          in_c listed_number (λ r. refl) (listed_known _) (λ r e h i. ((h i).0, (h i).1, listed_report report (e i)))
+          in_c counted_number (λ r. refl) (listed_known _) (λ r e h i. ((h i).0, (h i).1, counted_report report (e i)))
           (demand1.listing l accounts totals);
       zeros = λ k. strange_in_c (replicate k 0) (demand1.zeros k);
     }

@@ -3,7 +3,7 @@ use Prim.Native.Nat.{ℕ}
 use native.Mathlib.Omega.{arith}
 use mathlib.Core.Path.{◌≡◌, refl, sym, ap, ◌∙◌, subst}
 use mathlib.Core.List.{List}
-use Rattle.std.specs.Prelude.{Some, None}
+use Rattle.std.specs.Prelude.{Some, None, Result, Ok, Err}
 use lib.ListN.{length}
 use borrow.Author.Tests.{ltb-false}
 use Rattle.interface.specs.declared.Refusal.{Refusal}
@@ -25,25 +25,25 @@ same_checks : (l : List ℕ) (b M : ℕ) (order : List ℕ) → refusal_by (log_
 unfolding refusal_by log_checks refusal
 same_checks l b M order = refl
 
-accepted_never : (r : Refusal) → Verdict.Accepted ≡ Verdict.Refused r → ⊥
+accepted_never : (r : Refusal) → Ok Verdict.Accepted ≡ Err r → ⊥
 accepted_never r e = let z : ◌≡◌ {A = ℕ} 0 1 = cc in omega arith
 
-no_never : (r : Refusal) → Verdict.No ≡ Verdict.Refused r → ⊥
+no_never : (r : Refusal) → Ok Verdict.No ≡ Err r → ⊥
 no_never r e = let z : ◌≡◌ {A = ℕ} 0 1 = cc in omega arith
 
-verdict_known : (v : Verdict) → RefusalNumber (verdict_number v) → (r : Refusal) × (v ≡ Verdict.Refused r)
+verdict_known : (v : Result Verdict Refusal) → RefusalNumber (verdict_number v) → (r : Refusal) × (v ≡ Err r)
 unfolding verdict_number
-verdict_known Verdict.Accepted k = absurd (k.0 refl)
-verdict_known Verdict.No k = absurd (let h = k.1 in omega arith)
-verdict_known (Verdict.Refused r) k = (r, refl)
+verdict_known (Ok Verdict.Accepted) k = absurd (k.0 refl)
+verdict_known (Ok Verdict.No) k = absurd (let h = k.1 in omega arith)
+verdict_known (Err r) k = (r, refl)
 
 module _ (l : List ℕ) (b M : ℕ) (order : List ℕ) where
   abbrev after : List ℕ
   after = (check_log_words l b M order).0
 
   -- no check comes out true, and the verdict is no refusal
-  unrefused : (v : Verdict) → ((r : Refusal) → v ≡ Verdict.Refused r → ⊥) → refusal l b M (length order) ≡ None
-      → RefusedBy Verdict.Refused (log_checks l b M order) order (after, v)
+  unrefused : (v : Result Verdict Refusal) → ((r : Refusal) → v ≡ Err r → ⊥) → refusal l b M (length order) ≡ None
+      → RefusedBy Err (log_checks l b M order) order (after, v)
   unrefused v never e =
       record {
         bad = λ r f. absurd (none_some e (sym (same_checks l b M order) ∙ f));
@@ -51,23 +51,23 @@ module _ (l : List ℕ) (b M : ℕ) (order : List ℕ) where
         kept = λ k. absurd (never k.0 k.1);
       }
 
-  by_verdict : (v : Verdict) → Judged l b M order after v → RefusedBy Verdict.Refused (log_checks l b M order) order (after, v)
-  by_verdict Verdict.Accepted h = unrefused Verdict.Accepted accepted_never h.0
-  by_verdict Verdict.No h = unrefused Verdict.No no_never h.0
-  by_verdict (Verdict.Refused s) h =
+  by_verdict : (v : Result Verdict Refusal) → Judged l b M order after v → RefusedBy Err (log_checks l b M order) order (after, v)
+  by_verdict (Ok Verdict.Accepted) h = unrefused (Ok Verdict.Accepted) accepted_never h.0
+  by_verdict (Ok Verdict.No) h = unrefused (Ok Verdict.No) no_never h.0
+  by_verdict (Err s) h =
       record {
         bad = λ r e. let q : Some s ≡ Some r = sym h.0 ∙ sym (same_checks l b M order) ∙ e in cc;
         other = λ e _. none_some (sym (same_checks l b M order) ∙ e) h.0;
         kept = λ _. h.1;
       }
 
-  judged : RefusedBy Verdict.Refused (log_checks l b M order) order (check_log_words l b M order)
+  judged : RefusedBy Err (log_checks l b M order) order (check_log_words l b M order)
   judged = by_verdict (check_log_words l b M order).1 (all_judged.judged l b M order _ _ refl)
 
-  past : (check_log_words l b M order).1 ≡ Verdict.Accepted → KeptPast (count_of l) order after
+  past : (check_log_words l b M order).1 ≡ Ok Verdict.Accepted → KeptPast (count_of l) order after
   unfolding log_of
   past e =
-      let h = all_judged.judged l b M order after Verdict.Accepted (ap (λ (v : Verdict). (after, v)) (sym e)) in
+      let h = all_judged.judged l b M order after (Ok Verdict.Accepted) (ap (λ (v : Result Verdict Refusal). (after, v)) (sym e)) in
       let o = h.1.0 in
       let room = ltb-false (length order) (count_of l) (passes l b M (length order) h.0).1 in
       subst (KeptPast (count_of l) order) (sym h.1.1.1)

@@ -1,23 +1,19 @@
 -- Demand 1 for the library's calls, over any words and arguments, and the same for the C functions: what is refused
 -- under which number, and that a refusal leaves all as it was. Rests on the checks and on the definitions that the
 -- calls' contracts equal.
-use Rattle.std.specs.Prelude.{ℕ, ◌≤◌, ◌<◌, ◌≡◌, ◌≢◌, List, length, drop, replicate, ℤ}
+use Rattle.std.specs.Prelude.{ℕ, ◌≤◌, ◌<◌, ◌≡◌, ◌≢◌, List, length, drop, replicate, ℤ, Result, Ok, Err}
 use Rattle.interface.specs.Limits.{built}
 use Rattle.interface.specs.Numbers.{number_of}
 use Rattle.interface.specs.declared.Refusal.{Refusal}
-use Rattle.interface.specs.declared.Needed.{Needed}
-use Rattle.interface.specs.declared.Opened.{Opened}
-use Rattle.interface.specs.declared.Called.{Called}
 use Rattle.interface.specs.declared.Stepped.{Stepped}
 use Rattle.interface.specs.declared.Ran.{Ran}
-use Rattle.interface.specs.declared.Listed.{Listed}
 use Rattle.opening.specs.Opening.{needed_for, open_words}
 use Rattle.calls.specs.Calls.{call_words}
 use Rattle.turns.specs.Turns.{step_words}
 use Rattle.runs.specs.Runs.{run_words}
 use Rattle.rows.specs.Rows.{Shown, listing_words}
 use Rattle.report.specs.Report.{answer_base}
-use Rattle.numbers.specs.Returned.{needed_number, opened_number, called_number}
+use Rattle.numbers.specs.Returned.{needed_number, done_number}
 use Rattle.capi.specs.Flat.{flat, Left, step_left, run_left, Written, list_written}
 use Rattle.refusals.specs.Checks.{Check, needed_checks, opening_checks, call_checks, step_checks, listing_checks, TurnedDown}
 
@@ -28,7 +24,7 @@ abbrev pub RefusedBy : {L A : Type 0} → (Refusal → A) → List Check → L �
 RefusedBy {A = A} refused = TurnedDown refused (λ (a : A). (r : Refusal) × (a ≡ refused r))
 
 -- both lists after a listing, and its answer
-unfoldable pub lists_of : Shown → (List ℕ × List ℤ) × Listed
+unfoldable pub lists_of : Shown → (List ℕ × List ℤ) × Result ℕ Refusal
 lists_of x = ((x.accounts, x.totals), x.listed)
 
 -- a list has room for k items, and past these it is as it was
@@ -40,36 +36,36 @@ pub record KeptPast {A : Type 0} (k : ℕ) (before after : List A) : Type 0 wher
 -- both lists are so, where the listing answers a count
 abbrev pub PastCount : List ℕ → List ℤ → Shown → Type 0
 PastCount accounts totals x =
-    (k : ℕ) → x.listed ≡ Listed.Count k → KeptPast k accounts x.accounts × KeptPast k totals x.totals
+    (k : ℕ) → x.listed ≡ Ok k → KeptPast k accounts x.accounts × KeptPast k totals x.totals
 
 -- every call over these words but an opening is refused with 8, and all is as it was
 pub record AllStrange (l : List ℕ) : Type 0 where
-  pub call : (w kind a : ℕ) (v : ℤ) → call_words l w kind a v ≡ (l, Called.Refused Refusal.Strange)
-  pub step : (w : ℕ) → step_words l w ≡ (l, Stepped.Refused Refusal.Strange)
-  pub run : (w most : ℕ) → run_words l w most ≡ (l, Ran.Refused Refusal.Strange)
+  pub call : (w kind a : ℕ) (v : ℤ) → call_words l w kind a v ≡ (l, Err Refusal.Strange)
+  pub step : (w : ℕ) → step_words l w ≡ (l, Err Refusal.Strange)
+  pub run : (w most : ℕ) → run_words l w most ≡ (l, Err Refusal.Strange)
   pub listing :
       (accounts : List ℕ) (totals : List ℤ)
       → listing_words l accounts totals
-      ≡ record { accounts = accounts; totals = totals; listed = Listed.Refused Refusal.Strange }
+      ≡ record { accounts = accounts; totals = totals; listed = Err Refusal.Strange }
 
 -- Demand 1.
 pub record Demand1 : Type 0 where
   -- "told by a public call, which answers 1 for wrong settings": nothing is lent
-  pub needed : (n b M : ℕ) → RefusedBy Needed.Refused (needed_checks n b M) (tt {0}) (tt, needed_for (built n b M))
+  pub needed : (n b M : ℕ) → RefusedBy Err (needed_checks n b M) (tt {0}) (tt, needed_for (built n b M))
   -- "Opening checks 1, 2"
   pub opening :
-      (l : List ℕ) (n b M : ℕ) → RefusedBy Opened.Refused (opening_checks l n b M) l (open_words l n b M)
+      (l : List ℕ) (n b M : ℕ) → RefusedBy Err (opening_checks l n b M) l (open_words l n b M)
   -- "A call checks 8, 3, 4, 6, 7."
   pub call :
-      (l : List ℕ) (w kind a : ℕ) (v : ℤ) → RefusedBy Called.Refused (call_checks l w kind) l (call_words l w kind a v)
+      (l : List ℕ) (w kind a : ℕ) (v : ℤ) → RefusedBy Err (call_checks l w kind) l (call_words l w kind a v)
   -- "A step checks 8, 3, 5."
-  pub step : (l : List ℕ) (w : ℕ) → RefusedBy Stepped.Refused (step_checks l w) l (step_words l w)
+  pub step : (l : List ℕ) (w : ℕ) → RefusedBy Err (step_checks l w) l (step_words l w)
   -- "up to k steps": as a step
-  pub run : (l : List ℕ) (w most : ℕ) → RefusedBy Ran.Refused (step_checks l w) l (run_words l w most)
+  pub run : (l : List ℕ) (w most : ℕ) → RefusedBy Err (step_checks l w) l (run_words l w most)
   -- "The listing checks 8, 10"
   pub listing :
       (l accounts : List ℕ) (totals : List ℤ)
-      → RefusedBy Listed.Refused (listing_checks l accounts totals) (accounts, totals)
+      → RefusedBy Err (listing_checks l accounts totals) (accounts, totals)
       (lists_of (listing_words l accounts totals))
   -- "and nothing past the count"
   pub count : (l accounts : List ℕ) (totals : List ℤ) → PastCount accounts totals (listing_words l accounts totals)
@@ -96,7 +92,7 @@ written_of x = ((x.accounts, x.totals, x.report), x.number)
 
 -- every function over these words but the opening's returns 8, and all is as it was
 pub record AllStrangeInC (l : List ℕ) : Type 0 where
-  pub call : (w kind a : ℕ) (v : ℤ) → flat called_number (call_words l w kind a v) ≡ (l, number_of Refusal.Strange)
+  pub call : (w kind a : ℕ) (v : ℤ) → flat done_number (call_words l w kind a v) ≡ (l, number_of Refusal.Strange)
   pub step :
       (report : List ℕ) (w : ℕ)
       → step_left l report w ≡ record { lent = l; report = report; number = number_of Refusal.Strange }
@@ -112,10 +108,10 @@ pub record AllStrangeInC (l : List ℕ) : Type 0 where
 pub record Demand1ForC : Type 0 where
   pub needed : (n b M : ℕ) → RefusedInC (needed_checks n b M) (tt {0}) (tt, needed_number (needed_for (built n b M)))
   pub opening :
-      (l : List ℕ) (n b M : ℕ) → RefusedInC (opening_checks l n b M) l (flat opened_number (open_words l n b M))
+      (l : List ℕ) (n b M : ℕ) → RefusedInC (opening_checks l n b M) l (flat done_number (open_words l n b M))
   pub call :
       (l : List ℕ) (w kind a : ℕ) (v : ℤ)
-      → RefusedInC (call_checks l w kind) l (flat called_number (call_words l w kind a v))
+      → RefusedInC (call_checks l w kind) l (flat done_number (call_words l w kind a v))
   pub step : (l report : List ℕ) (w : ℕ) → RefusedInC (step_checks l w) (l, report) (left_of (step_left l report w))
   pub run :
       (l report : List ℕ) (w most : ℕ) → RefusedInC (step_checks l w) (l, report) (left_of (run_left l report w most))

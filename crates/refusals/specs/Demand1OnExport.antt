@@ -1,9 +1,8 @@
 -- Demand 1 for the export, over any words and any output, and the same for the C function. Rests on the listing's first
 -- check and on the definitions that the two contracts equal.
-use Rattle.std.specs.Prelude.{ℕ, ◌≡◌, List, [], ◌∷◌, ltb, length, replicate}
+use Rattle.std.specs.Prelude.{ℕ, ◌≡◌, List, [], ◌∷◌, ltb, length, replicate, Result, Ok, Err}
 use Rattle.interface.specs.Numbers.{number_of}
 use Rattle.interface.specs.declared.Refusal.{Refusal}
-use Rattle.interface.specs.declared.Exported.{Exported}
 use Rattle.layout.specs.Shape.{shape_of}
 use Rattle.rows.specs.Rows.{rows}
 use Rattle.csv_file.specs.Csv.{csv_file}
@@ -21,15 +20,15 @@ unfoldable pub export_checks : List ℕ → List ℕ → List Check
 export_checks l out = check8 l ∷ export_check10 l out ∷ []
 
 -- past the bytes written the output is as it was, where their number is answered
-abbrev pub PastBytes : List ℕ → List ℕ × Exported → Type 0
-PastBytes out x = (k : ℕ) → x.1 ≡ Exported.Bytes k → KeptPast k out x.0
+abbrev pub PastBytes : List ℕ → List ℕ × Result ℕ Refusal → Type 0
+PastBytes out x = (k : ℕ) → x.1 ≡ Ok k → KeptPast k out x.0
 
 pub record Demand1OnExport : Type 0 where
   -- "and untouched"
-  pub export : (l out : List ℕ) → RefusedBy Exported.Refused (export_checks l out) out (export_words l out)
+  pub export : (l out : List ℕ) → RefusedBy Err (export_checks l out) out (export_words l out)
   pub bytes : (l out : List ℕ) → PastBytes out (export_words l out)
   -- 8 "always on memory of zeros"
-  pub zeros : (k : ℕ) (out : List ℕ) → export_words (replicate k 0) out ≡ (out, Exported.Refused Refusal.Strange)
+  pub zeros : (k : ℕ) (out : List ℕ) → export_words (replicate k 0) out ≡ (out, Err Refusal.Strange)
   -- the C function: the same checks, and the report is kept too
   pub export_in_c :
       (l out report : List ℕ) → RefusedInC (export_checks l out) (out, report) (left_of (export_left l out report))

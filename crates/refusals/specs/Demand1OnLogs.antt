@@ -1,6 +1,6 @@
 -- Demand 1 for the judgement of a log, over any words for it and any list for the order, and the same for the C
 -- function. Rests on the contract of the judgement.
-use Rattle.std.specs.Prelude.{ℕ, ◌≡◌, not, List, [], ◌∷◌, ltb, length}
+use Rattle.std.specs.Prelude.{ℕ, ◌≡◌, not, List, [], ◌∷◌, ltb, length, Ok, Err}
 use Rattle.interface.specs.Limits.{least_workers}
 use Rattle.interface.specs.declared.Refusal.{Refusal}
 use Rattle.interface.specs.declared.Verdict.{Verdict}
@@ -26,10 +26,10 @@ log_checks l b M order = check1 least_workers b M ∷ check14 l ∷ log_check10 
 pub record Demand1OnLogs : Type 0 where
   pub judged :
       (l : List ℕ) (b M : ℕ) (order : List ℕ)
-      → RefusedBy Verdict.Refused (log_checks l b M order) order (check_log_words l b M order)
+      → RefusedBy Err (log_checks l b M order) order (check_log_words l b M order)
   -- nothing is written past the places of the log
   pub past :
-      (l : List ℕ) (b M : ℕ) (order : List ℕ) → (check_log_words l b M order).1 ≡ Verdict.Accepted
+      (l : List ℕ) (b M : ℕ) (order : List ℕ) → (check_log_words l b M order).1 ≡ Ok Verdict.Accepted
       → KeptPast (count_of l) order (check_log_words l b M order).0
   -- the C function: the same checks
   pub judged_in_c :

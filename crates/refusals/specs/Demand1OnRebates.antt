@@ -1,9 +1,8 @@
 -- Demand 1 for the rebates on a table's totals, over any words and lists, and the same for the C function. Rests on the
 -- listing's checks and on the definitions that the two contracts equal.
-use Rattle.std.specs.Prelude.{ℕ, ◌≡◌, ◌||◌, List, [], ◌∷◌, ltb, length, replicate}
+use Rattle.std.specs.Prelude.{ℕ, ◌≡◌, ◌||◌, List, [], ◌∷◌, ltb, length, replicate, Result, Ok, Err}
 use Rattle.interface.specs.Numbers.{number_of}
 use Rattle.interface.specs.declared.Refusal.{Refusal}
-use Rattle.interface.specs.declared.Listed.{Listed}
 use Rattle.layout.specs.Shape.{shape_of}
 use Rattle.rows.specs.Rows.{rows}
 use Rattle.rebates.specs.Rebates.{Rebated, rebates_words}
@@ -22,7 +21,7 @@ unfoldable pub rebates_checks : List ℕ → List ℕ → List ℕ → List Chec
 rebates_checks l accounts rebates = check8 l ∷ rebates_check10 l accounts rebates ∷ []
 
 -- both lists afterwards, and the answer
-unfoldable pub rebate_lists_of : Rebated → (List ℕ × List ℕ) × Listed
+unfoldable pub rebate_lists_of : Rebated → (List ℕ × List ℕ) × Result ℕ Refusal
 rebate_lists_of x = ((x.accounts, x.rebates), x.listed)
 
 -- both lists and the report afterwards, and the number
@@ -32,12 +31,12 @@ written_rebates_of x = ((x.accounts, x.rebates, x.report), x.number)
 -- past the count both lists are as they were, where a count is answered
 abbrev pub RebatesPastCount : List ℕ → List ℕ → Rebated → Type 0
 RebatesPastCount accounts rebates x =
-    (k : ℕ) → x.listed ≡ Listed.Count k → KeptPast k accounts x.accounts × KeptPast k rebates x.rebates
+    (k : ℕ) → x.listed ≡ Ok k → KeptPast k accounts x.accounts × KeptPast k rebates x.rebates
 
 pub record Demand1OnRebates : Type 0 where
   pub rebates :
       (l accounts rebates : List ℕ)
-      → RefusedBy Listed.Refused (rebates_checks l accounts rebates) (accounts, rebates)
+      → RefusedBy Err (rebates_checks l accounts rebates) (accounts, rebates)
       (rebate_lists_of (rebates_words l accounts rebates))
   -- "and nothing past the count"
   pub count : (l accounts rebates : List ℕ) → RebatesPastCount accounts rebates (rebates_words l accounts rebates)
@@ -45,7 +44,7 @@ pub record Demand1OnRebates : Type 0 where
   pub zeros :
       (k : ℕ) (accounts rebates : List ℕ)
       → rebates_words (replicate k 0) accounts rebates
-      ≡ record { accounts = accounts; rebates = rebates; listed = Listed.Refused Refusal.Strange }
+      ≡ record { accounts = accounts; rebates = rebates; listed = Err Refusal.Strange }
   -- the C function: the same checks, and the report is kept too
   pub rebates_in_c :
       (l accounts rebates report : List ℕ)

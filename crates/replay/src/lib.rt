@@ -2,8 +2,7 @@
 // operation is about it, as 0, or as 1 and its total. Rests on the words of a log, and on the sums of totals.
 #![tactic(auto)]
 
-ghost use Rattle.std.specs.Prelude.{◌≡◌, Bool, false, ℕ, ◌*◌, ◌^◌, ◌≤◌, ◌<◌, length};
-ghost use Rattle.std.proofs.Math.Option.{some};
+ghost use Rattle.std.specs.Prelude.{Some, ◌≡◌, Bool, false, ℕ, ◌*◌, ◌^◌, ◌≤◌, ◌<◌, length};
 ghost use Rattle.std.specs.Int.{w64};
 ghost use Rattle.std.proofs.Common.{to_z};
 ghost use Rattle.interface.specs.Numbers.{kind_insert, kind_delete, kind_lookup, kind_post};
@@ -178,7 +177,7 @@ fn looked_up(log: &[u64], i: usize, there: u64, total: u64) -> Outcome
 fn summed(log: &[u64], i: usize, total: u64) -> Outcome
     requires { (i < 2 ^ 32) × (word_at log.now i logged_kind ≡ kind_post) }
     ensures { result ≡ as_outcome (still_at log.now i)
-        (outcome_of (logged_at log.now i) false (some (to_z w64 total))) }
+        (outcome_of (logged_at log.now i) false (Some (to_z w64 total))) }
 {
     let answer = word_at(log, i, LOGGED_ANSWER);
     let logged = word_at(log, i, LOGGED_ANSWER_TOTAL);

@@ -1,31 +1,27 @@
 -- What a command does to the words and what it is met with. 01, The driver: "Each line is met with `ok`, `refused` and
 -- its number, `moved` and the steps given, or `answered`, .." Rests on the table's calls and on the lines' commands and
 -- replies.
-use Rattle.std.specs.Prelude.{ℕ, List, pos}
+use Rattle.std.specs.Prelude.{ℕ, List, pos, Result, Ok, Err, ⊤}
 use Rattle.interface.specs.Numbers.{number_of, kind_insert, kind_delete, kind_lookup, kind_post}
-use Rattle.interface.specs.declared.Opened.{Opened}
-use Rattle.interface.specs.declared.Called.{Called}
 use Rattle.interface.specs.declared.Ran.{Ran}
 use Rattle.commands.specs.declared.Command.{Command}
 use Rattle.replies.specs.declared.Reply.{Reply}
 use Rattle.opening.specs.Opening.{open_words}
 use Rattle.calls.specs.Calls.{call_words}
 use Rattle.runs.specs.Runs.{run_words}
+use Rattle.interface.specs.declared.Refusal.{Refusal}
 
 -- ---- the replies of the calls
 
-unfoldable pub of_opened : Opened → Reply
-of_opened Opened.Opened = Reply.Ok
-of_opened (Opened.Refused r) = Reply.Refused (number_of r)
+-- of an opening, or of a call
+unfoldable pub of_done : Result ⊤ Refusal → Reply
+of_done (Ok _) = Reply.Ok
+of_done (Err r) = Reply.Refused (number_of r)
 
-unfoldable pub of_called : Called → Reply
-of_called Called.Accepted = Reply.Ok
-of_called (Called.Refused r) = Reply.Refused (number_of r)
-
-unfoldable pub of_ran : Ran → Reply
-of_ran (Ran.Moved k) = Reply.Moved k
-of_ran (Ran.Answered c) = Reply.Answered c
-of_ran (Ran.Refused r) = Reply.Refused (number_of r)
+unfoldable pub of_ran : Result Ran Refusal → Reply
+of_ran (Ok (Ran.Moved k)) = Reply.Moved k
+of_ran (Ok (Ran.Answered c)) = Reply.Answered c
+of_ran (Err r) = Reply.Refused (number_of r)
 
 -- ---- commands
 
@@ -36,11 +32,11 @@ replying reply x = (x.0, reply x.1)
 -- the words after a command, and its reply; a delete and a lookup have no total; a listing changes no words and has no
 -- reply of this type: it is met by its rows
 unfoldable pub responded : List ℕ → Command → List ℕ × Reply
-responded l (Command.Open n b M) = replying of_opened (open_words l n b M)
-responded l (Command.Insert w a t) = replying of_called (call_words l w kind_insert a t)
-responded l (Command.Delete w a) = replying of_called (call_words l w kind_delete a (pos 0))
-responded l (Command.Lookup w a) = replying of_called (call_words l w kind_lookup a (pos 0))
-responded l (Command.Post w a v) = replying of_called (call_words l w kind_post a v)
+responded l (Command.Open n b M) = replying of_done (open_words l n b M)
+responded l (Command.Insert w a t) = replying of_done (call_words l w kind_insert a t)
+responded l (Command.Delete w a) = replying of_done (call_words l w kind_delete a (pos 0))
+responded l (Command.Lookup w a) = replying of_done (call_words l w kind_lookup a (pos 0))
+responded l (Command.Post w a v) = replying of_done (call_words l w kind_post a v)
 responded l (Command.Steps w k) = replying of_ran (run_words l w k)
 responded l Command.List = (l, Reply.Unread)
 responded l Command.Unread = (l, Reply.Unread)

@@ -4,11 +4,11 @@
 
 ghost use Rattle.std.specs.Prelude.{◌≡◌};
 ghost use Rattle.outputs.specs.Outputs.{state_of};
-ghost use Rattle.responses.specs.Responses.{responded, of_opened, of_called, of_ran};
+ghost use Rattle.responses.specs.Responses.{responded, of_done, of_ran};
 ghost use Rattle.responses.specs.Answers.{is_list, answered};
 
 use commands::Command;
-use interface::{Called, KIND_DELETE, KIND_INSERT, KIND_LOOKUP, KIND_POST, Opened, Ran};
+use interface::{KIND_DELETE, KIND_INSERT, KIND_LOOKUP, KIND_POST, Ran, Refusal};
 use outputs::{put_reply, show};
 use replies::Reply;
 
@@ -52,17 +52,17 @@ pub fn respond(words: &mut [u64], c: Command) -> Reply
     ensures { (words.new, result) ≡ responded words.old c }
 {
     match c {
-        Command::Open(n, b, m) => of_opened(table::open(words, n, b, m)),
-        Command::Insert(w, account, total) => of_called(table::call(
+        Command::Open(n, b, m) => of_done(table::open(words, n, b, m)),
+        Command::Insert(w, account, total) => of_done(table::call(
             words,
             w,
             KIND_INSERT,
             account,
             total,
         )),
-        Command::Delete(w, account) => of_called(table::call(words, w, KIND_DELETE, account, 0)),
-        Command::Lookup(w, account) => of_called(table::call(words, w, KIND_LOOKUP, account, 0)),
-        Command::Post(w, account, amount) => of_called(table::call(
+        Command::Delete(w, account) => of_done(table::call(words, w, KIND_DELETE, account, 0)),
+        Command::Lookup(w, account) => of_done(table::call(words, w, KIND_LOOKUP, account, 0)),
+        Command::Post(w, account, amount) => of_done(table::call(
             words, w, KIND_POST, account, amount,
         )),
         Command::Steps(w, k) => of_ran(table::run(words, w, k)),
@@ -71,30 +71,22 @@ pub fn respond(words: &mut [u64], c: Command) -> Reply
     }
 }
 
-fn of_opened(o: Opened) -> Reply
-    ensures { result ≡ of_opened o }
+// An opening's reply, or a call's.
+fn of_done(done: Result<(), Refusal>) -> Reply
+    ensures { result ≡ of_done done }
 {
-    match o {
-        Opened::Opened => Reply::Ok,
-        Opened::Refused(why) => Reply::Refused(why.number()),
+    match done {
+        Ok(()) => Reply::Ok,
+        Err(why) => Reply::Refused(why.number()),
     }
 }
 
-fn of_called(a: Called) -> Reply
-    ensures { result ≡ of_called a }
+fn of_ran(ran: Result<Ran, Refusal>) -> Reply
+    ensures { result ≡ of_ran ran }
 {
-    match a {
-        Called::Accepted => Reply::Ok,
-        Called::Refused(why) => Reply::Refused(why.number()),
-    }
-}
-
-fn of_ran(a: Ran) -> Reply
-    ensures { result ≡ of_ran a }
-{
-    match a {
-        Ran::Moved(steps) => Reply::Moved(steps),
-        Ran::Answered(end) => Reply::Answered(end),
-        Ran::Refused(why) => Reply::Refused(why.number()),
+    match ran {
+        Ok(Ran::Moved(steps)) => Reply::Moved(steps),
+        Ok(Ran::Answered(end)) => Reply::Answered(end),
+        Err(why) => Reply::Refused(why.number()),
     }
 }

@@ -10,13 +10,13 @@ use lib.IntN.{ℤ}
 use lib.ListN.{length, replicate, length-replicate}
 use borrow.Author.Tests.{le-ltb}
 use Rattle.interface.specs.declared.Refusal.{Refusal}
-use Rattle.interface.specs.declared.Listed.{Listed}
 use Rattle.machine.proofs.laws.Base.{if_elim, no_both}
 use Rattle.layout.specs.Shape.{strange, shape_of}
 use Rattle.sorting.specs.RowLists.{rows_at}
 use Rattle.sorting.proofs.Rows.{rows_read}
 use Rattle.rows.specs.Rows.{rows, greatest_count, Shown, shown, listing_words}
 use Rattle.rows.proofs.RowLaws.{rows_few}
+use Rattle.std.specs.Prelude.{Ok, Err}
 
 -- every row of words that pass 8 is among the first n of two lists
 pub record AllRows (l : List ℕ) (n : ℕ) (accounts : List ℕ) (totals : List ℤ) : Type 0 where
@@ -36,9 +36,9 @@ module _ (l accounts : List ℕ) (totals : List ℤ) where
 
   module _ (n : ℕ) where
     abbrev Counted : Shown → Type 0
-    Counted x = x.listed ≡ Listed.Count n → AllRows l n x.accounts x.totals
+    Counted x = x.listed ≡ Ok n → AllRows l n x.accounts x.totals
 
-    refused_counted : (why : Refusal) → Counted (record { accounts = accounts; totals = totals; listed = Listed.Refused why })
+    refused_counted : (why : Refusal) → Counted (record { accounts = accounts; totals = totals; listed = Err why })
     refused_counted why e = let z : ◌≡◌ {A = ℕ} 0 1 = cc in absurd (omega arith)
 
     shown_counted : strange l ≡ false → Counted (shown accounts totals r)
@@ -56,7 +56,7 @@ module _ (l accounts : List ℕ) (totals : List ℤ) where
 
   module _ (why : Refusal) (long : greatest_count ≤ length accounts) (long' : greatest_count ≤ length totals) where
     abbrev Refused : Shown → Type 0
-    Refused x = x.listed ≡ Listed.Refused why → OnlyStrange l why
+    Refused x = x.listed ≡ Err why → OnlyStrange l why
 
     shown_refused : strange l ≡ false → Refused (shown accounts totals r)
     unfolding shown

@@ -14,7 +14,6 @@ use lib.Pow.{pow_mono}
 use borrow.Author.Tests.{lt-ltb, le-ltb}
 use Rattle.interface.specs.declared.Settings.{Settings}
 use Rattle.interface.specs.declared.Refusal.{Refusal}
-use Rattle.interface.specs.declared.Listed.{Listed}
 use Rattle.machine.specs.Choice.{when◌then◌else◌}
 use Rattle.machine.proofs.laws.Base.{if_true, if_false}
 use Rattle.lists.specs.Parts.{overlay}
@@ -28,6 +27,7 @@ use Rattle.rows.specs.Rows.{rows_from, unsorted, rows, greatest_count, shown, li
 use Rattle.entries.specs.Entries.{rows_of}
 use Rattle.entries.proofs.EntryLaws.{entry_limit, span_limit}
 use Rattle.lists.proofs.PartLaws.{overlay_join, length_overlay}
+use Rattle.std.specs.Prelude.{Ok, Err}
 
 -- ---- the entries
 
@@ -116,7 +116,7 @@ span_is d h =
 -- ---- the listing
 
 module _ (l a : List ℕ) (t : List ℤ) (x : Bool) (tested : x ≡ strange l) where
-  pub listing_strange : x ≡ true → record { accounts = a; totals = t; listed = Listed.Refused Refusal.Strange } ≡ listing_words l a t
+  pub listing_strange : x ≡ true → record { accounts = a; totals = t; listed = Err Refusal.Strange } ≡ listing_words l a t
   unfolding listing_words
   listing_strange e = sym (if_true _ _ (sym tested ∙ e))
 
@@ -130,14 +130,14 @@ module _ (l a : List ℕ) (t : List ℤ) (x : Bool) (tested : x ≡ strange l) w
     listing_shown = rw read (sym (if_false _ _ (sym tested ∙ passed)))
 
     pub listing_narrow :
-        (length a < k) ⊎ (length t < k) → record { accounts = a; totals = t; listed = Listed.Refused Refusal.Narrow } ≡ listing_words l a t
+        (length a < k) ⊎ (length t < k) → record { accounts = a; totals = t; listed = Err Refusal.Narrow } ≡ listing_words l a t
     unfolding shown when◌then◌else◌
     listing_narrow h =
         ⊎_elim (λ n. rw (lt-ltb _ _ (rw count at n))) (λ n. rw (lt-ltb _ _ (rw count at n), or-true)) h ∙ listing_shown
 
     pub listing_all :
         (b : List ℕ) (u : List ℤ) → k ≤ length a → k ≤ length t → RowsWritten a t 0 (sorted (unsorted l g)) b u
-        → record { accounts = b; totals = u; listed = Listed.Count k } ≡ listing_words l a t
+        → record { accounts = b; totals = u; listed = Ok k } ≡ listing_words l a t
     unfolding rows shown when◌then◌else◌
     listing_all b u n m w =
         rw (w.0, w.1, count) ((rw (

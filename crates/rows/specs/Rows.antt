@@ -1,9 +1,8 @@
 -- The listing on the words, for any words: for each entry of the directory at depth M, those accounts of its bucket
 -- whose first M bits are the entry; all of them by account, ascending. Rests on the rows of one entry, and on sorting.
-use Rattle.std.specs.Prelude.{ℕ, zero, suc, ◌^◌, ◌||◌, List, [], ◌++◌, ltb, length, ℤ}
+use Rattle.std.specs.Prelude.{ℕ, zero, suc, ◌^◌, ◌||◌, List, [], ◌++◌, ltb, length, ℤ, Result, Ok, Err}
 use Rattle.interface.specs.declared.Settings.{Settings}
 use Rattle.interface.specs.declared.Refusal.{Refusal}
-use Rattle.interface.specs.declared.Listed.{Listed}
 use Rattle.machine.specs.Choice.{when◌then◌else◌}
 use Rattle.layout.specs.Shape.{strange, shape_of}
 use Rattle.sorting.specs.Sorting.{sorted}
@@ -30,21 +29,21 @@ greatest_count = 4_096
 pub record Shown : Type 0 where
   pub accounts : List ℕ
   pub totals : List ℤ
-  pub listed : Listed
+  pub listed : Result ℕ Refusal
 
 -- the rows at the start of both lists, nothing past them; where a list is too short for them, nothing at all
 unfoldable pub shown : List ℕ → List ℤ → List (ℕ × ℤ) → Shown
 shown accounts totals r =
     when ltb (length accounts) (length r) || ltb (length totals) (length r)
-    then record { accounts = accounts; totals = totals; listed = Listed.Refused Refusal.Narrow }
+    then record { accounts = accounts; totals = totals; listed = Err Refusal.Narrow }
     else record {
       accounts = accounts_with accounts 0 r;
       totals = totals_with totals 0 r;
-      listed = Listed.Count (length r);
+      listed = Ok (length r);
     }
 
 -- "The listing checks 8, 10."
 unfoldable pub listing_words : List ℕ → List ℕ → List ℤ → Shown
 listing_words l accounts totals =
-    when strange l then record { accounts = accounts; totals = totals; listed = Listed.Refused Refusal.Strange }
+    when strange l then record { accounts = accounts; totals = totals; listed = Err Refusal.Strange }
     else shown accounts totals (rows l (shape_of l))

@@ -9,7 +9,7 @@ ghost use Rattle.rows.specs.Rows.{unsorted, listing_words};
 
 use entries::{count_in, write_in};
 use fields::HEADER_SETTINGS;
-use interface::{Listed, Refusal, Settings};
+use interface::{Refusal, Settings};
 use layout::shape::{settings_of, strange_words};
 
 // The most rows that a listing has: 256 buckets of 16.
@@ -47,22 +47,22 @@ fn write(words: &[u64], g: Settings, accounts: &mut [u32], totals: &mut [i64])
 }
 
 // The accounts in ascending order with their totals, nothing past the count: checks 8, 10.
-pub fn listing(words: &[u64], accounts: &mut [u32], totals: &mut [i64]) -> Listed
+pub fn listing(words: &[u64], accounts: &mut [u32], totals: &mut [i64]) -> Result<u64, Refusal>
     ensures { record { accounts = accounts.new; totals = totals.new; listed = result }
         ≡ listing_words words.now accounts.old totals.old }
 {
     if strange_words(words) {
-        return Listed::Refused(Refusal::Strange);
+        return Err(Refusal::Strange);
     }
     let g = settings_of(words[HEADER_SETTINGS]);
     let k = count(words, g);
     if accounts.len() < k {
-        return Listed::Refused(Refusal::Narrow);
+        return Err(Refusal::Narrow);
     }
     if totals.len() < k {
-        return Listed::Refused(Refusal::Narrow);
+        return Err(Refusal::Narrow);
     }
     write(words, g, accounts, totals);
     sorting::sort(accounts, totals, k);
-    Listed::Count(k as u64)
+    Ok(k as u64)
 }

@@ -3,7 +3,7 @@
 // insert by `run` at n 1, and 2,058 through `operation_step` (docs/DECISIONS.md, 42).
 #![tactic(auto)]
 
-ghost use Rattle.std.specs.Prelude.{◌≡◌, ◌≤◌, ◌<◌};
+ghost use Rattle.std.specs.Prelude.{Ok, ◌≡◌, ◌≤◌, ◌<◌};
 ghost use Rattle.layout.specs.Shape.{settings_of, Fits};
 ghost use Rattle.runs.specs.Runs.{longest_run, run_in, run_words};
 
@@ -21,7 +21,7 @@ const LONGEST_RUN: u64 = 256;
 // Up to so many steps of worker w.
 fn run_in(words: &mut [u64], x: u64, w: usize, most: u64) -> Ran
     requires { Fits words.old (settings_of x) × ((w < (settings_of x).workers) × (most ≤ longest_run)) }
-    ensures { (words.new, result) ≡ run_in words.old (settings_of x) w 0 most }
+    ensures { (words.new, Ok result) ≡ run_in words.old (settings_of x) w 0 most }
 {
     let g = settings_of(x);
     let p = worker_at(g, w);
@@ -34,18 +34,14 @@ fn run_in(words: &mut [u64], x: u64, w: usize, most: u64) -> Ran
         let k = memory::get(words, p + WORKER_STEPS) % STEPS_RANGE;
         memory::put(words, p + WORKER_STEPS, k + 1);
         if kind == KIND_LOOKUP {
-            match lookup_step(words, g, p, k) {
-                Stepped::Moved => {}
-                Stepped::Answered(c) => return Ran::Answered(c),
-                Stepped::Refused(_) => return Ran::Moved(done),
+            if let Stepped::Answered(c) = lookup_step(words, g, p, k) {
+                return Ran::Answered(c);
             }
         } else if k < 2 * g.workers + 9 {
             early_step(words, x, w, k as usize);
         } else {
-            match update_step(x, w, words, k) {
-                Stepped::Moved => {}
-                Stepped::Answered(c) => return Ran::Answered(c),
-                Stepped::Refused(_) => return Ran::Moved(done),
+            if let Stepped::Answered(c) = update_step(x, w, words, k) {
+                return Ran::Answered(c);
             }
         }
         done += 1;
@@ -54,29 +50,20 @@ fn run_in(words: &mut [u64], x: u64, w: usize, most: u64) -> Ran
 }
 
 // Up to so many steps of a worker, ending early at an answer: checks 8, 3, 5.
-pub fn run(words: &mut [u64], worker: u64, most: u64) -> Ran
+pub fn run(words: &mut [u64], worker: u64, most: u64) -> Result<Ran, Refusal>
     ensures { (words.new, result) ≡ run_words words.old worker most }
 {
     if strange_words(words) {
-        return Ran::Refused(Refusal::Strange);
+        return Err(Refusal::Strange);
     }
     let x = words[HEADER_SETTINGS];
     let g = settings_of(x);
     if g.workers <= worker {
-        return Ran::Refused(Refusal::Stranger);
+        return Err(Refusal::Stranger);
     }
     let w = worker as usize;
     if memory::get(words, worker_at(g, w) + WORKER_KIND) == KIND_NONE {
-        return Ran::Refused(Refusal::Idle);
+        return Err(Refusal::Idle);
     }
-    run_in(
-        words,
-        x,
-        w,
-        if most < LONGEST_RUN {
-            most
-        } else {
-            LONGEST_RUN
-        },
-    )
+    Ok(run_in(words, x, w, most.min(LONGEST_RUN)))
 }

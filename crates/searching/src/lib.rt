@@ -2,8 +2,7 @@
 // an operation replayed. Each contract is an equality with a definition.
 #![tactic(auto)]
 
-ghost use Rattle.std.specs.Prelude.{◌≡◌, eqb, leb, ◌*◌, ◌≤◌, ◌<◌, length};
-ghost use Rattle.std.proofs.Math.Option.{none};
+ghost use Rattle.std.specs.Prelude.{None, ◌≡◌, eqb, leb, ◌*◌, ◌≤◌, ◌<◌, length};
 ghost use Rattle.machine.specs.Choice.{◌and◌};
 ghost use Rattle.logs.specs.Log.{operation_words, greatest_operations, word_at, logged_call, greatest_word};
 ghost use Rattle.logs.specs.Same.{same_numbers};
@@ -103,7 +102,7 @@ fn exchanged(
 
 // That no operation fits.
 fn unfit(balances: [u64; BALANCES]) -> Replayed
-    ensures { result ≡ as_replayed balances none }
+    ensures { result ≡ as_replayed balances None }
 {
     Replayed {
         fits: false,

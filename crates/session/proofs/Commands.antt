@@ -16,7 +16,6 @@ use Rattle.interface.specs.Numbers.{number_of, kind_insert, kind_delete, kind_lo
 use Rattle.interface.specs.Limits.{in_range}
 use Rattle.interface.specs.declared.Settings.{Settings}
 use Rattle.interface.specs.declared.Refusal.{Refusal}
-use Rattle.interface.specs.declared.Called.{Called}
 use Rattle.machine.specs.Choice.{when◌then◌else◌}
 use Rattle.machine.specs.Sequential.{Table, having}
 use Rattle.machine.specs.Records.{Machine, new_bucket, first_cells, opened}
@@ -37,7 +36,7 @@ use Rattle.replies.specs.Printed.{printed, printed_reply, printed_rows, printed_
 use Rattle.commands.specs.declared.Command.{Command}
 use Rattle.commands.specs.Commands.{line_of}
 use Rattle.lines.specs.Session.{told}
-use Rattle.responses.specs.Responses.{of_opened, of_called, of_ran, replying, responded}
+use Rattle.responses.specs.Responses.{of_done, of_ran, replying, responded}
 use Rattle.responses.specs.Answers.{is_list}
 use Rattle.texts.specs.Texts.{rows_text, listing_text, text_on, words_on}
 use Rattle.simulation.proofs.OpeningMeans.{strange_never, shape_is, opened_means}
@@ -47,6 +46,7 @@ use Rattle.session.proofs.Same.{Opened, Meant, Same, Alike}
 use Rattle.simulation.proofs.lengths.CallLengths.{length_call, length_run, length_opened}
 use Rattle.session.proofs.Lines.{Said}
 use Rattle.session.proofs.Steps.{run_alike}
+use Rattle.std.specs.Prelude.{Result, Ok, Err, ⊤}
 
 -- a command that is no listing left the words x .0 and is met with x.1
 record Replied (x : List ℕ × Reply) (y : Script.Response) : Type 0 where
@@ -57,7 +57,7 @@ record Replied (x : List ℕ × Reply) (y : Script.Response) : Type 0 where
 -- ---- opening
 
 fresh_meant : (l : List ℕ) (s : Settings) → in_range s.workers s.capacity s.depth ≡ true → words_needed s ≤ length l
-    → Opened (overlay l 0 (fresh_words s)) s opened
+    → Result ⊤ Refusal (overlay l 0 (fresh_words s)) s opened
 unfolding opened first_cells new_bucket having
 fresh_meant l s range enough = record {
   range = range;
@@ -71,16 +71,16 @@ fresh_meant l s range enough = record {
 
 module _ (l : List ℕ) (x : Script.Memory) (h : Same l x) where
   abbrev open_replied : Opening → Type 0
-  open_replied o = Replied ((opened_as l o).0, of_opened (opened_as l o).1) (Script.opening_response x o)
+  open_replied o = Replied ((opened_as l o).0, of_done (opened_as l o).1) (Script.opening_response x o)
 
   open_refused : (o : Opening) (r : Refusal) → o ≡ refuses r → open_replied o
-  unfolding of_opened Script.opening_response printed_reply
+  unfolding of_done Script.opening_response printed_reply
   open_refused o r e = rw e (record { text = refl; count = h.count; meant = h.meant })
 
   open_accepted :
       (o : Opening) (s : Settings) → o ≡ opens s opened → in_range s.workers s.capacity s.depth ≡ true → words_needed s ≤ 8_192
       → open_replied o
-  unfolding of_opened Script.opening_response printed_reply
+  unfolding of_done Script.opening_response printed_reply
   open_accepted o s e range enough =
       let k = h.count in
       rw e (record { text = refl; count = length_opened l s (omega arith) ∙ k; meant = fresh_meant l s range (omega arith) })
@@ -95,40 +95,40 @@ module _ (l : List ℕ) (x : Script.Memory) (h : Same l x) where
       by true e false f = open_refused _ Refusal.Short (opening_short n b M 8_192 e (leb-false _ _ f))
       by false e w f = open_refused _ Refusal.Settings (opening_settings n b M 8_192 e)
 
-  open-replied : (n b M : ℕ) → Replied (replying of_opened (open_words l n b M)) (Script.opening_response x (opening n b M 8_192))
+  open-replied : (n b M : ℕ) → Replied (replying of_done (open_words l n b M)) (Script.opening_response x (opening n b M 8_192))
   unfolding replying
   open-replied n b M =
       let e : open_words l n b M ≡ opened_as l (opening n b M 8_192) =
       open_alike l n b M ∙ ap (λ (k : ℕ). opened_as l (opening n b M k)) h.count in
-      subst⁻¹ (λ y. Replied (y.0, of_opened y.1) (Script.opening_response x (opening n b M 8_192))) e (open_cases n b M)
+      subst⁻¹ (λ y. Replied (y.0, of_done y.1) (Script.opening_response x (opening n b M 8_192))) e (open_cases n b M)
 
 -- ---- calls
 
 module _ (l : List ℕ) (count : length l ≡ 8_192) (w kind a : ℕ) (v : ℤ) where
   strange_call : strange l ≡ true
-      → Replied (replying of_called (call_words l w kind a v))
+      → Replied (replying of_done (call_words l w kind a v))
       (record { memory = Script.zeros; reply = Script.refused (number_of Refusal.Strange) })
-  unfolding replying call_words of_called printed_reply when◌then◌else◌
+  unfolding replying call_words of_done printed_reply when◌then◌else◌
   strange_call e = rw e (record { text = refl; count = count; meant = e })
 
-  module _ (s : Settings) (m : Machine) (h : Opened l s m) (narrow : a < 2 ^ 32) (fits : SFits w64 v) where
-    call_text : (x y : Called) → x ≡ y → printed_reply (of_called x) ≡ printed (Script.call_response s (call s m w kind a v).0 y).reply
-    unfolding of_called Script.call_response printed_reply
-    call_text x Called.Accepted e = rw e
-    call_text x (Called.Refused r) e = rw e
+  module _ (s : Settings) (m : Machine) (h : Result ⊤ Refusal l s m) (narrow : a < 2 ^ 32) (fits : SFits w64 v) where
+    call_text : (x y : Result ⊤ Refusal) → x ≡ y → printed_reply (of_done x) ≡ printed (Script.call_response s (call s m w kind a v).0 y).reply
+    unfolding of_done Script.call_response printed_reply
+    call_text x (Ok _) e = rw e
+    call_text x (Err r) e = rw e
 
-    call_memory : (y : Called) → (Script.call_response s (call s m w kind a v).0 y).memory ≡ Script.holding s (call s m w kind a v).0
+    call_memory : (y : Result ⊤ Refusal) → (Script.call_response s (call s m w kind a v).0 y).memory ≡ Script.holding s (call s m w kind a v).0
     unfolding Script.call_response
-    call_memory Called.Accepted = refl
-    call_memory (Called.Refused r) = refl
+    call_memory (Ok _) = refl
+    call_memory (Err r) = refl
 
-    call_represents : Opened (call_words l w kind a v).0 s (call s m w kind a v).0
+    call_represents : Result ⊤ Refusal (call_words l w kind a v).0 s (call s m w kind a v).0
     unfolding next
     call_represents =
         record { range = h.range; represents = represents_next s h.range l m h.represents (calling w kind a v) (narrow, fits) tt }
 
     call_replied :
-        Replied (replying of_called (call_words l w kind a v)) (Script.call_response s (call s m w kind a v).0 (call s m w kind a v).1)
+        Replied (replying of_done (call_words l w kind a v)) (Script.call_response s (call s m w kind a v).0 (call s m w kind a v).1)
     unfolding replying
     call_replied = record {
       text = call_text _ _ (call_alike s h.range l m h.represents w kind a v narrow fits).1;
@@ -145,7 +145,7 @@ module _ (l : List ℕ) (count : length l ≡ 8_192) (w : ℕ) where
   strange_run k e = rw e (record { text = refl; count = count; meant = e })
 
   run_replied :
-      (s : Settings) (m : Machine) → Opened l s m → (k : ℕ) → 1 ≤ k → Replied (replying of_ran (run_words l w k)) (Script.steps s w 0 k m)
+      (s : Settings) (m : Machine) → Result ⊤ Refusal l s m → (k : ℕ) → 1 ≤ k → Replied (replying of_ran (run_words l w k)) (Script.steps s w 0 k m)
   unfolding replying
   run_replied s m h zero more = absurd (omega arith)
   run_replied s m h (suc k) more =
@@ -181,7 +181,7 @@ strange_listing : (l : List ℕ) (x y : ℕ) → strange l ≡ true → listing_
 unfolding listing_text printed_reply when◌then◌else◌
 strange_listing l x y e = rw e
 
-module _ (l : List ℕ) (s : Settings) (m : Machine) (h : Opened l s m) (x y : ℕ) where
+module _ (l : List ℕ) (s : Settings) (m : Machine) (h : Result ⊤ Refusal l s m) (x y : ℕ) where
   shown_rows : rows l (shape_of l) ≡ contents m
   shown_rows = let k = h.represents in
       ap (rows l) (shape_is s h.range l m k.means) ∙ rows_are s h.range l m k.means k.good k.table k.parts

@@ -14,11 +14,8 @@ use borrow.Author.Tests.{le-ltb}
 use Rattle.interface.specs.Numbers.{bytes, number_of, kind_insert, kind_delete, kind_lookup, kind_post}
 use Rattle.interface.specs.declared.Settings.{Settings}
 use Rattle.interface.specs.declared.Refusal.{Refusal}
-use Rattle.interface.specs.declared.Opened.{Opened}
-use Rattle.interface.specs.declared.Called.{Called}
 use Rattle.interface.specs.declared.Stepped.{Stepped}
 use Rattle.interface.specs.declared.Ran.{Ran}
-use Rattle.interface.specs.declared.Built.{Built}
 use Rattle.interface.specs.Limits.{in_range, built}
 use Rattle.interface.proofs.Laws.{wrong_settings, right_settings}
 use Rattle.machine.specs.Sequential.{Table}
@@ -34,11 +31,12 @@ use Rattle.rows.proofs.RowLaws.{rows_few}
 use Rattle.opening.specs.Opening.{open_words, opened_words}
 use Rattle.calls.specs.Calls.{call_in, call_words}
 use Rattle.runs.specs.Runs.{last_of, or_else, run_in, run_words}
-use Rattle.responses.specs.Responses.{of_opened, of_called, of_ran, replying, responded}
+use Rattle.responses.specs.Responses.{of_done, of_ran, replying, responded}
 use Rattle.responses.specs.Answers.{is_list}
 use Rattle.texts.specs.Texts.{rows_text, listing_text, text_on, words_on, ended, reader_after, last_feed}
 use Rattle.lines.specs.Reading.{fresh}
 use Rattle.session.specs.Program.{NeverNarrowOn, NeverNarrow}
+use Rattle.std.specs.Prelude.{Result, Ok, Err, ⊤}
 
 -- ---- texts that are not `refused 10`
 
@@ -105,21 +103,21 @@ rows_another (e ∷ t) n = by_first _ _ refl (λ h. let k = first in omega arith
 -- ---- commands that are no listing
 
 other_built :
-    (l : List ℕ) (x : Built) → ((r : Refusal) → x ≡ Built.Refused r → r ≡ Refusal.Settings) → OtherReply (of_opened (opened_words l x).1)
-unfolding opened_words of_opened
-other_built l (Built.Refused r) h = rw (h r refl) (omega arith)
-other_built l (Built.Settings s) h = if_elim (λ (x : List ℕ × Opened). OtherReply (of_opened x.1)) _ _ _ (λ e. tt) (λ e. omega arith)
+    (l : List ℕ) (x : Result Settings Refusal) → ((r : Refusal) → x ≡ Err r → r ≡ Refusal.Settings) → OtherReply (of_done (opened_words l x).1)
+unfolding opened_words of_done
+other_built l (Err r) h = rw (h r refl) (omega arith)
+other_built l (Ok s) h = if_elim (λ (x : List ℕ × Result ⊤ Refusal). OtherReply (of_done x.1)) _ _ _ (λ e. tt) (λ e. omega arith)
 
-other_opened : (l : List ℕ) (n b M : ℕ) → OtherReply (of_opened (open_words l n b M).1)
+other_opened : (l : List ℕ) (n b M : ℕ) → OtherReply (of_done (open_words l n b M).1)
 unfolding open_words
 other_opened l n b M = other_built l (built n b M) (λ r e. by (in_range n b M) refl r e)
   where
-    by : (t : Bool) → in_range n b M ≡ t → (r : Refusal) → built n b M ≡ Built.Refused r → r ≡ Refusal.Settings
+    by : (t : Bool) → in_range n b M ≡ t → (r : Refusal) → built n b M ≡ Err r → r ≡ Refusal.Settings
     by true h r e = let q = right_settings n b M h in absurd (let z : ◌≡◌ {A = ℕ} 0 1 = cc in omega arith)
     by false h r e = let q = wrong_settings n b M h in cc
 
-other_called : (l : List ℕ) (w kind a : ℕ) (v : ℤ) → OtherReply (of_called (call_words l w kind a v).1)
-unfolding call_words call_in of_called
+other_called : (l : List ℕ) (w kind a : ℕ) (v : ℤ) → OtherReply (of_done (call_words l w kind a v).1)
+unfolding call_words call_in of_done
 other_called l w kind a v =
     if_elim other _ _ _ (λ e. omega arith)
     (λ e.
@@ -130,21 +128,21 @@ other_called l w kind a v =
     if_elim other _ _ _ (λ e. omega arith)
     (λ e. if_elim other _ _ _ (λ e. tt) (λ e. if_elim other _ _ _ (λ e. omega arith) (λ e. tt))))))
   where
-    other : List ℕ × Called → Type 0
-    other x = OtherReply (of_called x.1)
+    other : List ℕ × Result ⊤ Refusal → Type 0
+    other x = OtherReply (of_done x.1)
 
-other_last : (l : List ℕ) (k : ℕ) (x : Stepped) (later : List ℕ × Ran) → OtherReply (of_ran later.1)
+other_last : (l : List ℕ) (k : ℕ) (x : Result Stepped Refusal) (later : List ℕ × Result Ran Refusal) → OtherReply (of_ran later.1)
     → OtherReply (of_ran (or_else l (last_of k x) later).1)
 unfolding or_else last_of of_ran
-other_last l k Stepped.Moved later h = h
-other_last l k (Stepped.Answered c) later h = tt
-other_last l k (Stepped.Refused r) later h = tt
+other_last l k (Ok Stepped.Moved) later h = h
+other_last l k (Ok (Stepped.Answered c)) later h = tt
+other_last l k (Err r) later h = tt
 
 other_run : (f : ℕ) (l : List ℕ) (s : Settings) (w k : ℕ) → OtherReply (of_ran (run_in l s w k f).1)
 unfolding run_in of_ran
 other_run zero l s w k = tt
 other_run (suc f) l s w k =
-    if_elim (λ (x : List ℕ × Ran). OtherReply (of_ran x.1)) _ _ _ (λ e. tt) (λ e. other_last _ k _ _ (other_run f _ s w (suc k)))
+    if_elim (λ (x : List ℕ × Result Ran Refusal). OtherReply (of_ran x.1)) _ _ _ (λ e. tt) (λ e. other_last _ k _ _ (other_run f _ s w (suc k)))
 
 other_ran : (l : List ℕ) (w most : ℕ) → OtherReply (of_ran (run_words l w most).1)
 unfolding run_words of_ran
@@ -152,7 +150,7 @@ other_ran l w most =
     if_elim other _ _ _ (λ e. omega arith)
     (λ e. if_elim other _ _ _ (λ e. omega arith) (λ e. if_elim other _ _ _ (λ e. omega arith) (λ e. other_run _ l _ w 0)))
   where
-    other : List ℕ × Ran → Type 0
+    other : List ℕ × Result Ran Refusal → Type 0
     other x = OtherReply (of_ran x.1)
 
 other_response : (l : List ℕ) (c : Command) → OtherReply (responded l c).1

@@ -6,7 +6,7 @@ use mathlib.Core.Path.{◌≡◌, refl, ap, ◌∙◌}
 use mathlib.Core.Logic.{◌≢◌}
 use mathlib.Core.Bool.{Bool, true, false, not, or-true}
 use mathlib.Core.List.{List}
-use Rattle.std.specs.Prelude.{Option, Some, None}
+use Rattle.std.specs.Prelude.{Option, Some, None, Result, Ok, Err, ⊤}
 use lib.Dec.{eqb, leb}
 use lib.IntN.{ℤ}
 use lib.ListN.{set}
@@ -18,7 +18,6 @@ use Rattle.interface.specs.Limits.{greatest_ticket}
 use Rattle.interface.specs.Numbers.{kind_none, kind_insert, kind_delete, kind_lookup, kind_post, greatest_kind}
 use Rattle.interface.specs.declared.Settings.{Settings}
 use Rattle.interface.specs.declared.Refusal.{Refusal}
-use Rattle.interface.specs.declared.Called.{Called}
 use Rattle.machine.specs.Choice.{when◌then◌else◌, assign}
 use Rattle.machine.specs.Sequential.{Update, insert, delete, post, Operation, update, lookup}
 use Rattle.machine.specs.Records.{Worker, Machine}
@@ -85,14 +84,14 @@ module _ {s : Settings} {l : List ℕ} {m : Machine} {w : ℕ} (ready : Ready s 
         (free ready l' _ _ free-there (words.are worker_marks (omega arith)))
 
   -- what is answered, and what the words mean then
-  abbrev pub Alike : List ℕ × Called → Machine × Called → Type 0
+  abbrev pub Alike : List ℕ × Result ⊤ Refusal → Machine × Result ⊤ Refusal → Type 0
   Alike x y = Meaning s x.0 y.0 × (x.1 ≡ y.1)
 
   module _ (kind a : ℕ) (v : ℤ) where
     abbrev pub Answers : Type 0
     Answers = Alike (call_in l p kind a v) (call s m w kind a v)
 
-    alike : {x : List ℕ × Called} {y : Machine × Called} → call_in l p kind a v ≡ x → call s m w kind a v ≡ y → Alike x y → Answers
+    alike : {x : List ℕ × Result ⊤ Refusal} {y : Machine × Result ⊤ Refusal} → call_in l p kind a v ≡ x → call s m w kind a v ≡ y → Alike x y → Answers
     alike e f h = rw (e, f) h
 
     busy_answers : (o : Operation) → (m.workers w).operation ≡ Some o → Answers
@@ -120,7 +119,7 @@ module _ {s : Settings} {l : List ℕ} {m : Machine} {w : ℕ} (ready : Ready s 
       update_answers :
           (u : Update) → operation_of kind a v ≡ Some (update u) → operation_in called ≡ Some (update u) → a < 2 ^ 32 → called.total < 2 ^ 64
           → call_in l p kind a v ≡ (
-          when leb greatest_ticket before then (l, Called.Refused Refusal.Spent) else (begun_at l p called, Called.Accepted))
+          when leb greatest_ticket before then (l, Err Refusal.Spent) else (begun_at l p called, Ok tt))
           → Answers
       unfolding ticket_for
       update_answers u e f narrow fits g = go (leb greatest_ticket before) refl

@@ -3,7 +3,7 @@
 use Prim.Native.Nat.{ℕ}
 use mathlib.Core.Path.{◌≡◌, refl, ap, sym, ◌∙◌}
 use mathlib.Core.Bool.{Bool, true, false, ◌||◌}
-use Rattle.std.specs.Prelude.{Option, Some, None}
+use Rattle.std.specs.Prelude.{Option, Some, None, Result, ⊤}
 use lib.Dec.{leb, ltb}
 use lib.ListN.{length}
 use lib.IntN.{ℤ}
@@ -12,7 +12,6 @@ use Rattle.interface.specs.Limits.{in_range}
 use Rattle.interface.specs.declared.Settings.{Settings}
 use Rattle.interface.specs.declared.Answer.{Answer}
 use Rattle.interface.specs.declared.Refusal.{Refusal}
-use Rattle.interface.specs.declared.Called.{Called}
 use Rattle.interface.specs.declared.Stepped.{Stepped}
 use Rattle.fields.specs.Regions.{words_needed}
 use Rattle.machine.specs.Sequential.{Table, Operation}
@@ -52,7 +51,7 @@ module _ (s : Settings) (m : Machine) where
   call_recognised j kind a v =
       if_elim Told (ltb j s.workers) _ _ (λ _. by (m.workers j).operation (operation_of kind a v)) (λ _. refl)
     where
-      Told : Machine × Called → Type 0
+      Told : Machine × Result ⊤ Refusal → Type 0
       Told x = is_strange (refusal_of (to_call x.1)) ≡ false
 
       by : (o p : Option Operation) → Told (call_of m j o p)
@@ -64,7 +63,7 @@ module _ (s : Settings) (m : Machine) where
   unfolding step step_of refusal_in done step_reply
   step_recognised j = if_elim Told (ltb j s.workers) _ _ (λ _. by (m.workers j).operation) (λ _. refl)
     where
-      Told : Machine × Stepped → Type 0
+      Told : Machine × Result Stepped Refusal → Type 0
       Told x = is_strange (refusal_in x.1) ≡ false
 
       replied : (k c : ℕ) (a : Option Answer) → is_strange (refusal_in (step_reply k c a)) ≡ false

@@ -15,10 +15,7 @@ use borrow.Author.Tests.{le-leb, lt-leb}
 use Rattle.interface.specs.Limits.{in_range, built}
 use Rattle.interface.specs.declared.Settings.{Settings}
 use Rattle.interface.specs.declared.Refusal.{Refusal}
-use Rattle.interface.specs.declared.Called.{Called}
 use Rattle.interface.specs.declared.Stepped.{Stepped}
-use Rattle.interface.specs.declared.Opened.{Opened}
-use Rattle.interface.specs.declared.Built.{Built}
 use Rattle.machine.specs.Choice.{when◌then◌else◌}
 use Rattle.machine.specs.Sequential.{Table, having}
 use Rattle.machine.specs.Records.{Machine, new_bucket, first_cells, opened}
@@ -49,6 +46,7 @@ use Rattle.simulation.proofs.StepMeans.{step_means}
 use Rattle.simulation.proofs.OpeningMeans.{shape_is, strange_never, opened_means}
 use Rattle.simulation.proofs.RowsMean.{rows_are}
 use Rattle.simulation.proofs.lengths.CallLengths.{length_call, length_step, length_open}
+use Rattle.std.specs.Prelude.{Result, Ok, Err, ⊤}
 
 pub typed_at : (es : List Entry) → AllTyped es → (i : ℕ) → Typed (entry_at es i)
 unfolding entry_at
@@ -59,17 +57,17 @@ typed_at (e ∷ es) t (suc i) = typed_at es t.1 i
 -- ---- openings
 
 -- what an opening leaves and answers
-abbrev pub opened_as : List ℕ → Opening → List ℕ × Opened
-opened_as l (opens s m) = (overlay l 0 (fresh_words s), Opened.Opened)
-opened_as l (refuses r) = (l, Opened.Refused r)
+abbrev pub opened_as : List ℕ → Opening → List ℕ × Result ⊤ Refusal
+opened_as l (opens s m) = (overlay l 0 (fresh_words s), Ok tt)
+opened_as l (refuses r) = (l, Err r)
 
 pub open_alike : (l : List ℕ) (n b M : ℕ) → open_words l n b M ≡ opened_as l (opening n b M (length l))
 unfolding open_words opening opened_words opening_of
 open_alike l n b M = go (built n b M)
   where
-    go : (x : Built) → opened_words l x ≡ opened_as l (opening_of x (length l))
-    go (Built.Refused r) = refl
-    go (Built.Settings s) = sym (if_ap (opened_as l) (leb (words_needed s) (length l)) (opens s opened) (refuses Refusal.Short))
+    go : (x : Result Settings Refusal) → opened_words l x ≡ opened_as l (opening_of x (length l))
+    go (Err r) = refl
+    go (Ok s) = sym (if_ap (opened_as l) (leb (words_needed s) (length l)) (opens s opened) (refuses Refusal.Short))
 
 -- ---- the listing
 
@@ -96,7 +94,7 @@ shown_on l accounts totals = go (strange l) refl
 
 -- ---- one entry
 
-opening_replies : {p q : Opened} → to_opening p ≡ to_opening q → p ≡ q
+opening_replies : {p q : Result ⊤ Refusal} → to_opening p ≡ to_opening q → p ≡ q
 opening_replies e = cc
 
 -- the words mean a good machine whose buckets together are a plain table
@@ -126,7 +124,7 @@ module _ (s : Settings) (range : in_range s.workers s.capacity s.depth ≡ true)
             let e : step_words l w ≡ step_in l s w = rw (not_strange, shape, lt-leb s.workers w known) in
             rw e (step_means (ready w known))
         go (no beyond) =
-            let e : step_words l w ≡ (l, Stepped.Refused Refusal.Stranger) = rw (not_strange, shape, le-leb s.workers w (omega arith)) in
+            let e : step_words l w ≡ (l, Err Refusal.Stranger) = rw (not_strange, shape, le-leb s.workers w (omega arith)) in
             rw (e, step_stranger s m w (omega arith)) (h.means, refl)
 
     module _ (w kind a : ℕ) (v : ℤ) (narrow : a < 2 ^ 32) (fits : SFits w64 v) where
@@ -141,7 +139,7 @@ module _ (s : Settings) (range : in_range s.workers s.capacity s.depth ≡ true)
               rw (not_strange, shape, lt-leb s.workers w known) in
               rw e (call_means (ready w known) kind a v narrow fits)
           go (no beyond) =
-              let e : call_words l w kind a v ≡ (l, Called.Refused Refusal.Stranger) =
+              let e : call_words l w kind a v ≡ (l, Err Refusal.Stranger) =
               rw (not_strange, shape, le-leb s.workers w (omega arith)) in
               rw (e, call_stranger s m w kind a v (omega arith)) (h.means, refl)
 
@@ -168,7 +166,7 @@ module _ (s : Settings) (range : in_range s.workers s.capacity s.depth ≡ true)
     words_kept n b M h =
         ap (λ r. r.0) (open_alike l n b M) ∙ go (opening n b M (length l)) (ap (λ r. r.1) (sym (open_alike l n b M)) ∙ h.1)
       where
-        go : (o : Opening) {r : Refusal} → (opened_as l o).1 ≡ Opened.Refused r → (opened_as l o).0 ≡ l
+        go : (o : Opening) {r : Refusal} → (opened_as l o).1 ≡ Err r → (opened_as l o).0 ≡ l
         go (opens k f) e = absurd (let z : ◌≡◌ {A = ℕ} 0 1 = cc in omega arith)
         go (refuses r) e = refl
 
@@ -254,13 +252,13 @@ pub record Start (l : List ℕ) (n b M : ℕ) : Type 0 where
   pub represents : Represents (settings n b M) (open_words l n b M).0 opened
   pub opens : opening n b M (length (open_words l n b M).0) ≡ opens (settings n b M) opened
 
-pub started : (l : List ℕ) (n b M : ℕ) → (open_words l n b M).1 ≡ Opened.Opened → Start l n b M
+pub started : (l : List ℕ) (n b M : ℕ) → (open_words l n b M).1 ≡ Ok tt → Start l n b M
 unfolding opened first_cells new_bucket having
 started l n b M e = go (opening n b M (length l)) refl
   where
     go : (o : Opening) → opening n b M (length l) ≡ o → Start l n b M
     go (refuses r) q =
-        let w : (open_words l n b M).1 ≡ Opened.Refused r = ap (λ r. r.1) (open_alike l n b M ∙ ap (opened_as l) q) in
+        let w : (open_words l n b M).1 ≡ Err r = ap (λ r. r.1) (open_alike l n b M ∙ ap (opened_as l) q) in
         absurd (let z : ◌≡◌ {A = ℕ} 0 1 = cc in omega arith)
     go (opens s m) q =
         let r = opening_leaves n b M (length l) q in

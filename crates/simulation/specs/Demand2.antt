@@ -1,10 +1,8 @@
 -- Demand 2: along every list from an accepted opening the words mean the machine after the same entries, and each call
 -- on them replies as the machine does. Rests on what words mean, on the lent words as a system, and on a run as steps.
-use Rattle.std.specs.Prelude.{ℕ, ◌≤◌, ◌≡◌, List, [], length, ℤ, Option, Some, None}
+use Rattle.std.specs.Prelude.{ℕ, ◌≤◌, ◌≡◌, List, [], length, ℤ, Option, Some, None, Ok, Err}
 use Rattle.interface.specs.declared.Settings.{Settings}
 use Rattle.interface.specs.declared.Refusal.{Refusal}
-use Rattle.interface.specs.declared.Opened.{Opened}
-use Rattle.interface.specs.declared.Called.{Called}
 use Rattle.machine.specs.Records.{Machine, opened}
 use Rattle.machine.specs.Calls.{settings, lists, declines, listing}
 use Rattle.machine.specs.Systems.{Entry, machines, Replied, to_call, to_step, to_listing, to_opening, reply}
@@ -18,13 +16,13 @@ use Rattle.simulation.specs.Runs.{by_steps}
 
 -- the refusal in a reply, if it is one
 unfoldable pub refusal_of : Replied → Option Refusal
-refusal_of (to_call Called.Accepted) = None
-refusal_of (to_call (Called.Refused r)) = Some r
+refusal_of (to_call (Ok _)) = None
+refusal_of (to_call (Err r)) = Some r
 refusal_of (to_step x) = refusal_in x
 refusal_of (to_listing (lists t)) = None
 refusal_of (to_listing (declines r)) = Some r
-refusal_of (to_opening Opened.Opened) = None
-refusal_of (to_opening (Opened.Refused r)) = Some r
+refusal_of (to_opening (Ok _)) = None
+refusal_of (to_opening (Err r)) = Some r
 
 -- A list of entries given to the words l and to an opened machine with as many words lent, by indices.
 module _ (s : Settings) (l : List ℕ) (es : List Entry) where

@@ -1,11 +1,9 @@
 -- The lent words with the library's calls, as a system that a list of entries is given to, and the lists that demands 2
 -- and 3 speak of. Rests on the definitions that the calls' contracts equal, and on lists of entries.
-use Rattle.std.specs.Prelude.{ℕ, ◌^◌, ◌<◌, ◌≡◌, List, [], ◌∷◌, map, length, ℤ}
+use Rattle.std.specs.Prelude.{ℕ, ◌^◌, ◌<◌, ◌≡◌, List, [], ◌∷◌, map, length, ℤ, Ok, Err}
 use Rattle.std.specs.Int.{w64}
 use Rattle.std.proofs.Common.{SFits}
 use Rattle.interface.specs.declared.Refusal.{Refusal}
-use Rattle.interface.specs.declared.Opened.{Opened}
-use Rattle.interface.specs.declared.Listed.{Listed}
 use Rattle.machine.specs.Choice.{when◌then◌else◌}
 use Rattle.machine.specs.Calls.{settings, Listing, lists, declines, listing_of}
 use Rattle.machine.specs.Systems.{System, Entry, calling, stepping, showing, reopening}
@@ -26,13 +24,13 @@ listing_on l accounts totals =
 
 -- the two lists after it, and its answer
 abbrev pub shown_as : List ℕ → List ℤ → Listing → Shown
-shown_as accounts totals (declines r) = record { accounts = accounts; totals = totals; listed = Listed.Refused r }
+shown_as accounts totals (declines r) = record { accounts = accounts; totals = totals; listed = Err r }
 shown_as accounts totals (lists t) =
     record {
       accounts = overlay accounts 0 (map (λ x. x.0) t);
       totals = overlay totals 0 (map (λ x. x.1) t);
       listed =
-          Listed.Count (length t);
+          Ok (length t);
     }
 
 -- the state is the whole memory that is lent
@@ -55,6 +53,6 @@ AllTyped (e ∷ es) = Typed e × AllTyped es
 -- "It starts from the memory that an accepted opening left, for any settings. Each entry is lent the whole memory as
 -- the one before left it": the list es after the opening with n, b and M of a memory that held l
 pub record FromOpening (l : List ℕ) (n b M : ℕ) (es : List Entry) : Type 0 where
-  pub accepted : (open_words l n b M).1 ≡ Opened.Opened
+  pub accepted : (open_words l n b M).1 ≡ Ok tt
   pub typed : AllTyped es
   pub refused : OpeningsRefused (settings n b M) lent_words (open_words l n b M).0 [] es

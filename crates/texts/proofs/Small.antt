@@ -1,7 +1,7 @@
 -- Every reply's numbers are of 64 bits, and so are the rows of a listing, for any words. Rests on the table's calls.
 use Prim.Native.Nat.{ℕ, zero, suc, ◌+◌, ◌^◌, ◌≤◌, ◌<◌}
 use mathlib.Core.List.{List}
-use Rattle.std.specs.Prelude.{Option}
+use Rattle.std.specs.Prelude.{Option, Result, Ok, Err, ⊤}
 use native.Mathlib.Nat.{mod-lt}
 use native.Mathlib.Omega.{arith}
 use lib.Dec.{eqb}
@@ -10,8 +10,6 @@ use Rattle.interface.specs.declared.Settings.{Settings}
 use Rattle.interface.specs.declared.Answer.{Answer}
 use Rattle.interface.specs.declared.Answer.TheVariants.{Added, Replaced, Removed, Absent, Crowded, Overrun}
 use Rattle.interface.specs.declared.Refusal.{Refusal}
-use Rattle.interface.specs.declared.Opened.{Opened}
-use Rattle.interface.specs.declared.Called.{Called}
 use Rattle.interface.specs.declared.Stepped.{Stepped}
 use Rattle.interface.specs.declared.Ran.{Ran}
 use Rattle.fields.specs.Fields.{steps_range, totals_from}
@@ -30,7 +28,7 @@ use Rattle.runs.specs.Runs.{last_of, or_else, run_in, longest_run, run_words}
 use Rattle.rows.proofs.SmallRows.{small_total}
 use Rattle.commands.specs.declared.Command.{Command}
 use Rattle.replies.specs.declared.Reply.{Reply}
-use Rattle.responses.specs.Responses.{of_opened, of_called, of_ran, replying, responded}
+use Rattle.responses.specs.Responses.{of_done, of_ran, replying, responded}
 use Rattle.texts.proofs.Lengths.{small_answer, small_reply}
 
 -- ---- numbers of refusals
@@ -49,10 +47,10 @@ small_number Refusal.BadLog = omega arith
 
 -- ---- a step
 
-small_stepped : Stepped → Type 0
-small_stepped Stepped.Moved = Unit {0}
-small_stepped (Stepped.Answered c) = (c.steps < 2 ^ 64) × small_answer c.answer
-small_stepped (Stepped.Refused r) = Unit {0}
+small_stepped : Result Stepped Refusal → Type 0
+small_stepped (Ok Stepped.Moved) = Unit {0}
+small_stepped (Ok (Stepped.Answered c)) = (c.steps < 2 ^ 64) × small_answer c.answer
+small_stepped (Err r) = Unit {0}
 
 small_stored : (x total : ℕ) → small_answer (answer_of x total)
 unfolding answer_of small_answer
@@ -107,22 +105,22 @@ small_lookup l s p (suc k) h = small_ended l p (suc k) _ _ h (small_found l s _ 
 small_operation : (l : List ℕ) (s : Settings) (p w k : ℕ) → k < steps_range → small_stepped (operation_at l s p w k).1
 unfolding operation_at
 small_operation l s p w k h =
-    if_elim (λ (x : List ℕ × Stepped). small_stepped x.1) _ _ _ (λ e. small_lookup _ s p k h) (λ e. small_update _ s p w k _ h)
+    if_elim (λ (x : List ℕ × Result Stepped Refusal). small_stepped x.1) _ _ _ (λ e. small_lookup _ s p k h) (λ e. small_update _ s p w k _ h)
 
 -- ---- a run
 
-small_last : (l : List ℕ) (k : ℕ) (x : Stepped) (later : List ℕ × Ran) → k < 2 ^ 64 → small_stepped x → small_reply (of_ran later.1)
+small_last : (l : List ℕ) (k : ℕ) (x : Result Stepped Refusal) (later : List ℕ × Result Ran Refusal) → k < 2 ^ 64 → small_stepped x → small_reply (of_ran later.1)
     → small_reply (of_ran (or_else l (last_of k x) later).1)
 unfolding or_else last_of of_ran small_stepped small_reply
-small_last l k Stepped.Moved later h s r = r
-small_last l k (Stepped.Answered c) later h s r = s
-small_last l k (Stepped.Refused x) later h s r = h
+small_last l k (Ok Stepped.Moved) later h s r = r
+small_last l k (Ok (Stepped.Answered c)) later h s r = s
+small_last l k (Err x) later h s r = h
 
 small_run : (s : Settings) (w f : ℕ) (l : List ℕ) (k : ℕ) → k + f < 2 ^ 64 → small_reply (of_ran (run_in l s w k f).1)
 unfolding run_in of_ran small_reply
 small_run s w zero l k h = omega arith
 small_run s w (suc f) l k h =
-    if_elim (λ (x : List ℕ × Ran). small_reply (of_ran x.1)) _ _ _ (λ e. omega arith)
+    if_elim (λ (x : List ℕ × Result Ran Refusal). small_reply (of_ran x.1)) _ _ _ (λ e. omega arith)
     (λ e. small_last _ k _ _ (omega arith) (small_operation l s _ w _ (mod-lt _ (omega arith))) (small_run s w f _ (suc k) (omega arith)))
 
 least_within : (most : ℕ) → least most longest_run ≤ longest_run
@@ -136,20 +134,20 @@ small_ran l w most =
     if_elim small _ _ _ (λ e. small_number Refusal.Stranger)
     (λ e. if_elim small _ _ _ (λ e. small_number Refusal.Idle) (λ e. small_run _ w _ l 0 (omega (arith, least_within most)))))
   where
-    small : List ℕ × Ran → Type 0
+    small : List ℕ × Result Ran Refusal → Type 0
     small x = small_reply (of_ran x.1)
 
 -- ---- commands
 
-small_opened : (o : Opened) → small_reply (of_opened o)
-unfolding of_opened small_reply
-small_opened Opened.Opened = tt
-small_opened (Opened.Refused r) = small_number r
+small_opened : (o : Result ⊤ Refusal) → small_reply (of_done o)
+unfolding of_done small_reply
+small_opened (Ok _) = tt
+small_opened (Err r) = small_number r
 
-small_called : (a : Called) → small_reply (of_called a)
-unfolding of_called small_reply
-small_called Called.Accepted = tt
-small_called (Called.Refused r) = small_number r
+small_called : (a : Result ⊤ Refusal) → small_reply (of_done a)
+unfolding of_done small_reply
+small_called (Ok _) = tt
+small_called (Err r) = small_number r
 
 pub small_refused : (r : Refusal) → small_reply (Reply.Refused (number_of r))
 unfolding small_reply

@@ -11,7 +11,6 @@ use lib.IntN.{ℤ}
 use lib.ListN.{length, drop, length-append, length-drop}
 use borrow.Author.Tests.{le-leb, ltb-false}
 use Rattle.interface.specs.Numbers.{number_of}
-use Rattle.interface.specs.declared.Listed.{Listed}
 use Rattle.interface.specs.declared.Refusal.{Refusal}
 use Rattle.machine.specs.Choice.{when◌then◌else◌}
 use Rattle.machine.specs.Sequential.{Table}
@@ -35,6 +34,7 @@ use Rattle.responses.specs.Answers.{replied_as, is_list, answered}
 use Rattle.texts.specs.Texts.{rows_text, listing_text, text_on, words_on}
 use Rattle.texts.proofs.Lengths.{longest_reply, row_within, end_within, reply_within}
 use Rattle.texts.proofs.Small.{small_refused, small_response}
+use Rattle.std.specs.Prelude.{Ok, Err}
 
 -- ---- a text behind the used bytes
 
@@ -109,7 +109,7 @@ module _ (o : Output) (room : o.used + longest ≤ length o.bytes) where
   module _ (accounts : List ℕ) (totals : List ℤ) (few : length accounts ≤ 4_096) (t : Table) (short : Short t) where
     -- a listing that its lists hold
     counted_behind : length t ≤ length accounts
-        → put_listed o (overlay accounts 0 (map (λ x. x.0) t)) (overlay totals 0 (map (λ x. x.1) t)) (Listed.Count (length t))
+        → put_listed o (overlay accounts 0 (map (λ x. x.0) t)) (overlay totals 0 (map (λ x. x.1) t)) (Ok (length t))
         ≡ behind o (printed_rows t ++ printed_end (length t))
     unfolding put_listed overlay longest
     counted_behind h =
@@ -128,10 +128,10 @@ module _ (o : Output) (room : o.used + longest ≤ length o.bytes) where
       where
         by : (b : Bool) → ltb (length accounts) (length t) || ltb (length totals) (length t) ≡ b
             → let y : Shown =
-            when b then record { accounts = accounts; totals = totals; listed = Listed.Refused Refusal.Narrow } else record {
+            when b then record { accounts = accounts; totals = totals; listed = Err Refusal.Narrow } else record {
               accounts = overlay accounts 0 (map (λ x. x.0) t);
               totals = overlay totals 0 (map (λ x. x.1) t);
-              listed = Listed.Count (length t);
+              listed = Ok (length t);
             } in put_listed o y.accounts y.totals y.listed ≡ behind o
             (when b then printed_reply (Reply.Refused (number_of Refusal.Narrow)) else printed_rows t ++ printed_end (length t))
         by true h = reply_behind (Reply.Refused (number_of Refusal.Narrow)) (reply_within _ (small_refused Refusal.Narrow))

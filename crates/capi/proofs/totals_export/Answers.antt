@@ -1,10 +1,10 @@
 -- `totals_export` gives the number and the report of what `table::export` answers.
 -- Rests on the law of a number and a report.
-use Rattle.numbers.specs.Returned.{exported_number, exported_report}
+use Rattle.numbers.specs.Returned.{counted_number, counted_report}
 use Rattle.capi.proofs.Laws.{reported_is}
 use Rattle.capi.proofs.totals_export.Goals as goal
 
 pub returns : goal.returns
 returns c =
-    let n = c.exported_number.ensures in
-    reported_is exported_number _ _ _ _ c.export-answer.ensures n.1 exported_report _ _ n.0
+    let n = c.counted_number.ensures in
+    reported_is counted_number _ _ _ _ c.export-answer.ensures n.1 counted_report _ _ n.0

@@ -5,4 +5,4 @@ use Rattle.capi.proofs.totals_list.Goals as goal
 
 pub returns : goal.returns
 returns c =
-    written_is _ _ _ _ _ _ _ c.listing-answer.ensures c.listed_number.ensures.1 c.listed_number.ensures.0
+    written_is _ _ _ _ _ _ _ c.listing-answer.ensures c.counted_number.ensures.1 c.counted_number.ensures.0

@@ -5,5 +5,5 @@ use Rattle.capi.proofs.totals_rebates.Goals as goal
 
 pub returns : goal.returns
 returns c =
-    let number = c.listed_number.ensures in
+    let number = c.counted_number.ensures in
     written_rebates_is _ _ _ _ _ _ _ c.rebates-answer.ensures number.1 number.0

@@ -11,6 +11,7 @@ use Rattle.logs.proofs.Judgements.{few}
 use Rattle.judging.proofs.Judgement.{settings_in, settings_out, wrong_settings, bad_log, too_narrow, short, refused_as, answered}
 use Rattle.judging.proofs.check_log.Goals as goal
 use Rattle.judging.proofs.check_log.Goals.{After-is_log, After-search, Else-not-is_log}
+use Rattle.std.specs.Prelude.{Ok}
 
 pub returns-in_default : goal.returns-in_default
 returns-in_default c =
@@ -39,7 +40,7 @@ search-requires c =
     (short _ (good (goal.at.search-requires c).Else-not-is_log), (search rules, c.if-order-count.false))
 
 -- what the search found
-found : (c : After-search) → (c.search.new.order, when c.search.result then Verdict.Accepted else Verdict.No)
+found : (c : After-search) → (c.search.new.order, when c.search.result then Ok Verdict.Accepted else Ok Verdict.No)
     ≡ check_log_words c.args.log.now c.args.capacity c.args.depth c.args.order.now
 unfolding count_of
 found c =

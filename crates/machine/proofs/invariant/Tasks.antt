@@ -6,13 +6,12 @@ use native.Mathlib.Decide.{dec_lt}
 use mathlib.Core.Path.{◌≡◌, refl, ap, ◌∙◌, subst, subst⁻¹, fun_ext}
 use mathlib.Core.Logic.{inl, by_cases}
 use mathlib.Core.Bool.{true}
-use Rattle.std.specs.Prelude.{Option, Some, None}
+use Rattle.std.specs.Prelude.{Option, Some, None, Result, ⊤}
 use lib.Dec.{ltb, eqb}
 use lib.IntN.{ℤ}
 use borrow.Author.Tests.{ltb-true}
 use Rattle.interface.specs.declared.Settings.{Settings}
 use Rattle.interface.specs.declared.Answer.{Answer}
-use Rattle.interface.specs.declared.Called.{Called}
 use Rattle.interface.specs.declared.Stepped.{Stepped}
 use Rattle.interface.specs.Limits.{in_range}
 use Rattle.interface.proofs.Laws.{range_of}
@@ -35,6 +34,7 @@ use Rattle.machine.proofs.steps.DirectorySteps.{copy_d_ok, slot_d_more, slot_d_l
 use Rattle.machine.proofs.steps.Flip.{announce_ok, flip_ok}
 use Rattle.machine.proofs.steps.SwapBucket.{swap_ok}
 use Rattle.machine.proofs.steps.SwapDirectory.{redirect_ok}
+use Rattle.interface.specs.declared.Refusal.{Refusal}
 
 -- ---- each transition keeps the invariant
 
@@ -123,7 +123,7 @@ module _ (s : Settings) (range : in_range s.workers s.capacity s.depth ≡ true)
   call_good m j kind a v g = if_elim Left (ltb j s.workers) _ _
       (λ l. by (ltb-true j s.workers l) (m.workers j).operation refl (operation_of kind a v)) (λ l. g)
     where
-      Left : Machine × Called → Type 0
+      Left : Machine × Result ⊤ Refusal → Type 0
       Left x = Good s x.0
 
       by : j < s.workers → (o : Option Operation) → (m.workers j).operation ≡ o → (p : Option Operation) → Left (call_of m j o p)
@@ -135,7 +135,7 @@ module _ (s : Settings) (range : in_range s.workers s.capacity s.depth ≡ true)
   unfolding step step_of done
   step_good m j g = if_elim Left (ltb j s.workers) _ _ (λ l. by (ltb-true j s.workers l) (m.workers j).operation refl) (λ l. g)
     where
-      Left : Machine × Stepped → Type 0
+      Left : Machine × Result Stepped Refusal → Type 0
       Left x = Good s x.0
 
       by : j < s.workers → (o : Option Operation) → (m.workers j).operation ≡ o → Left (step_of s m j o)

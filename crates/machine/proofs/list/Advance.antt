@@ -7,7 +7,7 @@ use mathlib.Core.Path.{◌≡◌, refl, sym, ap, ◌∙◌, subst}
 use mathlib.Core.Logic.{◌≢◌, by_cases}
 use mathlib.Core.Bool.{true}
 use mathlib.Core.List.{[]}
-use Rattle.std.specs.Prelude.{Option, Some, None}
+use Rattle.std.specs.Prelude.{Option, Some, None, Result, Ok, Err, ⊤}
 use lib.Dec.{eqb}
 use lib.IntN.{ℤ}
 use borrow.Author.Tests.{eq-eqb}
@@ -16,7 +16,6 @@ use Rattle.interface.specs.declared.Settings.{Settings}
 use Rattle.interface.specs.declared.Answer.{Answer}
 use Rattle.interface.specs.declared.Refusal.{Refusal}
 use Rattle.interface.specs.declared.Stepped.{Stepped}
-use Rattle.interface.specs.declared.Called.{Called}
 use Rattle.machine.specs.Choice.{when◌then◌else◌}
 use Rattle.machine.specs.Sequential.{Table, Operation, update, lookup}
 use Rattle.machine.specs.Records.{Cells, Worker, Machine}
@@ -34,10 +33,10 @@ use Rattle.machine.proofs.invariant.Tasks.{Good}
 use Rattle.machine.proofs.moments.Explain.{Parts, status_at, status, outcome, serve_all, answers_of, Explained, reply_to}
 use Rattle.machine.proofs.moments.StepExplained.{step_explained}
 
-abbrev pub answer_in : Stepped → Option Answer
-answer_in Stepped.Moved = None
-answer_in (Stepped.Answered c) = Some c.answer
-answer_in (Stepped.Refused r) = None
+abbrev pub answer_in : Result Stepped Refusal → Option Answer
+answer_in (Ok Stepped.Moved) = None
+answer_in (Ok (Stepped.Answered c)) = Some c.answer
+answer_in (Err r) = None
 
 -- ---- an accepted step, an accepted call
 
@@ -53,8 +52,8 @@ module _ (s : Settings) (m : Machine) (j : ℕ) where
   accepted_step h = by_cases (dec_lt j s.workers) (λ l. by l (m.workers j).operation refl)
       (λ l. absurd (not_refused (step_stranger s m j (omega arith))))
     where
-      not_refused : {r : Refusal} → step s m j ≡ (m, Stepped.Refused r) → ⊥
-      not_refused e = no_both h (ap (λ (x : Machine × Stepped). moves x.1) e)
+      not_refused : {r : Refusal} → step s m j ≡ (m, Err r) → ⊥
+      not_refused e = no_both h (ap (λ (x : Machine × Result Stepped Refusal). moves x.1) e)
 
       by : j < s.workers → (o : Option Operation) → (m.workers j).operation ≡ o → StepParts s m j
       by l None e = absurd (not_refused (step_idle s m j l e))
@@ -66,7 +65,7 @@ pub record CallParts (s : Settings) (m : Machine) (j kind a : ℕ) (v : ℤ) : T
   pub idle : (m.workers j).operation ≡ None
   pub operation : Operation
   pub asks : operation_of kind a v ≡ Some operation
-  pub is : call s m j kind a v ≡ (begun m j operation, Called.Accepted)
+  pub is : call s m j kind a v ≡ (begun m j operation, Ok tt)
 
 module _ (s : Settings) (m : Machine) (j kind a : ℕ) (v : ℤ) where
   pub accepted_call : accepts (call s m j kind a v).1 ≡ true → CallParts s m j kind a v
@@ -74,14 +73,14 @@ module _ (s : Settings) (m : Machine) (j kind a : ℕ) (v : ℤ) where
   accepted_call h = by_cases (dec_lt j s.workers) (λ l. by l (m.workers j).operation refl)
       (λ l. absurd (not_refused (call_stranger s m j kind a v (omega arith))))
     where
-      not_refused : {r : Refusal} → call s m j kind a v ≡ (m, Called.Refused r) → ⊥
-      not_refused e = no_both h (ap (λ (x : Machine × Called). accepts x.1) e)
+      not_refused : {r : Refusal} → call s m j kind a v ≡ (m, Err r) → ⊥
+      not_refused e = no_both h (ap (λ (x : Machine × Result ⊤ Refusal). accepts x.1) e)
 
       accepted :
           j < s.workers → (m.workers j).operation ≡ None → (p : Option Operation) → operation_of kind a v ≡ p → CallParts s m j kind a v
       accepted l e None f = absurd (not_refused (idle_call s m j kind a v l e f))
       accepted l e (Some p) f =
-          if_elim {A = Machine × Called} (λ r. call s m j kind a v ≡ r → CallParts s m j kind a v) (spent (m.workers j) p) _ _
+          if_elim {A = Machine × Result ⊤ Refusal} (λ r. call s m j kind a v ≡ r → CallParts s m j kind a v) (spent (m.workers j) p) _ _
           (λ q g. absurd (not_refused g))
           (λ q g. record { worker = l; idle = e; operation = p; asks = f; is = g })
           (idle_call s m j kind a v l e f)
@@ -168,7 +167,7 @@ module _ (s : Settings) (range : in_range s.workers s.capacity s.depth ≡ true)
   called_entry : (j kind a : ℕ) (v : ℤ) → CallParts s m j kind a v → Advance s lent m (calling j kind a v) t
   unfolding next begun
   called_entry j kind a v c =
-      no_effect (calling j kind a v) (begun m j c.operation) (ap (λ (x : Machine × Called). x.0) c.is) refl
+      no_effect (calling j kind a v) (begun m j c.operation) (ap (λ (x : Machine × Result ⊤ Refusal). x.0) c.is) refl
       (λ i. by i (ℕ_discrete i j))
     where
       by : (i : ℕ) → Dec (i ≡ j) → status m.cells i (tasks_of s (begun m j c.operation) i) ≡ status m.cells i (tasks_of s m i)
@@ -182,7 +181,7 @@ module _ (s : Settings) (range : in_range s.workers s.capacity s.depth ≡ true)
       let c = accepted_step s m w h in
       let x = step_explained s range m w c.operation t good parts c.worker c.under-way in
       let a : answer_in (step s m w).1 ≡ (effect_of s m w c.operation).answer =
-      ap (λ (r : Machine × Stepped). answer_in r.1) c.is ∙ answer_done m w _ _ in
+      ap (λ (r : Machine × Result Stepped Refusal). answer_in r.1) c.is ∙ answer_done m w _ _ in
       record {
         explained = subst To (sym a) x;
         moving = λ j i. (w, and_true (eq-eqb w w refl) h);
@@ -197,12 +196,12 @@ module _ (s : Settings) (range : in_range s.workers s.capacity s.depth ≡ true)
   advance (reopening n b M) h = refused_entry (reopening n b M) (opening_refused m (opening n b M lent) h.1) (λ j. refl)
   advance (calling j kind a v) h = by (call s m j kind a v).1 refl
     where
-      by : (r : Called) → (call s m j kind a v).1 ≡ r → Advance s lent m (calling j kind a v) t
-      by Called.Accepted e = called_entry j kind a v (accepted_call s m j kind a v (ap accepts e))
-      by (Called.Refused r) e = refused_entry (calling j kind a v) (call_refused s m j kind a v e) (λ i. refl)
+      by : (r : Result ⊤ Refusal) → (call s m j kind a v).1 ≡ r → Advance s lent m (calling j kind a v) t
+      by (Ok _) e = called_entry j kind a v (accepted_call s m j kind a v (ap accepts e))
+      by (Err r) e = refused_entry (calling j kind a v) (call_refused s m j kind a v e) (λ i. refl)
   advance (stepping w) h = by (step s m w).1 refl
     where
-      by : (r : Stepped) → (step s m w).1 ≡ r → Advance s lent m (stepping w) t
-      by Stepped.Moved e = stepped_entry w (ap moves e)
-      by (Stepped.Answered c) e = stepped_entry w (ap moves e)
-      by (Stepped.Refused r) e = refused_entry (stepping w) (step_refused s m w e) (λ i. rw e (if_same (eqb i w) None))
+      by : (r : Result Stepped Refusal) → (step s m w).1 ≡ r → Advance s lent m (stepping w) t
+      by (Ok Stepped.Moved) e = stepped_entry w (ap moves e)
+      by (Ok (Stepped.Answered c)) e = stepped_entry w (ap moves e)
+      by (Err r) e = refused_entry (stepping w) (step_refused s m w e) (λ i. rw e (if_same (eqb i w) None))

@@ -7,7 +7,7 @@ use mathlib.Core.Path.{◌≡◌, refl, sym, ap, ◌∙◌}
 use mathlib.Core.Logic.{by_cases}
 use mathlib.Core.Bool.{Bool, true, false}
 use mathlib.Core.List.{List}
-use Rattle.std.specs.Prelude.{Option, Some, None}
+use Rattle.std.specs.Prelude.{Option, Some, None, Result, Ok, Err, ⊤}
 use lib.Dec.{leb, ltb, eqb}
 use lib.IntN.{ℤ}
 use borrow.Author.Tests.{eq-eqb, ne_eqb, le-leb, lt-leb}
@@ -16,7 +16,6 @@ use Rattle.interface.specs.declared.Settings.{Settings}
 use Rattle.interface.specs.declared.Answer.{Answer}
 use Rattle.interface.specs.declared.Stepped.{Stepped}
 use Rattle.interface.specs.declared.Completion.{Completion}
-use Rattle.interface.specs.declared.Called.{Called}
 use Rattle.machine.specs.Choice.{when◌then◌else◌, ◌and◌}
 use Rattle.machine.specs.Sequential.{Table, Operation, update, lookup}
 use Rattle.machine.specs.Records.{Reads, Worker, Machine}
@@ -30,6 +29,7 @@ use Rattle.machine.proofs.laws.Base.{no_both, none_some, if_elim, if_true, if_fa
 use Rattle.machine.proofs.Openings.{opening_refused, call_stranger, call_busy, idle_call, call_refused, step_stranger, step_idle, step_made}
 use Rattle.machine.proofs.list.Advance.{accepted_call, answer_in, answer_to, begun_other}
 use Rattle.machine.proofs.list.WorkerHistory.{WorkerChange, begins, moves_on, ends, no_change, at_next, stays_idle, ended_last}
+use Rattle.interface.specs.declared.Refusal.{Refusal}
 
 -- ---- replies, by what the machine keeps of the worker
 
@@ -48,7 +48,7 @@ module _ (s : Settings) (m : Machine) (j : ℕ) where
       free : (o : Option Operation) → (call_of m j None o).1 ≡ idle_reply (m.workers j).last o
       free None = refl
       free (Some (lookup a)) = refl
-      free (Some (update u)) = if_ap (λ (x : Machine × Called). x.1) (leb greatest_ticket (m.workers j).last) _ _
+      free (Some (update u)) = if_ap (λ (x : Machine × Result ⊤ Refusal). x.1) (leb greatest_ticket (m.workers j).last) _ _
 
       by : j < s.workers → (o : Option Operation) → (m.workers j).operation ≡ o
           → (call s m j kind a v).1 ≡ call_reply s j (busy (m.workers j).operation) (m.workers j).last (operation_of kind a v)
@@ -69,7 +69,7 @@ module _ (s : Settings) (m : Machine) (j : ℕ) where
       by l None e = rw (step_idle s m j l e, e, lt-leb s.workers j l) refl
       by l (Some o) e =
           let none_given : step_refusal s j (busy (m.workers j).operation) ≡ None = rw (e, lt-leb s.workers j l) refl in
-          ap (λ (r : Machine × Stepped). refusal_in r.1) (step_made s m j l e)
+          ap (λ (r : Machine × Result Stepped Refusal). refusal_in r.1) (step_made s m j l e)
           ∙ made (suc (m.workers j).steps) (check_of s (m.workers j) o) (perform (access s j (m.workers j) o) m.cells).answer
           ∙ sym none_given
 
@@ -86,12 +86,12 @@ module _ (s : Settings) (lent : ℕ) (m : Machine) (j : ℕ) where
       (λ e. ap (λ (x : Bool). eqb i j and x) (by (step s m i).1 (sym (if_true _ _ (eq-eqb j i e)) ∙ h)) ∙ and_right_false _)
       (λ d. and_left_false _ (ne_eqb i j (λ e. d (sym e))))
     where
-      by : (r : Stepped) → answer_in r ≡ None → is_answer r ≡ false
-      by Stepped.Moved e = refl
-      by (Stepped.Answered c) e = absurd (none_some e refl)
-      by (Stepped.Refused r) e = refl
+      by : (r : Result Stepped Refusal) → answer_in r ≡ None → is_answer r ≡ false
+      by (Ok Stepped.Moved) e = refl
+      by (Ok (Stepped.Answered c)) e = absurd (none_some e refl)
+      by (Err r) e = refl
 
-  ends_some : {c : Completion} (e : Entry) → e ≡ stepping j → (step s m j).1 ≡ Stepped.Answered c → ends_by (machines s lent) m e j ≡ true
+  ends_some : {c : Completion} (e : Entry) → e ≡ stepping j → (step s m j).1 ≡ Ok (Stepped.Answered c) → ends_by (machines s lent) m e j ≡ true
   unfolding ends_by
   ends_some e q h = rw q (and_true (eq-eqb j j refl) (ap is_answer h))
 
@@ -107,7 +107,7 @@ module _ (s : Settings) (lent : ℕ) (m : Machine) (j : ℕ) where
   unfolding step step_of done
   step_last i = if_elim Kept (ltb i s.workers) _ _ (λ l. by (m.workers i).operation) (λ l. refl)
     where
-      Kept : Machine × Stepped → Type 0
+      Kept : Machine × Result Stepped Refusal → Type 0
       Kept x = (x.0.workers j).last ≡ (m.workers j).last
 
       by : (o : Option Operation) → Kept (step_of s m i o)
@@ -135,17 +135,17 @@ module _ (s : Settings) (lent : ℕ) (m : Machine) (j : ℕ) where
       e : Entry
       e = calling i kind a v
 
-      by : (r : Called) → (call s m i kind a v).1 ≡ r → Dec (j ≡ i) → TicketAfter e (call s m i kind a v).0
-      by (Called.Refused r) q d = untouched e (call s m i kind a v).0
-          (ap (λ (x : Called). eqb i j and accepts x) q ∙ and_right_false (eqb i j))
+      by : (r : Result ⊤ Refusal) → (call s m i kind a v).1 ≡ r → Dec (j ≡ i) → TicketAfter e (call s m i kind a v).0
+      by (Err r) q d = untouched e (call s m i kind a v).0
+          (ap (λ (x : Result ⊤ Refusal). eqb i j and accepts x) q ∙ and_right_false (eqb i j))
           (ap (λ (x : Machine). (x.workers j).last) (call_refused s m i kind a v q))
-      by Called.Accepted q (no d) =
+      by (Ok _) q (no d) =
           let c = accepted_call s m i kind a v (ap accepts q) in
           untouched e (call s m i kind a v).0 (and_left_false (accepts (call s m i kind a v).1) (ne_eqb i j (λ x. d (sym x))))
-          (ap (λ (r : Machine × Called). (r.0.workers j).last) c.is ∙ ap (λ (w : Worker). w.last) (begun_other m i j c.operation d))
-      by Called.Accepted q (yes d) =
+          (ap (λ (r : Machine × Result ⊤ Refusal). (r.0.workers j).last) c.is ∙ ap (λ (w : Worker). w.last) (begun_other m i j c.operation d))
+      by (Ok _) q (yes d) =
           let c = accepted_call s m i kind a v (ap accepts q) in
-          ap (λ (r : Machine × Called). (r.0.workers j).last) c.is
+          ap (λ (r : Machine × Result ⊤ Refusal). (r.0.workers j).last) c.is
           ∙ ap (λ (w : Worker). w.last) (assign_at m.workers i _ j d)
           ∙ taken c.operation c.asks (and_true (eq-eqb i j (sym d)) (ap accepts q)) d
         where

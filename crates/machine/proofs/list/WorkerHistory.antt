@@ -6,7 +6,7 @@ use mathlib.Core.Path.{◌≡◌, refl, sym, ap, ◌∙◌, subst}
 use mathlib.Core.Logic.{◌≢◌, by_cases}
 use mathlib.Core.Bool.{Bool, true, false}
 use mathlib.Core.List.{List}
-use Rattle.std.specs.Prelude.{Option, Some, None}
+use Rattle.std.specs.Prelude.{Option, Some, None, Result, Ok, Err, ⊤}
 use lib.Dec.{ltb, eqb}
 use lib.IntN.{ℤ}
 use lib.ListN.{length, get_or-eq_default}
@@ -15,7 +15,6 @@ use Rattle.interface.specs.declared.Settings.{Settings}
 use Rattle.interface.specs.declared.Answer.{Answer}
 use Rattle.interface.specs.declared.Stepped.{Stepped}
 use Rattle.interface.specs.declared.Completion.{Completion}
-use Rattle.interface.specs.declared.Called.{Called}
 use Rattle.machine.specs.Choice.{when◌then◌else◌, ◌and◌}
 use Rattle.machine.specs.Sequential.{Table, Operation}
 use Rattle.machine.specs.Records.{Cells, Worker, Machine}
@@ -28,6 +27,7 @@ use Rattle.machine.proofs.laws.Base.{no_both, if_elim, if_true, if_false, and_tr
 use Rattle.machine.proofs.Openings.{opening_refused, call_refused, step_refused}
 use Rattle.machine.proofs.invariant.StepTransitions.{effect_of}
 use Rattle.machine.proofs.list.Advance.{StepParts, accepted_step, accepted_call, answer_in, answer_to, begun_other}
+use Rattle.interface.specs.declared.Refusal.{Refusal}
 
 -- ---- one entry
 
@@ -46,7 +46,7 @@ pub data WorkerChange (s : Settings) (lent : ℕ) (m : Machine) (e : Entry) (j :
   -- an accepted step of it that ends its operation
   ends :
       (a : Answer) (o : Operation) → e ≡ stepping j
-      → (step s m j).1 ≡ Stepped.Answered (record { answer = a; steps = suc (m.workers j).steps; check = check_of s (m.workers j) o })
+      → (step s m j).1 ≡ Ok (Stepped.Answered (record { answer = a; steps = suc (m.workers j).steps; check = check_of s (m.workers j) o }))
       → calls_to (machines s lent) m e j ≡ false → steps_by (machines s lent) m e j ≡ true → w'.operation ≡ None → answer_to s m e j ≡ Some a
       → WorkerChange s lent m e j w'
   -- anything else
@@ -82,12 +82,12 @@ module _ (s : Settings) (lent : ℕ) (m : Machine) (j : ℕ) where
       after : (a : Option Answer) → (effect_of s m j c.operation).answer ≡ a
           → (step s m j).0.workers j ≡ counted (m.workers j) (effect_of s m j c.operation).reads a
       after a e =
-          ap (λ (r : Machine × Stepped). r.0.workers j) c.is ∙ done_worker m j _ _
+          ap (λ (r : Machine × Result Stepped Refusal). r.0.workers j) c.is ∙ done_worker m j _ _
           ∙ ap (counted (m.workers j) (effect_of s m j c.operation).reads) e
 
       reply : (a : Option Answer) → (effect_of s m j c.operation).answer ≡ a
           → (step s m j).1 ≡ step_reply (suc (m.workers j).steps) (check_of s (m.workers j) c.operation) a
-      reply a e = ap (λ (r : Machine × Stepped). r.1) c.is ∙ done_reply m j _ _ ∙ ap (step_reply (suc (m.workers j).steps) _) e
+      reply a e = ap (λ (r : Machine × Result Stepped Refusal). r.1) c.is ∙ done_reply m j _ _ ∙ ap (step_reply (suc (m.workers j).steps) _) e
 
       by : (a : Option Answer) → (effect_of s m j c.operation).answer ≡ a → WorkerChange s lent m (stepping j) j ((step s m j).0.workers j)
       by None e = moves_on refl given (ap (λ (w : Worker). w.operation) (after None e)) (ap (λ (w : Worker). w.steps) (after None e))
@@ -101,22 +101,22 @@ module _ (s : Settings) (lent : ℕ) (m : Machine) (j : ℕ) where
   other_step i d = no_change refl (and_left_false _ (ne_eqb i j (λ e. d (sym e)))) (by (step s m i).1 refl) (if_false _ _ (ne_eqb j i d))
     where
       made : moves (step s m i).1 ≡ true → (step s m i).0.workers j ≡ m.workers j
-      made h = ap (λ (r : Machine × Stepped). r.0.workers j) (accepted_step s m i h).is ∙ done_other m i j _ _ d
+      made h = ap (λ (r : Machine × Result Stepped Refusal). r.0.workers j) (accepted_step s m i h).is ∙ done_other m i j _ _ d
 
-      by : (r : Stepped) → (step s m i).1 ≡ r → (step s m i).0.workers j ≡ m.workers j
-      by Stepped.Moved e = made (ap moves e)
-      by (Stepped.Answered a) e = made (ap moves e)
-      by (Stepped.Refused r) e = ap (λ (x : Machine). x.workers j) (step_refused s m i e)
+      by : (r : Result Stepped Refusal) → (step s m i).1 ≡ r → (step s m i).0.workers j ≡ m.workers j
+      by (Ok Stepped.Moved) e = made (ap moves e)
+      by (Ok (Stepped.Answered a)) e = made (ap moves e)
+      by (Err r) e = ap (λ (x : Machine). x.workers j) (step_refused s m i e)
 
   stepping_change : (i : ℕ) → WorkerChange s lent m (stepping i) j ((step s m i).0.workers j)
   unfolding calls_to steps_by
   stepping_change i = by_cases (ℕ_discrete j i)
       (λ e. subst (λ (i : ℕ). WorkerChange s lent m (stepping i) j ((step s m i).0.workers j)) e (by (step s m j).1 refl)) (other_step i)
     where
-      by : (r : Stepped) → (step s m j).1 ≡ r → WorkerChange s lent m (stepping j) j ((step s m j).0.workers j)
-      by Stepped.Moved e = own_step (ap moves e)
-      by (Stepped.Answered a) e = own_step (ap moves e)
-      by (Stepped.Refused r) e = no_change refl (ap (λ (x : Bool). eqb j j and x) (ap moves e) ∙ and_right_false _)
+      by : (r : Result Stepped Refusal) → (step s m j).1 ≡ r → WorkerChange s lent m (stepping j) j ((step s m j).0.workers j)
+      by (Ok Stepped.Moved) e = own_step (ap moves e)
+      by (Ok (Stepped.Answered a)) e = own_step (ap moves e)
+      by (Err r) e = no_change refl (ap (λ (x : Bool). eqb j j and x) (ap moves e) ∙ and_right_false _)
           (ap (λ (x : Machine). x.workers j) (step_refused s m j e)) (if_true _ _ (eq-eqb j j refl) ∙ ap answer_in e)
 
   calling_change : (i kind a : ℕ) (v : ℤ) → WorkerChange s lent m (calling i kind a v) j ((call s m i kind a v).0.workers j)
@@ -128,17 +128,17 @@ module _ (s : Settings) (lent : ℕ) (m : Machine) (j : ℕ) where
       untouched f e = no_change f refl e refl
 
       by :
-          (r : Called) → (call s m i kind a v).1 ≡ r → Dec (j ≡ i) → WorkerChange s lent m (calling i kind a v) j
+          (r : Result ⊤ Refusal) → (call s m i kind a v).1 ≡ r → Dec (j ≡ i) → WorkerChange s lent m (calling i kind a v) j
           ((call s m i kind a v).0.workers j)
-      by (Called.Refused r) e d = untouched (ap (λ (x : Called). eqb i j and accepts x) e ∙ and_right_false _)
+      by (Err r) e d = untouched (ap (λ (x : Result ⊤ Refusal). eqb i j and accepts x) e ∙ and_right_false _)
           (ap (λ (x : Machine). x.workers j) (call_refused s m i kind a v e))
-      by Called.Accepted e (no d) =
+      by (Ok _) e (no d) =
           let c = accepted_call s m i kind a v (ap accepts e) in
-          untouched (and_left_false _ (ne_eqb i j (λ x. d (sym x)))) (ap (λ (r : Machine × Called). r.0.workers j) c.is
+          untouched (and_left_false _ (ne_eqb i j (λ x. d (sym x)))) (ap (λ (r : Machine × Result ⊤ Refusal). r.0.workers j) c.is
           ∙ begun_other m i j _ d)
-      by Called.Accepted e (yes d) =
+      by (Ok _) e (yes d) =
           let c = accepted_call s m i kind a v (ap accepts e) in
-          let w = ap (λ (r : Machine × Called). r.0.workers j) c.is ∙ assign_at m.workers i _ j d in
+          let w = ap (λ (r : Machine × Result ⊤ Refusal). r.0.workers j) c.is ∙ assign_at m.workers i _ j d in
           begins (and_true (eq-eqb i j (sym d)) (ap accepts e)) (ap (λ (k : ℕ). (m.workers k).operation) d ∙ c.idle)
           (ap (λ (x : Worker). x.operation) w ∙ sym c.asks) (ap (λ (x : Worker). x.steps) w) refl
 

@@ -3,10 +3,10 @@
 use Rattle.numbers.specs.Returned.{needed_number}
 use Rattle.numbers.proofs.needed_number.Goals as goal
 
-pub returns-in-Words : goal.returns-in-Words
+pub returns-in-Ok : goal.returns-in-Ok
 unfolding needed_number
-returns-in-Words c = rw c.in-Words.is
+returns-in-Ok c = rw c.in-Ok.is
 
-pub returns-in-Refused : goal.returns-in-Refused
+pub returns-in-Err : goal.returns-in-Err
 unfolding needed_number
-returns-in-Refused c = rw c.in-Refused.is c.number.ensures
+returns-in-Err c = rw c.in-Err.is c.number.ensures

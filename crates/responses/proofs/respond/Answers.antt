@@ -4,7 +4,7 @@ use mathlib.Core.Path.{◌∙◌, ap}
 use mir.Facts.{to_z-of_z}
 use Rattle.interface.specs.Numbers.{kind_insert, kind_post}
 use Rattle.calls.specs.Calls.{call_words}
-use Rattle.responses.specs.Responses.{responded, of_opened, of_called, of_ran}
+use Rattle.responses.specs.Responses.{responded, of_done, of_ran}
 use Rattle.responses.proofs.Responding.{replied}
 use mir.Syntax.{w64}
 use mir.Val.{SFits}
@@ -14,34 +14,34 @@ use Rattle.responses.proofs.respond.Goals as goal
 pub returns-in-Open : goal.returns-in-Open
 unfolding responded
 returns-in-Open c = rw c.in-Open.is
-    (replied of_opened _ _ _ _ c.«open».ensures c.of_opened.ensures)
+    (replied of_done _ _ _ _ c.«open».ensures c.of_done.ensures)
 
 pub returns-in-Insert : goal.returns-in-Insert
 unfolding responded
 returns-in-Insert c =
     let fits : SFits w64 c.in-Insert.total = search rules in
     let kept = to_z-of_z fits in
-    rw c.in-Insert.is (replied of_called _ _ _ _ (c.call.ensures ∙ ap (call_words _ _ kind_insert _) kept)
-    c.of_called.ensures)
+    rw c.in-Insert.is (replied of_done _ _ _ _ (c.call.ensures ∙ ap (call_words _ _ kind_insert _) kept)
+    c.of_done.ensures)
 
 pub returns-in-Delete : goal.returns-in-Delete
 unfolding responded
 returns-in-Delete c =
     rw c.in-Delete.is
-    (replied of_called _ _ _ _ c.call-in-Delete.ensures c.of_called-in-Delete.ensures)
+    (replied of_done _ _ _ _ c.call-in-Delete.ensures c.of_called-in-Delete.ensures)
 
 pub returns-in-Lookup : goal.returns-in-Lookup
 unfolding responded
 returns-in-Lookup c =
     rw c.in-Lookup.is
-    (replied of_called _ _ _ _ c.call-in-Lookup.ensures c.of_called-in-Lookup.ensures)
+    (replied of_done _ _ _ _ c.call-in-Lookup.ensures c.of_called-in-Lookup.ensures)
 
 pub returns-in-Post : goal.returns-in-Post
 unfolding responded
 returns-in-Post c =
     let fits : SFits w64 c.in-Post.amount = search rules in
     let kept = to_z-of_z fits in
-    rw c.in-Post.is (replied of_called _ _ _ _ (c.call-in-Post.ensures ∙ ap (call_words _ _ kind_post _) kept)
+    rw c.in-Post.is (replied of_done _ _ _ _ (c.call-in-Post.ensures ∙ ap (call_words _ _ kind_post _) kept)
     c.of_called-in-Post.ensures)
 
 pub returns-in-Steps : goal.returns-in-Steps

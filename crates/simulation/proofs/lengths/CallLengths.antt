@@ -3,7 +3,7 @@ use Prim.Native.Nat.{ℕ, zero, suc, ◌+◌, ◌-◌, ◌%◌, ◌≤◌, ◌<�
 use native.Mathlib.Omega.{arith}
 use mathlib.Core.Path.{◌≡◌, refl, sym, ◌∙◌, subst⁻¹}
 use mathlib.Core.List.{List}
-use Rattle.std.specs.Prelude.{Option, Some, None}
+use Rattle.std.specs.Prelude.{Option, Some, None, Result, Ok, Err}
 use lib.Dec.{leb, eqb}
 use lib.ListN.{length, set, length-set, length-append, length-replicate}
 use lib.IntN.{ℤ}
@@ -11,7 +11,6 @@ use borrow.Author.Tests.{leb-true, leb-false}
 use Rattle.interface.specs.Numbers.{kind_none, kind_lookup}
 use Rattle.interface.specs.Limits.{built}
 use Rattle.interface.specs.declared.Settings.{Settings}
-use Rattle.interface.specs.declared.Built.{Built}
 use Rattle.interface.specs.declared.Answer.{Answer}
 use Rattle.interface.specs.declared.Ran.{Ran}
 use Rattle.machine.specs.Plan.{Phase, announce, read_directory, flip_toggle, read_state, read_toggle, swap_state, check_state, copy_directory, swap_directory, read_slot, resize_for, phase}
@@ -43,6 +42,7 @@ use Rattle.opening.specs.Opening.{fresh_words, opened_words, open_words}
 use Rattle.turns.specs.Turns.{step_in, step_words}
 use Rattle.runs.specs.Runs.{or_else, run_in, longest_run, run_words}
 use Rattle.opening.proofs.FreshWords.{fresh_parts}
+use Rattle.interface.specs.declared.Refusal.{Refusal}
 
 -- as many words as before
 abbrev Long : List ℕ → List ℕ → Type 0
@@ -152,7 +152,7 @@ module _ (l : List ℕ) (s : Settings) (w : ℕ) (f : Fits l s) (known : w < s.w
 
 -- ---- a run
 
-length_or : (l m : List ℕ) (o : Option Ran) (later : List ℕ × Ran) → Long l m → LongAfter l later → LongAfter l (or_else m o later)
+length_or : (l m : List ℕ) (o : Option (Result Ran Refusal)) (later : List ℕ × Result Ran Refusal) → Long l m → LongAfter l later → LongAfter l (or_else m o later)
 unfolding or_else
 length_or l m None later h k = k
 length_or l m (Some r) later h k = h
@@ -207,7 +207,7 @@ pub length_open : (l : List ℕ) (n b M : ℕ) → length (open_words l n b M).0
 unfolding open_words opened_words
 length_open l n b M = go (built n b M)
   where
-    go : (x : Built) → LongAfter l (opened_words l x)
-    go (Built.Refused r) = refl
-    go (Built.Settings s) =
+    go : (x : Result Settings Refusal) → LongAfter l (opened_words l x)
+    go (Err r) = refl
+    go (Ok s) =
         if_elim (LongAfter l) (leb (words_needed s) (length l)) _ _ (λ e. length_opened l s (leb-true _ _ e)) (λ e. refl)
