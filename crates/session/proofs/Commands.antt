@@ -122,7 +122,7 @@ module _ (l : List ℕ) (count : length l ≡ 8_192) (w kind a : ℕ) (v : ℤ) 
     call_memory (Ok _) = refl
     call_memory (Err r) = refl
 
-    call_represents : Result ⊤ Refusal (call_words l w kind a v).0 s (call s m w kind a v).0
+    call_represents : Opened (call_words l w kind a v).0 s (call s m w kind a v).0
     unfolding next
     call_represents =
         record { range = h.range; represents = represents_next s h.range l m h.represents (calling w kind a v) (narrow, fits) tt }
