@@ -13,7 +13,7 @@ use interface::{
     KIND_POST, Settings,
 };
 use rules::{Descriptor, answer_number, crowded};
-use sums::{Sum, sum_of};
+use sums::sum_of;
 
 // Worker j's post carried out at the position that a search gave, where there is room for it.
 fn post_own(
@@ -30,7 +30,7 @@ fn post_own(
     ensures { words.new ≡ changed_at words.old g q toggle j p u }
 {
     match sum_of(total_own(words, g, q, c, u.account, p), u.total) {
-        Sum::Within(total) => {
+        Some(total) => {
             let v = Descriptor {
                 kind: u.kind,
                 account: u.account,
@@ -39,7 +39,7 @@ fn post_own(
             };
             put_own(words, g, q, c, toggle, j, p, v, ANSWER_POSTED, total);
         }
-        Sum::Outside => settle_own(words, g, q, c, toggle, j, u.ticket, ANSWER_OVERRUN),
+        None => settle_own(words, g, q, c, toggle, j, u.ticket, ANSWER_OVERRUN),
     }
 }
 

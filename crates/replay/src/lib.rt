@@ -22,7 +22,7 @@ use logs::{
 };
 use memory::get_or;
 use rules::first_bits;
-use sums::{Sum, sum_of};
+use sums::sum_of;
 
 // Answers are logged as this and their number, past every refusal's.
 const ANSWER_BASE: u64 = 16;
@@ -182,12 +182,12 @@ fn summed(log: &[u64], i: usize, total: u64) -> Outcome
     let answer = word_at(log, i, LOGGED_ANSWER);
     let logged = word_at(log, i, LOGGED_ANSWER_TOTAL);
     match sum_of(total, word_at(log, i, LOGGED_TOTAL)) {
-        Sum::Within(sum) => balance_if(
+        Some(sum) => balance_if(
             (answer == ANSWER_BASE + ANSWER_POSTED) & (logged == sum),
             1,
             sum,
         ),
-        Sum::Outside => unchanged_if(answer == ANSWER_BASE + ANSWER_OVERRUN),
+        None => unchanged_if(answer == ANSWER_BASE + ANSWER_OVERRUN),
     }
 }
 
