@@ -30,125 +30,75 @@ impl BucketState {
     pub fn size(self) -> usize
         ensures { result ≡ size_of self }
     {
-        if self.count < ARRAY_SIZE as u64 {
-            self.count as usize
-        } else {
-            ARRAY_SIZE
-        }
+        ARRAY_SIZE.min(self.count as usize)
     }
 
     // The first position whose account is not below this one.
     pub fn search(self, account: u64) -> Position
         ensures { result ≡ search_of self account }
     {
-        let accounts = self.accounts;
         let n = self.size();
-        scan(&accounts[0..n], account)
+        scan(&self.accounts[0..n], account)
     }
 
     // The total at the position that a search gave; 0 where the account is missing.
     pub fn total(self, p: Position) -> u64
         ensures { result ≡ total_in self p }
     {
-        let totals = self.totals;
-        match p {
-            Position::At(i) => {
-                let i = i as usize;
-                if i < ARRAY_SIZE { totals[i] } else { 0 }
-            }
-            Position::Before(_) => 0,
-        }
+        let Position::At(i) = p else {
+            return 0;
+        };
+        self.totals.get(i as usize).copied().unwrap_or(0)
     }
 
     // The account's total set at the position that a search gave; a new account only where there is room for it.
-    pub fn put(self, p: Position, account: u64, total: u64) -> BucketState
+    pub fn put(mut self, p: Position, account: u64, total: u64) -> BucketState
         ensures { result ≡ put_of self p account total }
     {
-        let mut accounts = self.accounts;
-        let mut totals = self.totals;
-        let settled = self.settled;
-        let answers = self.answers;
-        let posted = self.posted;
-        let mut count = self.count;
         match p {
             Position::At(here) => {
                 let here = here as usize;
                 if here < ARRAY_SIZE {
-                    totals[here] = total;
+                    self.totals[here] = total;
                 }
             }
             Position::Before(next) => {
                 let n = self.size();
                 if n < ARRAY_SIZE {
                     let next = next as usize;
-                    raise(&mut accounts, n, next, account);
-                    raise(&mut totals, n, next, total);
-                    count = n as u64 + 1;
+                    raise(&mut self.accounts, n, next, account);
+                    raise(&mut self.totals, n, next, total);
+                    self.count = n as u64 + 1;
                 }
             }
         }
-        BucketState {
-            accounts,
-            totals,
-            settled,
-            answers,
-            posted,
-            count,
-            applied: self.applied,
-        }
+        self
     }
 
     // The account at the position that a search gave taken out, where it is there.
-    pub fn remove(self, p: Position) -> BucketState
+    pub fn remove(mut self, p: Position) -> BucketState
         ensures { result ≡ remove_of self p }
     {
-        match p {
-            Position::At(i) => {
-                let mut accounts = self.accounts;
-                let mut totals = self.totals;
-                let settled = self.settled;
-                let answers = self.answers;
-                let posted = self.posted;
-                let n = self.size();
-                let i = i as usize;
-                lower(&mut accounts, n, i);
-                lower(&mut totals, n, i);
-                BucketState {
-                    accounts,
-                    totals,
-                    settled,
-                    answers,
-                    posted,
-                    count: if 0 < n { n as u64 - 1 } else { 0 },
-                    applied: self.applied,
-                }
-            }
-            Position::Before(_) => self,
-        }
+        let Position::At(i) = p else {
+            return self;
+        };
+        let i = i as usize;
+        let n = self.size();
+        lower(&mut self.accounts, n, i);
+        lower(&mut self.totals, n, i);
+        self.count = n.saturating_sub(1) as u64;
+        self
     }
 
     // Worker j's ticket settled with an answer's number and total.
-    pub fn settle(self, j: usize, ticket: u64, answer: u64, total: u64) -> BucketState
+    pub fn settle(mut self, j: usize, ticket: u64, answer: u64, total: u64) -> BucketState
         ensures { result ≡ settle_of self j ticket answer total }
     {
-        let accounts = self.accounts;
-        let totals = self.totals;
-        let mut settled = self.settled;
-        let mut answers = self.answers;
-        let mut posted = self.posted;
         if j < ARRAY_SIZE {
-            settled[j] = ticket;
-            answers[j] = answer;
-            posted[j] = total;
+            self.settled[j] = ticket;
+            self.answers[j] = answer;
+            self.posted[j] = total;
         }
-        BucketState {
-            accounts,
-            totals,
-            settled,
-            answers,
-            posted,
-            count: self.count,
-            applied: self.applied,
-        }
+        self
     }
 }
