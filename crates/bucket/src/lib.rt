@@ -25,6 +25,8 @@ pub struct BucketState {
     pub applied: u64,
 }
 
+// Kept: arrays are changed in locals, for `..self`. With `mut self` or `&self.accounts` all five are copied: of 4 accounts
+// and 1 worker a put takes 844 instructions, here 670, a search 426, here 337.
 impl BucketState {
     // How many accounts: at most as many as an array has items.
     pub fn size(self) -> usize
@@ -37,8 +39,9 @@ impl BucketState {
     pub fn search(self, account: u64) -> Position
         ensures { result ≡ search_of self account }
     {
+        let accounts = self.accounts;
         let n = self.size();
-        scan(&self.accounts[0..n], account)
+        scan(&accounts[0..n], account)
     }
 
     // The total at the position that a search gave; 0 where the account is missing.
@@ -48,57 +51,81 @@ impl BucketState {
         let Position::At(i) = p else {
             return 0;
         };
-        self.totals.get(i as usize).copied().unwrap_or(0)
+        let totals = self.totals;
+        totals.get(i as usize).copied().unwrap_or(0)
     }
 
     // The account's total set at the position that a search gave; a new account only where there is room for it.
-    pub fn put(mut self, p: Position, account: u64, total: u64) -> BucketState
+    pub fn put(self, p: Position, account: u64, total: u64) -> BucketState
         ensures { result ≡ put_of self p account total }
     {
+        let mut accounts = self.accounts;
+        let mut totals = self.totals;
+        let mut count = self.count;
         match p {
             Position::At(here) => {
                 let here = here as usize;
                 if here < ARRAY_SIZE {
-                    self.totals[here] = total;
+                    totals[here] = total;
                 }
             }
             Position::Before(next) => {
                 let n = self.size();
                 if n < ARRAY_SIZE {
                     let next = next as usize;
-                    raise(&mut self.accounts, n, next, account);
-                    raise(&mut self.totals, n, next, total);
-                    self.count = n as u64 + 1;
+                    raise(&mut accounts, n, next, account);
+                    raise(&mut totals, n, next, total);
+                    count = n as u64 + 1;
                 }
             }
         }
-        self
+        BucketState {
+            accounts,
+            totals,
+            count,
+            ..self
+        }
     }
 
     // The account at the position that a search gave taken out, where it is there.
-    pub fn remove(mut self, p: Position) -> BucketState
+    pub fn remove(self, p: Position) -> BucketState
         ensures { result ≡ remove_of self p }
     {
         let Position::At(i) = p else {
             return self;
         };
+        let mut accounts = self.accounts;
+        let mut totals = self.totals;
         let i = i as usize;
         let n = self.size();
-        lower(&mut self.accounts, n, i);
-        lower(&mut self.totals, n, i);
-        self.count = n.saturating_sub(1) as u64;
-        self
+        lower(&mut accounts, n, i);
+        lower(&mut totals, n, i);
+        BucketState {
+            accounts,
+            totals,
+            count: n.saturating_sub(1) as u64,
+            ..self
+        }
     }
 
     // Worker j's ticket settled with an answer's number and total.
-    pub fn settle(mut self, j: usize, ticket: u64, answer: u64, total: u64) -> BucketState
+    pub fn settle(self, j: usize, ticket: u64, answer: u64, total: u64) -> BucketState
         ensures { result ≡ settle_of self j ticket answer total }
     {
-        if j < ARRAY_SIZE {
-            self.settled[j] = ticket;
-            self.answers[j] = answer;
-            self.posted[j] = total;
+        if ARRAY_SIZE <= j {
+            return self;
         }
-        self
+        let mut settled = self.settled;
+        let mut answers = self.answers;
+        let mut posted = self.posted;
+        settled[j] = ticket;
+        answers[j] = answer;
+        posted[j] = total;
+        BucketState {
+            settled,
+            answers,
+            posted,
+            ..self
+        }
     }
 }

@@ -11,15 +11,17 @@ use rules::first_bits;
 pub fn half(state: BucketState, d: u64, q: u64) -> BucketState
     ensures { result ≡ half_of state d q }
 {
+    let old_accounts = state.accounts;
+    let old_totals = state.totals;
     let n = state.size();
     let mut accounts = [0u64; ARRAY_SIZE];
     let mut totals = [0u64; ARRAY_SIZE];
     let mut kept: usize = 0;
     for i in 0..n {
-        let a = state.accounts[i];
+        let a = old_accounts[i];
         if first_bits(d, a) == q {
             accounts[kept] = a;
-            totals[kept] = state.totals[i];
+            totals[kept] = old_totals[i];
             kept += 1;
         }
     }

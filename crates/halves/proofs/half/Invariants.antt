@@ -7,4 +7,4 @@ use Rattle.halves.proofs.half.Given as goal
 
 abbrev pub invariant-loop-i : goal.invariant-loop-i
 invariant-loop-i l =
-    (l.n ≤ array_size) × (l.kept ≤ l.i) × Halved l.state.accounts l.state.totals l.d l.q l.i l.accounts l.totals l.kept
+    (l.n ≤ array_size) × (l.kept ≤ l.i) × Halved l.old_accounts l.old_totals l.d l.q l.i l.accounts l.totals l.kept
