@@ -42,10 +42,7 @@ fn call_in(words: &mut [u64], g: Settings, w: usize, kind: u64, account: u32, to
     if memory::get(words, p + WORKER_KIND) != KIND_NONE {
         return Called::Refused(Refusal::Busy);
     }
-    if kind < KIND_INSERT {
-        return Called::Refused(Refusal::Kind);
-    }
-    if GREATEST_KIND < kind {
+    if !matches!(kind, KIND_INSERT..=GREATEST_KIND) {
         return Called::Refused(Refusal::Kind);
     }
     let account = account as u64;
