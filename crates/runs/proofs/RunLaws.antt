@@ -1,9 +1,10 @@
 -- Laws of runs: its turns, its ends, and a run of words that pass the checks. Rests on the definition of a run.
-use Prim.Native.Nat.{ℕ, suc, ◌+◌, ◌-◌, ◌%◌, ◌≤◌, ◌<◌}
+use Prim.Native.Nat.{ℕ, suc, min, ◌+◌, ◌-◌, ◌%◌, ◌≤◌, ◌<◌}
 use native.Mathlib.Numerals.{add-one}
 use native.Mathlib.Omega.{arith}
 use mathlib.Core.Path.{◌≡◌, sym, ◌∙◌, ap}
-use mathlib.Core.Logic.{◌≢◌}
+use native.Mathlib.Decide.{dec_lt}
+use mathlib.Core.Logic.{◌≢◌, by_cases}
 use mathlib.Core.Bool.{Bool, false}
 use mathlib.Core.List.{List}
 use lib.Dec.{eqb}
@@ -19,10 +20,18 @@ use Rattle.fields.specs.Regions.{worker_at}
 use Rattle.machine.specs.Choice.{when◌then◌else◌}
 use Rattle.machine.proofs.laws.Base.{if_true, if_false}
 use Rattle.memory.specs.Words.{least}
+use Rattle.memory.proofs.Lesser.{least_small, least_large}
 use Rattle.layout.specs.Shape.{word, strange, shape_of}
 use Rattle.updates.specs.Updates.{operation_at}
 use Rattle.runs.specs.Runs.{last_of, or_else, longest_run, run_in, run_words}
 use Rattle.layout.proofs.Checks.{both_passed}
+
+-- the lesser of two numbers
+pub lesser : (a b : ℕ) → min a b ≡ least a b
+lesser a b =
+    by_cases (dec_lt a b)
+    (λ h. let e : min a b ≡ a = omega arith in e ∙ least_small a b h)
+    (λ h. let e : min a b ≡ b = omega arith in e ∙ least_large a b (omega arith))
 
 -- ---- a run of worker w, whose record is at p: k of at most c steps are taken
 

@@ -25,8 +25,7 @@ fn run_in(words: &mut [u64], x: u64, w: usize, most: u64) -> Ran
 {
     let g = settings_of(x);
     let p = worker_at(g, w);
-    let mut done: u64 = 0;
-    while done < most {
+    for done in 0..most {
         let kind = memory::get(words, p + WORKER_KIND);
         if kind == KIND_NONE {
             return Ran::Moved(done);
@@ -48,9 +47,8 @@ fn run_in(words: &mut [u64], x: u64, w: usize, most: u64) -> Ran
                 Stepped::Refused(_) => return Ran::Moved(done),
             }
         }
-        done += 1;
     }
-    Ran::Moved(done)
+    Ran::Moved(most)
 }
 
 // Up to so many steps of a worker, ending early at an answer: checks 8, 3, 5.
@@ -69,14 +67,5 @@ pub fn run(words: &mut [u64], worker: u64, most: u64) -> Ran
     if memory::get(words, worker_at(g, w) + WORKER_KIND) == KIND_NONE {
         return Ran::Refused(Refusal::Idle);
     }
-    run_in(
-        words,
-        x,
-        w,
-        if most < LONGEST_RUN {
-            most
-        } else {
-            LONGEST_RUN
-        },
-    )
+    run_in(words, x, w, most.min(LONGEST_RUN))
 }
