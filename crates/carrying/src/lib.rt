@@ -31,12 +31,7 @@ fn post_own(
 {
     match sum_of(total_own(words, g, q, c, u.account, p), u.total) {
         Some(total) => {
-            let v = Descriptor {
-                kind: u.kind,
-                account: u.account,
-                total,
-                ticket: u.ticket,
-            };
+            let v = Descriptor { total, ..u };
             put_own(words, g, q, c, toggle, j, p, v, ANSWER_POSTED, total);
         }
         None => settle_own(words, g, q, c, toggle, j, u.ticket, ANSWER_OVERRUN),
@@ -61,14 +56,12 @@ pub fn carry_own(
         settle_own(words, g, q, c, toggle, j, u.ticket, ANSWER_CROWDED);
         return;
     }
-    if u.kind == KIND_INSERT {
-        let answer = answer_number(p, ANSWER_REPLACED, ANSWER_ADDED);
-        put_own(words, g, q, c, toggle, j, p, u, answer, 0);
-        return;
+    match u.kind {
+        KIND_INSERT => {
+            let answer = answer_number(p, ANSWER_REPLACED, ANSWER_ADDED);
+            put_own(words, g, q, c, toggle, j, p, u, answer, 0);
+        }
+        KIND_POST => post_own(words, g, q, c, toggle, j, p, u),
+        _ => delete_own(words, g, q, c, toggle, j, p, u),
     }
-    if u.kind == KIND_POST {
-        post_own(words, g, q, c, toggle, j, p, u);
-        return;
-    }
-    delete_own(words, g, q, c, toggle, j, p, u);
 }

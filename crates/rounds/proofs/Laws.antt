@@ -109,9 +109,9 @@ unfolding helped_of descriptor_in
 helped_past x slots s d toggle m zero h = rw add-zero
 helped_past x slots s d toggle m (suc k) h =
     let y : BucketState = helped_of x slots s d toggle (m + k) in
-    let None = get_or-eq_default slots 0 {n = slot_size * (m + k) + slot_ticket} (omega arith) in
+    let none = get_or-eq_default slots 0 {n = slot_size * (m + k) + slot_ticket} (omega arith) in
     rw (add-suc)
-    (help_left y s d toggle (m + k) _ (pending_settled toggle y.applied (m + k) (get_or y.settled (m + k) 0) _ (omega (arith, None)))
+    (help_left y s d toggle (m + k) _ (pending_settled toggle y.applied (m + k) (get_or y.settled (m + k) 0) _ (omega (arith, none)))
     ∙ helped_past x slots s d toggle m k h)
 
 -- a worker's settled ticket changes by its own update only
