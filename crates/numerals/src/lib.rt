@@ -56,10 +56,16 @@ fn read_digits(field: &[u8], most: u64) -> Number
             return Number::Nothing;
         }
         let digit = u64::from(byte - b'0');
-        if most / 10 < value || most - value * 10 < digit {
+        let Some(next) = value
+            .checked_mul(10)
+            .and_then(|tens| tens.checked_add(digit))
+        else {
+            return Number::Nothing;
+        };
+        if most < next {
             return Number::Nothing;
         }
-        value = value * 10 + digit;
+        value = next;
     }
     Number::Value(value)
 }

@@ -1,10 +1,9 @@
 -- `read_digits`: what the bytes passed say is within the limit, and the rest is still to be read after it.
 use Prim.Native.Nat.{◌+◌, ◌*◌, ◌<◌}
-use mathlib.Core.Path.{sym, ◌∙◌}
+use mathlib.Core.Path.{◌≡◌, sym, ◌∙◌}
 use native.Mathlib.Omega.{arith}
 use Rattle.numerals.proofs.NumeralLaws.{nothing, value, stop_other, stop_large, go_on, digits_end}
 use Rattle.numerals.proofs.read_digits.Goals as goal
-use Rattle.numerals.proofs.read_digits.Goals.{then-most-value-via-then-most-value, then-most-value-via-else-most-value+then-most-value-2}
 
 pub returns-then-not-is_ascii_digit : goal.returns-then-not-is_ascii_digit
 returns-then-not-is_ascii_digit c =
@@ -12,24 +11,37 @@ returns-then-not-is_ascii_digit c =
     nothing _ (sym l.invariant.1 ∙ stop_other c.args.most l.value c.args.field.now l.byte-index (omega arith)
     c.if-not-is_ascii_digit.ensures.cases)
 
-pub returns-then-most-value : goal.returns-then-most-value
-returns-then-most-value c =
+pub returns-in_default : goal.returns-in_default
+returns-in_default c =
     let l = c.loop-byte in
     let digit = c.if-not-is_ascii_digit.ensures in
-    let large : c.args.most < l.value * 10 + c.from-digit.result =
-    elim c.then-most-value.branch [
-      | then-most-value-via-then-most-value w ↦ omega arith
-      | then-most-value-via-else-most-value+then-most-value-2 w ↦ omega arith
-    ] in
+    let m = c.checked_mul.ensures in
+    let e = c.in_default.ensures in
+    let n = c.in_default.is in
+    let a = c.and_then.ensures in
+    let large : c.args.most < l.value * 10 + c.from-digit.result = grind (arith, m, e) in
+    nothing _ (sym l.invariant.1 ∙ stop_large c.args.most l.value c.args.field.now l.byte-index (omega arith) (omega arith)
+    (omega arith) (omega arith))
+
+pub returns-then-most-next : goal.returns-then-most-next
+returns-then-most-next c =
+    let l = c.loop-byte in
+    let digit = c.if-not-is_ascii_digit.ensures in
+    let e = c.in-Some.ensures in
+    let m = c.checked_mul.ensures in
+    let sum : c.in-Some.next ≡ l.value * 10 + c.from-digit.result = grind (arith, m, e) in
     nothing _ (sym l.invariant.1 ∙ stop_large c.args.most l.value c.args.field.now l.byte-index (omega arith) (omega arith)
     (omega arith) (omega arith))
 
 pub loop-byte-preserved : goal.loop-byte-preserved
 loop-byte-preserved c =
     let l = c.loop-byte in
-    let digit = c.if-not-is_ascii_digit.ensures in (
+    let digit = c.if-not-is_ascii_digit.ensures in
+    let e = c.in-Some.ensures in
+    let m = c.checked_mul.ensures in
+    let sum : c.in-Some.next ≡ l.value * 10 + c.from-digit.result = grind (arith, m, e) in (
       omega arith,
-      rw c.from-digit.ensures
+      rw (sum, c.from-digit.ensures)
           (sym (go_on c.args.most l.value c.args.field.now l.byte-index (omega arith) (omega arith) (omega arith)) ∙ l.invariant.1),
     )
 
