@@ -51,33 +51,23 @@ fn read_digits(field: &[u8], most: u64) -> Number
     ensures { result ≡ as_number (up_to most (digits_after 0 field.now)) }
 {
     let mut value: u64 = 0;
-    let mut i = 0;
-    while i < field.len() {
-        let byte = field[i];
-        if byte < b'0' {
+    for &byte in field {
+        if !byte.is_ascii_digit() {
             return Number::Nothing;
         }
-        if b'9' < byte {
+        let digit = u64::from(byte - b'0');
+        let Some(next) = value
+            .checked_mul(10)
+            .and_then(|tens| tens.checked_add(digit))
+        else {
+            return Number::Nothing;
+        };
+        if most < next {
             return Number::Nothing;
         }
-        let digit = wide(byte - b'0');
-        if most / 10 < value {
-            return Number::Nothing;
-        }
-        let tens = value * 10;
-        if most - tens < digit {
-            return Number::Nothing;
-        }
-        value = tens + digit;
-        i += 1;
+        value = next;
     }
     Number::Value(value)
-}
-
-fn wide(byte: u8) -> u64
-    ensures { result ≡ byte }
-{
-    byte as u64
 }
 
 // The total or the amount that the field is, if it is one.
