@@ -75,7 +75,6 @@ entry_is s d q x w e f =
     ∙ ap (λ (x : ℕ). (q % n) * k + x) (mul_assoc n (q / n) k) in
     rw (e, f, parts, add-mul-mod_self_left)
 
--- a depth of at least M leaves one entry
 pub entry_below : (s : Settings) (d q : ℕ) → first_entry s d q < 2 ^ s.depth
 unfolding first_entry
 entry_below s d q = mod-lt _ (pow_pos s.depth)
