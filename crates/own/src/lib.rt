@@ -29,7 +29,7 @@ pub fn own_round(words: &mut [u64], g: Settings, w: usize, q: usize, toggle: u64
         return;
     }
     let u = slot_read(words, g, w, w);
-    // Kept: two returns. With one test (`||`) for both an insert takes 2 instructions more and a post 6 (bench/table.sh).
+    // Kept: two returns. By one test (`||`) an insert takes 2 instructions more and a post 6 (bench/table.sh, n 1).
     if u.ticket <= settled_ticket(words, g, q, w) {
         put_first(words, q, c as u64, toggle);
         return;
