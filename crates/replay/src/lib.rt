@@ -130,9 +130,8 @@ fn looked_up(log: &[u64], i: usize, there: u64, total: u64) -> Option<Effect>
     let answer = word_at(log, i, LOGGED_ANSWER);
     if there != 0 {
         let logged = word_at(log, i, LOGGED_ANSWER_TOTAL);
-        return (answer == ANSWER_BASE + ANSWER_FOUND && logged == total).then_some(
-            Effect::Unchanged,
-        );
+        let found = answer == ANSWER_BASE + ANSWER_FOUND && logged == total;
+        return found.then_some(Effect::Unchanged);
     }
     (answer == ANSWER_BASE + ANSWER_NONE).then_some(Effect::Unchanged)
 }
@@ -146,9 +145,10 @@ fn summed(log: &[u64], i: usize, total: u64) -> Option<Effect>
     let answer = word_at(log, i, LOGGED_ANSWER);
     let logged = word_at(log, i, LOGGED_ANSWER_TOTAL);
     match sum_of(total, word_at(log, i, LOGGED_TOTAL)) {
-        Some(sum) => (answer == ANSWER_BASE + ANSWER_POSTED && logged == sum).then_some(
-            Effect::Balance(1, sum),
-        ),
+        Some(sum) => {
+            let posted = answer == ANSWER_BASE + ANSWER_POSTED && logged == sum;
+            posted.then_some(Effect::Balance(1, sum))
+        }
         None => (answer == ANSWER_BASE + ANSWER_OVERRUN).then_some(Effect::Unchanged),
     }
 }

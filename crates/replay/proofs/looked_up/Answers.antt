@@ -12,7 +12,7 @@ use Rattle.replay.proofs.looked_up.Goals as goal
 pub returns-then-there-ne0 : goal.returns-then-there-ne0
 returns-then-there-ne0 c crowded =
     let s = c.args in
-    let both : c.if-answer.then_some ≡ (eqb c.word_at-answer.result 21 && eqb c.word_at-logged.result s.total) =
+    let both : c.if-answer.found ≡ (eqb c.word_at-answer.result 21 && eqb c.word_at-logged.result s.total) =
     grind (arith, nat_tests) in
     rw (balance_there s.there s.total c.if-there-ne0.true)
     ((rw (both, c.word_at-answer.ensures, c.word_at-logged.ensures) at c.then_some.ensures)

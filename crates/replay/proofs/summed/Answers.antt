@@ -11,7 +11,7 @@ use Rattle.replay.proofs.summed.Goals as goal
 pub returns-after-answer : goal.returns-after-answer
 returns-after-answer c =
     let s = c.args in
-    let both : c.if-answer.then_some ≡ (eqb c.word_at-answer.result 23 && eqb c.word_at-logged.result c.in-Some.sum) =
+    let both : c.if-answer.posted ≡ (eqb c.word_at-answer.result 23 && eqb c.word_at-logged.result c.in-Some.sum) =
     grind (arith, nat_tests) in
     (rw (both, c.word_at-answer.ensures, c.word_at-logged.ensures) at c.then_some.ensures)
     ∙ sym (post_sum s.log.now s.i c.requires.1 s.total _
