@@ -1,7 +1,6 @@
 -- The balances after an operation, by what it makes of its account's balance; crowding is asked for a new account only.
 -- Rests on the laws of one account.
 use Prim.Native.Nat.{ℕ, ◌+◌, ◌*◌}
-use native.Mathlib.Omega.{arith}
 use native.Mathlib.Decide.{ℕ_discrete}
 use mathlib.Core.Path.{◌≡◌, refl, sym, ◌∙◌}
 use mathlib.Core.Logic.{◌≢◌, by_cases}
@@ -14,9 +13,9 @@ use mir.Syntax.{w64}
 use mir.Val.{to_z, of_z}
 use Rattle.machine.proofs.laws.Base.{if_eq, if_ne}
 use Rattle.logs.specs.Log.{Logged}
-use Rattle.replay.specs.declared.Outcome.TheVariants.{Balance, Unchanged, Another}
+use Rattle.replay.specs.declared.Effect.TheVariants.{Unchanged, Balance}
 use Rattle.replay.specs.Balances.{balance_of, put_words, put_balance}
-use Rattle.replay.specs.Replay.{outcome_of, as_outcome, put_if, as_replayed}
+use Rattle.replay.specs.Replay.{outcome_of, as_effect, as_outcome, put_if}
 use Rattle.replay.proofs.Alone.{crowding_unused}
 
 -- ---- balances in words
@@ -41,30 +40,25 @@ crowding_asked x asked crowded there total h =
 
 module _ (x : List ℕ) (j : ℕ) where
   pub after_balance :
-      (still : Bool) (o : Option (Option ℤ)) (there total : ℕ) → as_outcome still o ≡ Balance there total
-      → record { fits = true; balances = set (set x (j * 2) there) (j * 2 + 1) total } ≡ as_replayed x (put_if x j still o)
-  unfolding as_outcome as_replayed put_if put_balance put_words
-  after_balance still None there total e = absurd (let z : ◌≡◌ {A = ℕ} 0 1 = cc in omega arith)
-  after_balance true (Some s) there total e = absurd (let z : ◌≡◌ {A = ℕ} 0 1 = cc in omega arith)
+      (still : Bool) (o : Option (Option ℤ)) (there total : ℕ) → as_outcome still o ≡ Some (Balance there total)
+      → Some (set (set x (j * 2) there) (j * 2 + 1) total) ≡ put_if x j still o
+  unfolding as_outcome as_effect put_if put_balance put_words
+  after_balance still None there total e = cc
+  after_balance true (Some s) there total e = cc
   after_balance false (Some None) there total e =
       let p : 0 ≡ there = cc in let q : 0 ≡ total = cc in rw (← p, ← q)
   after_balance false (Some (Some v)) there total e =
       let p : 1 ≡ there = cc in let q : of_z w64 v ≡ total = cc in rw (← p, ← q)
 
   pub after_nothing :
-      (still : Bool) (o : Option (Option ℤ)) → as_outcome still o ≡ Unchanged
-      → record { fits = true; balances = x } ≡ as_replayed x (put_if x j still o)
-  unfolding as_outcome as_replayed put_if
-  after_nothing still None e = absurd (let z : ◌≡◌ {A = ℕ} 0 1 = cc in omega arith)
+      (still : Bool) (o : Option (Option ℤ)) → as_outcome still o ≡ Some Unchanged → Some x ≡ put_if x j still o
+  unfolding as_outcome as_effect put_if
+  after_nothing still None e = cc
   after_nothing true (Some s) e = refl
-  after_nothing false (Some None) e = absurd (let z : ◌≡◌ {A = ℕ} 0 1 = cc in omega arith)
-  after_nothing false (Some (Some v)) e = absurd (let z : ◌≡◌ {A = ℕ} 0 1 = cc in omega arith)
+  after_nothing false (Some None) e = cc
+  after_nothing false (Some (Some v)) e = cc
 
-  pub after_another :
-      (still : Bool) (o : Option (Option ℤ)) → as_outcome still o ≡ Another
-      → record { fits = false; balances = x } ≡ as_replayed x (put_if x j still o)
-  unfolding as_outcome as_replayed put_if
+  pub after_another : (still : Bool) (o : Option (Option ℤ)) → as_outcome still o ≡ None → None ≡ put_if x j still o
+  unfolding as_outcome put_if
   after_another still None e = refl
-  after_another true (Some s) e = absurd (let z : ◌≡◌ {A = ℕ} 0 1 = cc in omega arith)
-  after_another false (Some None) e = absurd (let z : ◌≡◌ {A = ℕ} 0 1 = cc in omega arith)
-  after_another false (Some (Some v)) e = absurd (let z : ◌≡◌ {A = ℕ} 0 1 = cc in omega arith)
+  after_another still (Some s) e = cc

@@ -7,6 +7,7 @@ use mathlib.Core.Logic.{◌≢◌}
 use mathlib.Core.Bool.{Bool, true, false, ◌&&◌}
 use mathlib.Core.List.{List}
 use Rattle.std.specs.Prelude.{Option, Some, None}
+use Rattle.std.specs.Bool.{then_some}
 use lib.Dec.{eqb}
 use lib.IntN.{ℤ, pos, ◌+ℤ◌}
 use mir.Syntax.{w64}
@@ -16,7 +17,6 @@ use borrow.Author.Tests.{eqb-true, ne_eqb}
 use Rattle.interface.specs.Numbers.{answer_number, answer_total, kind_insert, kind_delete, kind_lookup, kind_post}
 use Rattle.interface.specs.declared.Answer.{Answer}
 use Rattle.interface.specs.declared.Answer.TheVariants.{Added, Replaced, Removed, Absent, Found, Posted, Crowded, Overrun}
-use Rattle.interface.specs.declared.Answer.TheVariants as Answer
 use Rattle.machine.specs.Choice.{when◌then◌else◌, ◌and◌}
 use Rattle.machine.specs.Sequential.{Operation, update, lookup, insert, delete, post, total_or0, is_total, looked}
 use Rattle.machine.specs.Calls.{operation_of}
@@ -26,9 +26,9 @@ use Rattle.logs.specs.Log.{logged_at, word_at, logged_kind, logged_account, logg
 use Rattle.logs.specs.Orders.{same_total, gives}
 use Rattle.sums.specs.Sums.{added, sum_of}
 use Rattle.sums.proofs.Ranges.{fits_total}
-use Rattle.replay.specs.declared.Outcome.{Outcome}
-use Rattle.replay.specs.declared.Outcome.TheVariants.{Balance, Unchanged, Another}
-use Rattle.replay.specs.Replay.{served_alone, given_alone, outcome_if, outcome_of, is_still, as_outcome, still_at}
+use Rattle.replay.specs.declared.Effect.{Effect}
+use Rattle.replay.specs.declared.Effect.TheVariants.{Unchanged, Balance}
+use Rattle.replay.specs.Replay.{served_alone, given_alone, outcome_if, outcome_of, is_still, as_effect, as_outcome, still_at}
 use Rattle.replay.proofs.Words.{equal_words}
 use Rattle.replay.proofs.Alone.{inserts_there, inserts_crowded, inserts_new, deletes_there, deletes_missing}
 use Rattle.replay.proofs.Alone.{posts_crowded, posts_within, posts_outside}
@@ -46,7 +46,7 @@ and_true_right false = refl
 
 -- ---- what the operation at a place makes of a balance
 
-abbrev outcome_at : List ℕ → ℕ → Bool → Option ℤ → Outcome
+abbrev outcome_at : List ℕ → ℕ → Bool → Option ℤ → Option Effect
 outcome_at l i crowded s = as_outcome (still_at l i) (outcome_of (logged_at l i) crowded s)
 
 abbrev total_logged : List ℕ → ℕ → ℤ
@@ -64,8 +64,8 @@ abbrev is_answer_total : List ℕ → ℕ → ℕ → Bool
 is_answer_total l i w = eqb (word_at l i logged_answer_total) w
 
 -- what an answer makes of the balance, if it is the one logged
-unfoldable afterwards : Answer → Option ℤ → Outcome
-afterwards r s = as_outcome (is_still (answer_base + answer_number r)) (Some s)
+unfoldable afterwards : Answer → Option ℤ → Effect
+afterwards r s = as_effect (is_still (answer_base + answer_number r)) s
 
 -- ---- a sum, by what `sum_of` answers
 
@@ -87,13 +87,13 @@ module _ (t v : ℕ) where
 module _ (l : List ℕ) (i : ℕ) where
   given :
       (r : Answer) (s : Option ℤ)
-      → as_outcome (still_at l i) (given_alone (logged_at l i) (r, s)) ≡ when gives (logged_at l i) r then afterwards r s else Another
+      → as_outcome (still_at l i) (given_alone (logged_at l i) (r, s)) ≡ then_some (gives (logged_at l i) r) (afterwards r s)
   unfolding given_alone gives logged_at still_at when◌then◌else◌ as_outcome afterwards
   given r s = go (gives (logged_at l i) r) refl
     where
       go : (t : Bool) → gives (logged_at l i) r ≡ t
-          → as_outcome (still_at l i) (when t then Some s else None) ≡ when t then afterwards r s else Another
-      go true e = ap (λ (z : ℕ). as_outcome (is_still z) (Some s)) (eqb-true _ _ (and_parts _ _ e).0)
+          → as_outcome (still_at l i) (when t then Some s else None) ≡ then_some t (afterwards r s)
+      go true e = ap (λ (z : ℕ). Some (as_effect (is_still z) s)) (eqb-true _ _ (and_parts _ _ e).0)
       go false e = refl
 
   -- an operation, its answer and the balance afterwards: an answer without a total, and one with a total
@@ -101,17 +101,17 @@ module _ (l : List ℕ) (i : ℕ) where
       (crowded : Bool) (s t : Option ℤ) (o : Operation) (r : Answer) (is : operation_at l i ≡ Some o)
       (serves : served_alone crowded o s ≡ (r, t))
     where
-      served : outcome_at l i crowded s ≡ when gives (logged_at l i) r then afterwards r t else Another
+      served : outcome_at l i crowded s ≡ then_some (gives (logged_at l i) r) (afterwards r t)
       unfolding outcome_of outcome_if logged_at
       served = rw (is, serves) (given r t)
 
-      plain : answer_total r ≡ None → outcome_at l i crowded s ≡ when is_answer l i r then afterwards r t else Another
+      plain : answer_total r ≡ None → outcome_at l i crowded s ≡ then_some (is_answer l i r) (afterwards r t)
       unfolding gives logged_at same_total
       plain e = served ∙ rw (e, and_true_right (is_answer l i r))
 
       with-total :
           (w : ℤ) → answer_total r ≡ Some w → SFits w64 w → Fits w64 (word_at l i logged_answer_total)
-          → outcome_at l i crowded s ≡ when (is_answer l i r && is_answer_total l i (of_z w64 w)) then afterwards r t else Another
+          → outcome_at l i crowded s ≡ then_some (is_answer l i r && is_answer_total l i (of_z w64 w)) (afterwards r t)
       unfolding gives logged_at same_total
       with-total w e f g =
           served ∙ rw (e, equal_words w (word_at l i logged_answer_total) f g, and_both (is_answer l i r) (is_answer_total l i (of_z w64 w)))
@@ -126,22 +126,22 @@ module _ (l : List ℕ) (i : ℕ) where
     -- the total logged is the account's
     put_in :
         (t : Bool)
-        → when t then Balance 1 (of_z w64 (total_logged l i)) else Another ≡ when t then Balance 1 (word_at l i logged_total) else Another
-    put_in t = ap (λ (z : ℕ). when t then Balance 1 z else Another) (of_z-to_z {w = w64} {n = word_at l i logged_total} fits)
+        → then_some t (Balance 1 (of_z w64 (total_logged l i))) ≡ then_some t (Balance 1 (word_at l i logged_total))
+    put_in t = ap (λ (z : ℕ). then_some t (Balance 1 z)) (of_z-to_z {w = w64} {n = word_at l i logged_total} fits)
 
     pub insert_there :
         (crowded : Bool) (w : ℤ)
-        → outcome_at l i crowded (Some w) ≡ when is_answer l i Replaced then Balance 1 (word_at l i logged_total) else Another
-    unfolding answer_total afterwards is_still as_outcome when◌then◌else◌
+        → outcome_at l i crowded (Some w) ≡ then_some (is_answer l i Replaced) (Balance 1 (word_at l i logged_total))
+    unfolding answer_total afterwards is_still as_effect when◌then◌else◌
     insert_there crowded w =
         plain crowded (Some w) _ _ Replaced insertion (inserts_there _ _ crowded w) refl ∙ put_in (is_answer l i Replaced)
 
-    pub insert_crowded : outcome_at l i true None ≡ when is_answer l i Crowded then Unchanged else Another
-    unfolding answer_total afterwards is_still as_outcome when◌then◌else◌
+    pub insert_crowded : outcome_at l i true None ≡ then_some (is_answer l i Crowded) Unchanged
+    unfolding answer_total afterwards is_still as_effect when◌then◌else◌
     insert_crowded = plain true None _ _ Crowded insertion (inserts_crowded _ _) refl
 
-    pub insert_new : outcome_at l i false None ≡ when is_answer l i Added then Balance 1 (word_at l i logged_total) else Another
-    unfolding answer_total afterwards is_still as_outcome when◌then◌else◌
+    pub insert_new : outcome_at l i false None ≡ then_some (is_answer l i Added) (Balance 1 (word_at l i logged_total))
+    unfolding answer_total afterwards is_still as_effect when◌then◌else◌
     insert_new = plain false None _ _ Added insertion (inserts_new _ _) refl ∙ put_in (is_answer l i Added)
 
   -- ---- deletes and lookups
@@ -151,12 +151,12 @@ module _ (l : List ℕ) (i : ℕ) where
     unfolding operation_of when◌then◌else◌
     deletion = rw is
 
-    pub delete_there : (w : ℤ) → outcome_at l i crowded (Some w) ≡ when is_answer l i Removed then Balance 0 0 else Another
-    unfolding answer_total afterwards is_still as_outcome when◌then◌else◌
+    pub delete_there : (w : ℤ) → outcome_at l i crowded (Some w) ≡ then_some (is_answer l i Removed) (Balance 0 0)
+    unfolding answer_total afterwards is_still as_effect when◌then◌else◌
     delete_there w = plain crowded (Some w) _ _ Removed deletion (deletes_there _ crowded w) refl
 
-    pub delete_missing : outcome_at l i crowded None ≡ when is_answer l i Absent then Unchanged else Another
-    unfolding answer_total afterwards is_still as_outcome when◌then◌else◌
+    pub delete_missing : outcome_at l i crowded None ≡ then_some (is_answer l i Absent) Unchanged
+    unfolding answer_total afterwards is_still as_effect when◌then◌else◌
     delete_missing = plain crowded None _ _ Absent deletion (deletes_missing _ crowded) refl
 
   module _ (is : word_at l i logged_kind ≡ kind_lookup) (crowded : Bool) where
@@ -167,14 +167,14 @@ module _ (l : List ℕ) (i : ℕ) where
     pub lookup_there :
         (w : ℕ) → Fits w64 w → Fits w64 (word_at l i logged_answer_total)
         → outcome_at l i crowded (Some (to_z w64 w))
-        ≡ when (is_answer l i (Found (pos 0)) && is_answer_total l i w) then Unchanged else Another
-    unfolding answer_total afterwards is_still as_outcome when◌then◌else◌ served_alone looked
+        ≡ then_some (is_answer l i (Found (pos 0)) && is_answer_total l i w) Unchanged
+    unfolding answer_total afterwards is_still as_effect when◌then◌else◌ served_alone looked
     lookup_there w f g =
         with-total crowded (Some (to_z w64 w)) _ _ (Found (to_z w64 w)) looking refl (to_z w64 w) refl (sfits_to_z f) g
         ∙ rw (of_z-to_z {w = w64} {n = w} f)
 
-    pub lookup_missing : outcome_at l i crowded None ≡ when is_answer l i Answer.None then Unchanged else Another
-    unfolding answer_total afterwards is_still as_outcome when◌then◌else◌ served_alone looked
+    pub lookup_missing : outcome_at l i crowded None ≡ then_some (is_answer l i Answer.None) Unchanged
+    unfolding answer_total afterwards is_still as_effect when◌then◌else◌ served_alone looked
     lookup_missing = plain crowded None _ _ Answer.None looking refl refl
 
   -- ---- posts
@@ -184,23 +184,23 @@ module _ (l : List ℕ) (i : ℕ) where
     unfolding operation_of when◌then◌else◌
     posting = rw is
 
-    pub post_crowded : outcome_at l i true None ≡ when is_answer l i Crowded then Unchanged else Another
-    unfolding answer_total afterwards is_still as_outcome when◌then◌else◌
+    pub post_crowded : outcome_at l i true None ≡ then_some (is_answer l i Crowded) Unchanged
+    unfolding answer_total afterwards is_still as_effect when◌then◌else◌
     post_crowded = plain true None _ _ Crowded posting (posts_crowded _ _) refl
 
     post_within :
         (s : Option ℤ) → Fits w64 (word_at l i logged_answer_total) → is_total (total_or0 s +ℤ total_logged l i) ≡ true
         → outcome_at l i false s
-        ≡ when (is_answer l i (Posted (pos 0)) && is_answer_total l i (of_z w64 (total_or0 s +ℤ total_logged l i)))
-        then Balance 1 (of_z w64 (total_or0 s +ℤ total_logged l i)) else Another
-    unfolding answer_total afterwards is_still as_outcome when◌then◌else◌
+        ≡ then_some (is_answer l i (Posted (pos 0)) && is_answer_total l i (of_z w64 (total_or0 s +ℤ total_logged l i)))
+        (Balance 1 (of_z w64 (total_or0 s +ℤ total_logged l i)))
+    unfolding answer_total afterwards is_still as_effect when◌then◌else◌
     post_within s f e =
         with-total false s _ _ (Posted (total_or0 s +ℤ total_logged l i)) posting (posts_within _ _ s e) _ refl (fits_total _ e) f
 
     post_outside :
         (s : Option ℤ) → is_total (total_or0 s +ℤ total_logged l i) ≡ false
-        → outcome_at l i false s ≡ when is_answer l i Overrun then Unchanged else Another
-    unfolding answer_total afterwards is_still as_outcome when◌then◌else◌
+        → outcome_at l i false s ≡ then_some (is_answer l i Overrun) Unchanged
+    unfolding answer_total afterwards is_still as_effect when◌then◌else◌
     post_outside s e = plain false s _ _ Overrun posting (posts_outside _ _ s e) refl
 
     -- an account that is not there starts from 0
@@ -216,13 +216,13 @@ module _ (l : List ℕ) (i : ℕ) where
 
     pub post_sum :
         (t s : ℕ) → sum_of t (word_at l i logged_total) ≡ Some s → Fits w64 (word_at l i logged_answer_total)
-        → outcome_at l i false (Some (to_z w64 t)) ≡ when (is_answer l i (Posted (pos 0)) && is_answer_total l i s) then Balance 1 s else Another
+        → outcome_at l i false (Some (to_z w64 t)) ≡ then_some (is_answer l i (Posted (pos 0)) && is_answer_total l i s) (Balance 1 s)
     unfolding total_or0
     post_sum t s e f = let h = sum_within t (word_at l i logged_total) s e in rw h.1 (post_within (Some (to_z w64 t)) f h.0)
 
     pub post_overrun :
         (t : ℕ) → sum_of t (word_at l i logged_total) ≡ None
-        → outcome_at l i false (Some (to_z w64 t)) ≡ when is_answer l i Overrun then Unchanged else Another
+        → outcome_at l i false (Some (to_z w64 t)) ≡ then_some (is_answer l i Overrun) Unchanged
     unfolding total_or0
     post_overrun t e = post_outside (Some (to_z w64 t)) (sum_outside t (word_at l i logged_total) e)
 
@@ -230,6 +230,6 @@ module _ (l : List ℕ) (i : ℕ) where
 
   pub no_kind :
       word_at l i logged_kind ≢ kind_insert → word_at l i logged_kind ≢ kind_delete → word_at l i logged_kind ≢ kind_lookup
-      → word_at l i logged_kind ≢ kind_post → (crowded : Bool) (s : Option ℤ) → outcome_at l i crowded s ≡ Another
+      → word_at l i logged_kind ≢ kind_post → (crowded : Bool) (s : Option ℤ) → outcome_at l i crowded s ≡ None
   unfolding outcome_of outcome_if logged_at operation_of as_outcome when◌then◌else◌
   no_kind a b d e crowded s = rw (ne_eqb _ _ a, ne_eqb _ _ b, ne_eqb _ _ d, ne_eqb _ _ e)

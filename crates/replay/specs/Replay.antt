@@ -3,20 +3,19 @@
 -- logs.
 use Rattle.std.specs.Prelude.{ℕ, ◌+◌, Bool, true, false, List, [], ◌∷◌, eqb, ℤ, pos, Option, Some, None}
 use Rattle.std.specs.Int.{w64}
+use Rattle.std.specs.Option.{option_map}
 use Rattle.std.proofs.Common.{of_z}
 use Rattle.interface.specs.Numbers.{answer_number}
 use Rattle.interface.specs.declared.Answer.{Answer}
 use Rattle.interface.specs.declared.Answer.TheVariants.{Absent, Found, Crowded, Overrun}
-use Rattle.interface.specs.declared.Answer.TheVariants as Answer
 use Rattle.machine.specs.Choice.{when◌then◌else◌}
 use Rattle.machine.specs.Sequential.{Table, Operation, update, lookup, account, find, looked, tried}
 use Rattle.machine.specs.Calls.{operation_of}
 use Rattle.report.specs.Report.{answer_base}
 use Rattle.logs.specs.Log.{Logged, logged_at, word_at, logged_answer}
 use Rattle.logs.specs.Orders.{gives}
-use Rattle.replay.specs.declared.Outcome.{Outcome}
-use Rattle.replay.specs.declared.Outcome.TheVariants.{Balance, Unchanged, Another}
-use Rattle.replay.specs.declared.Replayed.{Replayed}
+use Rattle.replay.specs.declared.Effect.{Effect}
+use Rattle.replay.specs.declared.Effect.TheVariants.{Unchanged, Balance}
 use Rattle.replay.specs.Balances.{first_place, balance_at, put_balance, crowds_at}
 
 -- the table that holds one account, if it is there
@@ -51,12 +50,15 @@ is_still r =
     else when eqb r (answer_base + answer_number Crowded) then true
     else eqb r (answer_base + answer_number Overrun)
 
--- the same in the source's enum, of an answer that says that the table stayed as it was, or not
-unfoldable pub as_outcome : Bool → Option (Option ℤ) → Outcome
-as_outcome still None = Another
-as_outcome true (Some s) = Unchanged
-as_outcome false (Some None) = Balance 0 0
-as_outcome false (Some (Some v)) = Balance 1 (of_z w64 v)
+-- the balance afterwards in the source's enum, by an answer that says that the table stayed as it was, or not
+unfoldable pub as_effect : Bool → Option ℤ → Effect
+as_effect true s = Unchanged
+as_effect false None = Balance 0 0
+as_effect false (Some v) = Balance 1 (of_z w64 v)
+
+-- the same, where there is one
+unfoldable pub as_outcome : Bool → Option (Option ℤ) → Option Effect
+as_outcome still o = option_map (as_effect still) o
 
 unfoldable pub put_if : List ℕ → ℕ → Bool → Option (Option ℤ) → Option (List ℕ)
 put_if x j still None = None
@@ -71,8 +73,3 @@ unfoldable pub replayed : List ℕ → ℕ → ℕ → List ℕ → ℕ → Opti
 replayed l b M x i =
     put_if x (first_place l i) (still_at l i)
     (outcome_of (logged_at l i) (crowds_at l b M x i) (balance_at x (first_place l i)))
-
--- the same in the source's struct: whether it fits, and the balances, unchanged where not
-unfoldable pub as_replayed : List ℕ → Option (List ℕ) → Replayed
-as_replayed x None = record { fits = false; balances = x }
-as_replayed x (Some y) = record { fits = true; balances = y }

@@ -6,11 +6,9 @@ ghost use Rattle.std.specs.Prelude.{Some, ◌≡◌, Bool, false, ℕ, ◌*◌, 
 ghost use Rattle.std.specs.Int.{w64};
 ghost use Rattle.std.proofs.Common.{to_z};
 ghost use Rattle.interface.specs.Numbers.{kind_insert, kind_delete, kind_lookup, kind_post};
-ghost use Rattle.machine.specs.Choice.{when◌then◌else◌};
 ghost use Rattle.logs.specs.Log.{word_at, logged_at, logged_kind, operation_words, greatest_operations, count_of};
 ghost use Rattle.replay.specs.Balances.{first_place, agreeing, crowds_at, balance_of};
-ghost use Rattle.replay.specs.Replay.{outcome_of, as_outcome, still_at, replayed, as_replayed};
-ghost use Rattle.replay.specs.declared.Outcome.TheVariants.{Balance, Unchanged, Another};
+ghost use Rattle.replay.specs.Replay.{outcome_of, as_outcome, still_at, replayed};
 
 use interface::{
     ANSWER_ABSENT, ANSWER_ADDED, ANSWER_CROWDED, ANSWER_FOUND, ANSWER_NONE, ANSWER_OVERRUN,
@@ -21,11 +19,9 @@ use logs::{
     LOGGED_ACCOUNT, LOGGED_ANSWER, LOGGED_ANSWER_TOTAL, LOGGED_KIND, LOGGED_TOTAL, OPERATION_WORDS,
 };
 use memory::get_or;
+use report::ANSWER_BASE;
 use rules::first_bits;
 use sums::sum_of;
-
-// Answers are logged as this and their number, past every refusal's.
-const ANSWER_BASE: u64 = 16;
 
 // The words of a place.
 const BALANCE_WORDS: usize = 2;
@@ -33,20 +29,12 @@ const BALANCE_WORDS: usize = 2;
 // Twice GREATEST_OPERATIONS.
 pub const BALANCES: usize = 24;
 
-// What an operation makes of its account's balance, where the answer is the one logged: whether the account is there
-// and its total, or nothing, as the answer says; or that the answer is another.
+// What an operation makes of its account's balance: nothing, as its answer says, or whether the account is there now and
+// its total.
 #[derive(Clone, Copy)]
-pub enum Outcome {
-    Balance(u64, u64),
+pub enum Effect {
     Unchanged,
-    Another,
-}
-
-// Whether the operation gives the answer logged, and the balances after it.
-#[derive(Clone, Copy)]
-pub struct Replayed {
-    pub fits: bool,
-    pub balances: [u64; BALANCES],
+    Balance(u64, u64),
 }
 
 // ---- places
@@ -101,32 +89,10 @@ fn crowds(log: &[u64], capacity: u64, depth: u64, balances: [u64; BALANCES], i: 
     capacity <= agreeing(log, depth, bits, balances)
 }
 
-// ---- one operation on its account's balance
-
-// Nothing changes, where the answer is the one logged.
-fn unchanged_if(fits: bool) -> Outcome
-    ensures { result ≡ (when fits then Unchanged else Another) }
-{
-    if fits {
-        Outcome::Unchanged
-    } else {
-        Outcome::Another
-    }
-}
-
-// The balance afterwards, where the answer is the one logged.
-fn balance_if(fits: bool, there: u64, total: u64) -> Outcome
-    ensures { result ≡ (when fits then Balance there total else Another) }
-{
-    if fits {
-        Outcome::Balance(there, total)
-    } else {
-        Outcome::Another
-    }
-}
+// ---- one operation on its account's balance: its effect, where the answer is the one logged
 
 // An insert, of the total logged.
-fn inserted(log: &[u64], i: usize, crowded: bool, there: u64) -> Outcome
+fn inserted(log: &[u64], i: usize, crowded: bool, there: u64) -> Option<Effect>
     requires { (i < 2 ^ 32) × (word_at log.now i logged_kind ≡ kind_insert) }
     ensures { (total : ℕ) → result ≡ as_outcome (still_at log.now i)
         (outcome_of (logged_at log.now i) crowded (balance_of there total)) }
@@ -134,29 +100,29 @@ fn inserted(log: &[u64], i: usize, crowded: bool, there: u64) -> Outcome
     let answer = word_at(log, i, LOGGED_ANSWER);
     let total = word_at(log, i, LOGGED_TOTAL);
     if there != 0 {
-        return balance_if(answer == ANSWER_BASE + ANSWER_REPLACED, 1, total);
+        return (answer == ANSWER_BASE + ANSWER_REPLACED).then_some(Effect::Balance(1, total));
     }
     if crowded {
-        return unchanged_if(answer == ANSWER_BASE + ANSWER_CROWDED);
+        return (answer == ANSWER_BASE + ANSWER_CROWDED).then_some(Effect::Unchanged);
     }
-    balance_if(answer == ANSWER_BASE + ANSWER_ADDED, 1, total)
+    (answer == ANSWER_BASE + ANSWER_ADDED).then_some(Effect::Balance(1, total))
 }
 
 // A delete.
-fn deleted(log: &[u64], i: usize, there: u64) -> Outcome
+fn deleted(log: &[u64], i: usize, there: u64) -> Option<Effect>
     requires { (i < 2 ^ 32) × (word_at log.now i logged_kind ≡ kind_delete) }
     ensures { (crowded : Bool) (total : ℕ) → result ≡ as_outcome (still_at log.now i)
         (outcome_of (logged_at log.now i) crowded (balance_of there total)) }
 {
     let answer = word_at(log, i, LOGGED_ANSWER);
     if there != 0 {
-        return balance_if(answer == ANSWER_BASE + ANSWER_REMOVED, 0, 0);
+        return (answer == ANSWER_BASE + ANSWER_REMOVED).then_some(Effect::Balance(0, 0));
     }
-    unchanged_if(answer == ANSWER_BASE + ANSWER_ABSENT)
+    (answer == ANSWER_BASE + ANSWER_ABSENT).then_some(Effect::Unchanged)
 }
 
 // A lookup: found counts with the account's total only.
-fn looked_up(log: &[u64], i: usize, there: u64, total: u64) -> Outcome
+fn looked_up(log: &[u64], i: usize, there: u64, total: u64) -> Option<Effect>
     requires { (i < 2 ^ 32) × (word_at log.now i logged_kind ≡ kind_lookup) }
     ensures { (crowded : Bool) → result ≡ as_outcome (still_at log.now i)
         (outcome_of (logged_at log.now i) crowded (balance_of there total)) }
@@ -164,13 +130,14 @@ fn looked_up(log: &[u64], i: usize, there: u64, total: u64) -> Outcome
     let answer = word_at(log, i, LOGGED_ANSWER);
     if there != 0 {
         let logged = word_at(log, i, LOGGED_ANSWER_TOTAL);
-        return unchanged_if((answer == ANSWER_BASE + ANSWER_FOUND) & (logged == total));
+        let found = answer == ANSWER_BASE + ANSWER_FOUND && logged == total;
+        return found.then_some(Effect::Unchanged);
     }
-    unchanged_if(answer == ANSWER_BASE + ANSWER_NONE)
+    (answer == ANSWER_BASE + ANSWER_NONE).then_some(Effect::Unchanged)
 }
 
 // A post for which there is room, by the total before it.
-fn summed(log: &[u64], i: usize, total: u64) -> Outcome
+fn summed(log: &[u64], i: usize, total: u64) -> Option<Effect>
     requires { (i < 2 ^ 32) × (word_at log.now i logged_kind ≡ kind_post) }
     ensures { result ≡ as_outcome (still_at log.now i)
         (outcome_of (logged_at log.now i) false (Some (to_z w64 total))) }
@@ -178,17 +145,16 @@ fn summed(log: &[u64], i: usize, total: u64) -> Outcome
     let answer = word_at(log, i, LOGGED_ANSWER);
     let logged = word_at(log, i, LOGGED_ANSWER_TOTAL);
     match sum_of(total, word_at(log, i, LOGGED_TOTAL)) {
-        Some(sum) => balance_if(
-            (answer == ANSWER_BASE + ANSWER_POSTED) & (logged == sum),
-            1,
-            sum,
-        ),
-        None => unchanged_if(answer == ANSWER_BASE + ANSWER_OVERRUN),
+        Some(sum) => {
+            let posted = answer == ANSWER_BASE + ANSWER_POSTED && logged == sum;
+            posted.then_some(Effect::Balance(1, sum))
+        }
+        None => (answer == ANSWER_BASE + ANSWER_OVERRUN).then_some(Effect::Unchanged),
     }
 }
 
 // A post; an account that is not there starts from 0.
-fn posted(log: &[u64], i: usize, crowded: bool, there: u64, total: u64) -> Outcome
+fn posted(log: &[u64], i: usize, crowded: bool, there: u64, total: u64) -> Option<Effect>
     requires { (i < 2 ^ 32) × (word_at log.now i logged_kind ≡ kind_post) }
     ensures { result ≡ as_outcome (still_at log.now i)
         (outcome_of (logged_at log.now i) crowded (balance_of there total)) }
@@ -198,13 +164,13 @@ fn posted(log: &[u64], i: usize, crowded: bool, there: u64, total: u64) -> Outco
     }
     if crowded {
         let answer = word_at(log, i, LOGGED_ANSWER);
-        return unchanged_if(answer == ANSWER_BASE + ANSWER_CROWDED);
+        return (answer == ANSWER_BASE + ANSWER_CROWDED).then_some(Effect::Unchanged);
     }
     summed(log, i, 0)
 }
 
 // What the operation at place i makes of its account's balance.
-fn outcome_of(log: &[u64], i: usize, crowded: bool, there: u64, total: u64) -> Outcome
+fn outcome_of(log: &[u64], i: usize, crowded: bool, there: u64, total: u64) -> Option<Effect>
     requires { i < 2 ^ 32 }
     ensures { result ≡ as_outcome (still_at log.now i)
         (outcome_of (logged_at log.now i) crowded (balance_of there total)) }
@@ -214,7 +180,7 @@ fn outcome_of(log: &[u64], i: usize, crowded: bool, there: u64, total: u64) -> O
         KIND_DELETE => deleted(log, i, there),
         KIND_LOOKUP => looked_up(log, i, there, total),
         KIND_POST => posted(log, i, crowded, there, total),
-        _ => Outcome::Another,
+        _ => None,
     }
 }
 
@@ -226,33 +192,19 @@ pub fn replay(
     log: &[u64],
     capacity: u64,
     depth: u64,
-    balances: [u64; BALANCES],
+    mut balances: [u64; BALANCES],
     i: usize,
-) -> Replayed
+) -> Option<[u64; BALANCES]>
     requires { (length log.now ≤ greatest_operations * operation_words) × (i < greatest_operations) }
-    ensures { result ≡ as_replayed balances (replayed log.now capacity depth balances i) }
+    ensures { result ≡ replayed log.now capacity depth balances i }
 {
     let at = first_place(log, i) * BALANCE_WORDS;
     let there = balances[at];
     let total = balances[at + 1];
     let crowded = there == 0 && crowds(log, capacity, depth, balances, i);
-    match outcome_of(log, i, crowded, there, total) {
-        Outcome::Balance(held, sum) => {
-            let mut next = balances;
-            next[at] = held;
-            next[at + 1] = sum;
-            Replayed {
-                fits: true,
-                balances: next,
-            }
-        }
-        Outcome::Unchanged => Replayed {
-            fits: true,
-            balances,
-        },
-        Outcome::Another => Replayed {
-            fits: false,
-            balances,
-        },
+    if let Effect::Balance(held, sum) = outcome_of(log, i, crowded, there, total)? {
+        balances[at] = held;
+        balances[at + 1] = sum;
     }
+    Some(balances)
 }

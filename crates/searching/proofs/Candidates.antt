@@ -1,23 +1,34 @@
 -- Laws of an exchange, an attempt and a candidate, by the tests of the source in their order. Rests on the definitions and on what
 -- the least end decides.
 use Prim.Native.Nat.{ℕ, ◌≤◌, ◌<◌}
-use mathlib.Core.Path.{◌≡◌, sym, ap, ◌∙◌}
+use native.Mathlib.Omega.{arith}
+use mathlib.Core.Path.{◌≡◌, refl, sym, ◌∙◌}
 use mathlib.Core.Bool.{Bool, true, false}
-use mathlib.Core.List.{List}
+use mathlib.Core.List.{List, [], ◌∷◌}
 use Rattle.std.specs.Prelude.{Option, Some, None}
+use Rattle.std.specs.Option.{option_eq}
+use Rattle.std.specs.Cmp.Lexicographic.{pointwise}
 use lib.Dec.{eqb, leb}
 use lib.ListN.{get_or}
 use borrow.Author.Tests.{lt-ltb, le-ltb}
+use Rattle.std.proofs.lemmas.Bool.Decides.{nat_tests}
 use Rattle.machine.specs.Choice.{when◌then◌else◌, ◌and◌}
 use Rattle.logs.specs.Log.{log_of, logged_at, word_at, logged_call, logged_end, precedes, greatest_operations, greatest_word}
 use Rattle.logs.specs.Judging.{earlier_in}
 use Rattle.logs.specs.Search.{opened, is_same, exchanged_from, exchanged, unless_exchanged, candidate}
 use Rattle.logs.specs.Same.{same_numbers}
-use Rattle.replay.specs.declared.Replayed.{Replayed}
-use Rattle.replay.specs.Replay.{replayed, as_replayed, still_at}
+use Rattle.replay.specs.Replay.{replayed, still_at}
 use Rattle.searching.specs.Searching.{is_left, least_end, exchanged_in, attempt_in, candidate_in}
-use Rattle.searching.proofs.Fits.{fits_some, fits_none}
 use Rattle.searching.proofs.Ends.{in_time_ready}
+
+-- ---- words compared
+
+pub by_word : (x y : List ℕ) → pointwise eqb x y ≡ same_numbers y x
+unfolding same_numbers ◌and◌
+by_word [] [] = refl
+by_word [] (b ∷ y) = refl
+by_word (a ∷ x) [] = refl
+by_word (a ∷ x) (b ∷ y) = grind (arith, nat_tests, by_word x y)
 
 -- ---- an exchange
 
@@ -27,7 +38,7 @@ module _ (l : List ℕ) (b M : ℕ) (before : List ℕ) (last : ℕ) (after : Li
   unfolding exchanged earlier_in precedes log_of logged_at ◌and◌
   exchange_earlier h = rw (← end, ← call, lt-ltb u v h)
 
-  module _ (h : v ≤ u) (sooner : Replayed) (first : sooner ≡ as_replayed before (replayed l b M before i)) where
+  module _ (h : v ≤ u) where
     tested :
         exchanged_in l b M before last after i
         ≡ exchanged_from (List ℕ) greatest_operations (replayed l b M) (earlier_in (log_of l)) (still_at l) same_numbers last after
@@ -35,26 +46,22 @@ module _ (l : List ℕ) (b M : ℕ) (before : List ℕ) (last : ℕ) (after : Li
     unfolding exchanged earlier_in precedes log_of logged_at ◌and◌
     tested = rw (← end, ← call, le-ltb u v h)
 
-    pub exchange_unfit : sooner.fits ≡ false → false ≡ exchanged_in l b M before last after i
+    pub exchange_unfit : replayed l b M before i ≡ None → false ≡ exchanged_in l b M before last after i
     unfolding exchanged_from
-    exchange_unfit f = sym (tested ∙ rw (fits_none before _ sooner first f))
+    exchange_unfit e = sym (tested ∙ rw e)
 
-    module _ (fit : sooner.fits ≡ true) (later : Replayed)
-        (second : later ≡ as_replayed sooner.balances (replayed l b M sooner.balances last)) where
-      compared :
-          exchanged_in l b M before last after i
-          ≡ is_same (List ℕ) greatest_operations (replayed l b M) (earlier_in (log_of l)) (still_at l) same_numbers after
-          (replayed l b M sooner.balances last)
-      unfolding exchanged_from
-      compared = tested ∙ rw (fits_some before _ sooner first fit)
-
-      pub exchange_unfit_later : later.fits ≡ false → false ≡ exchanged_in l b M before last after i
-      unfolding is_same
-      exchange_unfit_later f = sym (compared ∙ rw (fits_none _ _ later second f))
-
-      pub exchange_same : later.fits ≡ true → same_numbers after later.balances ≡ exchanged_in l b M before last after i
-      unfolding is_same
-      exchange_same f = sym (compared ∙ rw (fits_some _ _ later second f))
+    pub exchange_compared :
+        (between : List ℕ) → replayed l b M before i ≡ Some between
+        → option_eq (pointwise eqb) (replayed l b M between last) (Some after) ≡ exchanged_in l b M before last after i
+    unfolding exchanged_from is_same
+    exchange_compared between e = sym (tested ∙ rw e (go (replayed l b M between last)))
+      where
+        go :
+            (o : Option (List ℕ))
+            → is_same (List ℕ) greatest_operations (replayed l b M) (earlier_in (log_of l)) (still_at l) same_numbers after o
+            ≡ option_eq (pointwise eqb) o (Some after)
+        go None = refl
+        go (Some later) = sym (by_word later after)
 
 -- ---- an attempt
 
@@ -62,37 +69,26 @@ module _ (l : List ℕ) (b M : ℕ) (before : List ℕ) (last : ℕ) (x : List �
   abbrev unless : Option (List ℕ) → Option (List ℕ)
   unless = unless_exchanged (List ℕ) greatest_operations (replayed l b M) (earlier_in (log_of l)) (still_at l) same_numbers before last i
 
-  module _ (next : Replayed) (first : next ≡ as_replayed x (replayed l b M x i)) where
-    pub attempt_unfit : next.fits ≡ false → next ≡ as_replayed x (attempt_in l b M before last x i)
-    unfolding unless_exchanged
-    attempt_unfit f =
-        let e = fits_none x _ next first f in
-        first ∙ ap (as_replayed x) e ∙ sym (ap (λ o. as_replayed x (unless o)) e)
+  pub attempt_unfit : replayed l b M x i ≡ None → None ≡ attempt_in l b M before last x i
+  unfolding unless_exchanged
+  attempt_unfit e = rw e
 
-    module _ (fit : next.fits ≡ true) where
-      fits_here : attempt_in l b M before last x i ≡ unless (Some next.balances)
-      fits_here = ap unless (fits_some x _ next first fit)
+  module _ (next : List ℕ) (fits : replayed l b M x i ≡ Some next) where
+    pub attempt_exchanged :
+        (r : Bool) → r ≡ exchanged_in l b M before last next i → i < last → r ≡ true
+        → None ≡ attempt_in l b M before last x i
+    unfolding unless_exchanged when◌then◌else◌ ◌and◌
+    attempt_exchanged r e g f = rw (fits, lt-ltb i last g, ← e, f)
 
-      pub attempt_exchanged :
-          (r : Bool) → r ≡ exchanged_in l b M before last next.balances i → i < last → r ≡ true
-          → as_replayed x None ≡ as_replayed x (attempt_in l b M before last x i)
-      unfolding unless_exchanged when◌then◌else◌ ◌and◌
-      attempt_exchanged r e g f =
-          let n : attempt_in l b M before last x i ≡ None = fits_here ∙ rw (lt-ltb i last g, ← e, f) in
-          sym (ap (as_replayed x) n)
+    pub attempt_kept :
+        (r : Bool) → r ≡ exchanged_in l b M before last next i → i < last → r ≡ false
+        → Some next ≡ attempt_in l b M before last x i
+    unfolding unless_exchanged when◌then◌else◌ ◌and◌
+    attempt_kept r e g f = rw (fits, lt-ltb i last g, ← e, f)
 
-      taken : attempt_in l b M before last x i ≡ Some next.balances → next ≡ as_replayed x (attempt_in l b M before last x i)
-      taken e = first ∙ ap (as_replayed x) (fits_some x _ next first fit) ∙ sym (ap (as_replayed x) e)
-
-      pub attempt_kept :
-          (r : Bool) → r ≡ exchanged_in l b M before last next.balances i → i < last → r ≡ false
-          → next ≡ as_replayed x (attempt_in l b M before last x i)
-      unfolding unless_exchanged when◌then◌else◌ ◌and◌
-      attempt_kept r e g f = taken (fits_here ∙ rw (lt-ltb i last g, ← e, f))
-
-      pub attempt_higher : last ≤ i → next ≡ as_replayed x (attempt_in l b M before last x i)
-      unfolding unless_exchanged when◌then◌else◌ ◌and◌
-      attempt_higher g = taken (fits_here ∙ rw (le-ltb i last g))
+    pub attempt_higher : last ≤ i → Some next ≡ attempt_in l b M before last x i
+    unfolding unless_exchanged when◌then◌else◌ ◌and◌
+    attempt_higher g = rw (fits, le-ltb i last g)
 
 -- ---- a candidate: an attempt, where the operation is left and ready
 
@@ -109,7 +105,6 @@ module _ (l : List ℕ) (b M : ℕ) (before : List ℕ) (last : ℕ) (left x : L
   unfolding unless_exchanged when◌then◌else◌
   candidate_closed e = is_open false e
 
-  pub candidate_open :
-      r ≡ true → as_replayed x (attempt_in l b M before last x i) ≡ as_replayed x (candidate_in l b M before last (is_left left) x i)
+  pub candidate_open : r ≡ true → attempt_in l b M before last x i ≡ candidate_in l b M before last (is_left left) x i
   unfolding when◌then◌else◌
-  candidate_open e = sym (ap (as_replayed x) (is_open true e))
+  candidate_open e = sym (is_open true e)

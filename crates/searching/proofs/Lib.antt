@@ -1,4 +1,3 @@
-mod Fits
 mod Tries
 mod Written
 mod Ends

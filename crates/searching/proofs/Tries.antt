@@ -16,10 +16,8 @@ use Rattle.logs.specs.Log.{log_of, greatest_operations}
 use Rattle.logs.specs.Judging.{earlier_in}
 use Rattle.logs.specs.Search.{cut_search, cut_tries, cut_begun, unless_still}
 use Rattle.logs.specs.Same.{same_numbers}
-use Rattle.replay.specs.declared.Replayed.{Replayed}
-use Rattle.replay.specs.Replay.{replayed, still_at, as_replayed}
+use Rattle.replay.specs.Replay.{replayed, still_at}
 use Rattle.searching.specs.Searching.{is_left, candidate_in, search_in}
-use Rattle.searching.proofs.Fits.{fits_some, fits_none}
 
 -- ---- what is left
 
@@ -72,31 +70,26 @@ module _ (l : List ℕ) (b M : ℕ) (before : List ℕ) (last : ℕ) (left x : L
 
     pub tries_closed : candidate_in l b M before last (is_left left) x i ≡ None → here ≡ later
     unfolding cut_begun
-    tries_closed f = turn ∙ rw f
+    tries_closed e = turn ∙ rw e
 
-    module _ (next : Replayed) (tried : next ≡ as_replayed x (candidate_in l b M before last (is_left left) x i)) where
+    module _ (next : List ℕ) (tried : candidate_in l b M before last (is_left left) x i ≡ Some next) where
       -- what is left without the place
       abbrev child : Option (List ℕ)
-      child = search_in l b M m x i (is_left (set left i 0)) next.balances
+      child = search_in l b M m x i (is_left (set left i 0)) next
 
-      pub tries_none : next.fits ≡ false → here ≡ later
+      turn_fits :
+          here ≡ unless_still (List ℕ) greatest_operations (replayed l b M) (earlier_in (log_of l)) (still_at l) same_numbers i child later
       unfolding cut_begun
-      tries_none f = turn ∙ rw (fits_none x _ next tried f)
+      turn_fits = turn ∙ rw (tried, left_without left i)
 
-      module _ (fit : next.fits ≡ true) where
-        turn_fits :
-            here ≡ unless_still (List ℕ) greatest_operations (replayed l b M) (earlier_in (log_of l)) (still_at l) same_numbers i child later
-        unfolding cut_begun
-        turn_fits = turn ∙ rw (fits_some x _ next tried fit, left_without left i)
+      pub tries_found : (o : List ℕ) → child ≡ Some o → here ≡ Some (i ∷ o)
+      unfolding unless_still
+      tries_found o e = turn_fits ∙ rw e
 
-        pub tries_found : (o : List ℕ) → child ≡ Some o → here ≡ Some (i ∷ o)
-        unfolding unless_still
-        tries_found o e = turn_fits ∙ rw e
+      pub tries_still : child ≡ None → still_at l i ≡ true → here ≡ None
+      unfolding unless_still when◌then◌else◌
+      tries_still e s = turn_fits ∙ rw (e, s)
 
-        pub tries_still : child ≡ None → still_at l i ≡ true → here ≡ None
-        unfolding unless_still when◌then◌else◌
-        tries_still e s = turn_fits ∙ rw (e, s)
-
-        pub tries_on : child ≡ None → still_at l i ≡ false → here ≡ later
-        unfolding unless_still when◌then◌else◌
-        tries_on e s = turn_fits ∙ rw (e, s)
+      pub tries_on : child ≡ None → still_at l i ≡ false → here ≡ later
+      unfolding unless_still when◌then◌else◌
+      tries_on e s = turn_fits ∙ rw (e, s)

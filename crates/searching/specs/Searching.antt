@@ -2,7 +2,7 @@
 -- table, specs/Search of crate logs, and on an operation replayed.
 use Rattle.std.specs.Prelude.{ℕ, zero, suc, Bool, true, false, List, eqb, get_or, Option, Some, None}
 use Rattle.lists.specs.Parts.{overlay}
-use Rattle.machine.specs.Choice.{when◌then◌else◌, ◌and◌}
+use Rattle.machine.specs.Choice.{when◌then◌else◌}
 use Rattle.memory.specs.Words.{least}
 use Rattle.logs.specs.Log.{word_at, logged_end, log_of, greatest_operations, greatest_word}
 use Rattle.logs.specs.Same.{same_numbers}

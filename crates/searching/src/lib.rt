@@ -2,17 +2,16 @@
 // an operation replayed. Each contract is an equality with a definition.
 #![tactic(auto, using(crate::proofs::StillLaws::still_tells))]
 
-ghost use Rattle.std.specs.Prelude.{None, ◌≡◌, eqb, leb, ◌*◌, ◌≤◌, ◌<◌, length};
+ghost use Rattle.std.specs.Prelude.{◌≡◌, eqb, leb, ◌*◌, ◌≤◌, ◌<◌, length};
 ghost use Rattle.machine.specs.Choice.{◌and◌};
 ghost use Rattle.logs.specs.Log.{operation_words, greatest_operations, word_at, logged_call, greatest_word};
-ghost use Rattle.logs.specs.Same.{same_numbers};
-ghost use Rattle.replay.specs.Replay.{as_replayed, still_at};
+ghost use Rattle.replay.specs.Replay.{still_at};
 ghost use Rattle.searching.specs.Searching.{is_left, least_end, exchanged_in, attempt_in};
 ghost use Rattle.searching.specs.Searching.{search_in, written_in, is_found};
 
 use interface::{ANSWER_ABSENT, ANSWER_CROWDED, ANSWER_FOUND, ANSWER_NONE, ANSWER_OVERRUN};
 use logs::{GREATEST_OPERATIONS, LOGGED_ANSWER, LOGGED_CALL, LOGGED_END};
-use replay::{BALANCES, Replayed, replay, word_at};
+use replay::{BALANCES, replay, word_at};
 use report::ANSWER_BASE;
 
 // No end is later.
@@ -42,13 +41,6 @@ fn still(log: &[u64], i: usize) -> bool
     )
 }
 
-// Whether the words are the same.
-fn same(x: [u64; BALANCES], y: [u64; BALANCES]) -> bool
-    ensures { result ≡ same_numbers x y }
-{
-    x == y
-}
-
 // Whether the operation at i, which came after the last one and left the balances `after`, could have come before it.
 fn exchanged(
     log: &[u64],
@@ -66,23 +58,10 @@ fn exchanged(
     if word_at(log, last, LOGGED_END) < word_at(log, i, LOGGED_CALL) {
         return false;
     }
-    let sooner = replay(log, capacity, depth, before, i);
-    if !sooner.fits {
+    let Some(between) = replay(log, capacity, depth, before, i) else {
         return false;
-    }
-    let between = sooner.balances;
-    let later = replay(log, capacity, depth, between, last);
-    later.fits && same(after, later.balances)
-}
-
-// That no operation fits.
-fn unfit(balances: [u64; BALANCES]) -> Replayed
-    ensures { result ≡ as_replayed balances None }
-{
-    Replayed {
-        fits: false,
-        balances,
-    }
+    };
+    replay(log, capacity, depth, between, last) == Some(after)
 }
 
 // The operation at i on the balances, where it fits, and could not be exchanged with the last one.
@@ -94,19 +73,16 @@ fn attempt(
     last: usize,
     balances: [u64; BALANCES],
     i: usize,
-) -> Replayed
+) -> Option<[u64; BALANCES]>
     requires { (length log.now ≤ greatest_operations * operation_words) × ((last < greatest_operations)
         × (i < greatest_operations)) }
-    ensures { result ≡ as_replayed balances (attempt_in log.now capacity depth before last balances i) }
+    ensures { result ≡ attempt_in log.now capacity depth before last balances i }
 {
-    let next = replay(log, capacity, depth, balances, i);
-    if !next.fits {
-        return next;
+    let next = replay(log, capacity, depth, balances, i)?;
+    if i < last && exchanged(log, capacity, depth, before, last, next, i) {
+        return None;
     }
-    if i < last && exchanged(log, capacity, depth, before, last, next.balances, i) {
-        return unfit(balances);
-    }
-    next
+    Some(next)
 }
 
 // Whether the operation at i may come next: it is left (1), and its call is no later than `limit`. Tested in the loop
@@ -146,21 +122,19 @@ pub fn search(
     }
     let limit = least_end(log, left);
     for i in 0..GREATEST_OPERATIONS {
-        if is_open(log, left[i], limit, i) {
-            let next = attempt(log, capacity, depth, before, last, balances, i);
-            if next.fits {
-                let mut rest = left;
-                rest[i] = 0;
-                let after = next.balances;
-                let tail = &mut order[1..];
-                let fewer = remaining - 1;
-                if search(log, capacity, depth, balances, i, rest, after, tail, fewer) {
-                    order[0] = i as u64;
-                    return true;
-                }
-                if still(log, i) {
-                    return false;
-                }
+        if is_open(log, left[i], limit, i)
+            && let Some(after) = attempt(log, capacity, depth, before, last, balances, i)
+        {
+            let mut rest = left;
+            rest[i] = 0;
+            let tail = &mut order[1..];
+            let fewer = remaining - 1;
+            if search(log, capacity, depth, balances, i, rest, after, tail, fewer) {
+                order[0] = i as u64;
+                return true;
+            }
+            if still(log, i) {
+                return false;
             }
         }
     }

@@ -8,12 +8,12 @@ pub returns-then-there-ne0 : goal.returns-then-there-ne0
 returns-then-there-ne0 c crowded total =
     let s = c.args in
     rw (balance_there s.there total c.if-there-ne0.true)
-    ((rw c.word_at-answer.ensures at c.balance_if.ensures)
+    ((rw c.word_at-answer.ensures at c.then_some.ensures)
     ∙ sym (delete_there s.log.now s.i c.requires.1 crowded _))
 
 pub returns : goal.returns
 returns c crowded total =
     let s = c.args in
     rw (balance_missing s.there total c.if-there-ne0.false)
-    ((rw c.word_at-answer.ensures at c.unchanged_if.ensures)
+    ((rw c.word_at-answer.ensures at c.then_some-2.ensures)
     ∙ sym (delete_missing s.log.now s.i c.requires.1 crowded))

@@ -18,7 +18,7 @@ pub returns-then-crowded : goal.returns-then-crowded
 returns-then-crowded c =
     let s = c.args in
     rw (balance_missing s.there s.total c.if-there-ne0.false, c.if-crowded.true)
-    ((rw c.word_at-answer.ensures at c.unchanged_if.ensures) ∙ sym (post_crowded s.log.now s.i c.requires.1))
+    ((rw c.word_at-answer.ensures at c.then_some.ensures) ∙ sym (post_crowded s.log.now s.i c.requires.1))
 
 pub returns : goal.returns
 returns c =

@@ -1,6 +1,7 @@
 -- `replay` gives the balances after the operation at a place. Rests on the laws of the balances afterwards.
 use Prim.Native.Nat.{ℕ}
 use mathlib.Core.Path.{◌≡◌, sym, ap, ◌∙◌}
+use Rattle.std.specs.Prelude.{Some}
 use Rattle.logs.specs.Log.{logged_at}
 use Rattle.replay.specs.Balances.{first_place, there_at, total_at, balance_at, crowds_at}
 use Rattle.replay.specs.Replay.{outcome_of, as_outcome, still_at, replayed}
@@ -29,17 +30,21 @@ outcome c =
     ])
     ∙ ap (λ (j : ℕ). outcome_of x crowded (balance_at s.balances j)) c.first_place-at.ensures.0)
 
+pub returns-in_err-held : goal.returns-in_err-held
+unfolding replayed
+returns-in_err-held c =
+    c.from_residual.ensures
+    ∙ after_another _ _ _ _ (sym (outcome (goal.at.returns-in_err-held c).After-outcome_of) ∙ c.in_err-held.was)
+
 pub returns-in-Balance : goal.returns-in-Balance
 unfolding replayed
 returns-in-Balance c =
     let s = c.args in
     rw c.first_place-at.ensures.0
-    (after_balance s.balances _ _ _ _ _ (sym (outcome (goal.at.returns-in-Balance c).After-outcome_of) ∙ c.in-Balance.is))
+    (after_balance s.balances _ _ _ _ _
+    (sym (outcome (goal.at.returns-in-Balance c).After-outcome_of) ∙ c.in_ok-held.was ∙ ap Some c.in-Balance.is))
 
-pub returns-in-Unchanged : goal.returns-in-Unchanged
+pub returns-in_default : goal.returns-in_default
 unfolding replayed
-returns-in-Unchanged c = after_nothing _ _ _ _ (sym (outcome (goal.at.returns-in-Unchanged c).After-outcome_of) ∙ c.in-Unchanged.is)
-
-pub returns-in-Another : goal.returns-in-Another
-unfolding replayed
-returns-in-Another c = after_another _ _ _ _ (sym (outcome (goal.at.returns-in-Another c).After-outcome_of) ∙ c.in-Another.is)
+returns-in_default c =
+    after_nothing _ _ _ _ (sym (outcome (goal.at.returns-in_default c).After-outcome_of) ∙ c.in_ok-held.was ∙ ap Some c.in_default.is)

@@ -1,14 +1,17 @@
 -- `search` finds and writes what the search with cuts finds: nothing left, an order found, none and no table changed, the
 -- next place, no place left. Rests on the laws of one turn, and of the list of which a part is lent.
-use mathlib.Core.Path.{refl, sym, ◌∙◌}
+use Prim.Native.Nat.{ℕ}
+use mathlib.Core.Path.{◌≡◌, refl, sym, ◌∙◌}
+use borrow.Author.Rules.{rules}
+use Rattle.std.specs.Prelude.{Some}
 use Rattle.lists.proofs.PartLaws.{overlay_nil}
 use Rattle.logs.specs.Search.{cut_search}
-use Rattle.searching.specs.Searching.{written_in, is_found}
-use Rattle.searching.proofs.Tries.{tries_start, tries_end, tries_closed, tries_none, tries_found, tries_still, tries_on}
+use Rattle.searching.specs.Searching.{is_left, candidate_in, written_in, is_found}
+use Rattle.searching.proofs.Tries.{tries_start, tries_end, tries_closed, tries_found, tries_still, tries_on}
 use Rattle.searching.proofs.Candidates.{candidate_closed, candidate_open}
 use Rattle.searching.proofs.Written.{has_first, none_found, child_none, none_written, found_written}
 use Rattle.searching.proofs.+search.Goals as goal
-use Rattle.searching.proofs.+search.Goals.{then-is_open+then-next+else-search+else-still, then-is_open+else-next, else-is_open}
+use Rattle.searching.proofs.+search.Goals.{In-Some, then-is_open+in-Some+else-search+else-still, else-is_open, else-is_open-via-else-is_open, else-is_open-via-then-is_open+in-None-1}
 
 pub returns-then-remaining-eq0 : goal.returns-then-remaining-eq0
 unfolding cut_search is_found written_in
@@ -18,20 +21,26 @@ returns-then-remaining-eq0 t c =
 pub loop-i-init : goal.loop-i-init
 loop-i-init t c = (refl, tries_start _ _ _ _ _ _ _ _ c.if-remaining-eq0.false)
 
+-- the operation at a place that may come next, where it fits
+tried :
+    (t : ℕ) (c : In-Some t) → let s = c.args in
+    candidate_in s.log.now s.capacity s.depth s.before s.last (is_left s.left) s.balances c.loop-i.i ≡ Some c.in-Some.after
+tried t c =
+    sym
+    (candidate_open _ _ _ _ _ _ _ _ _ c.least_end-limit.ensures c.is_open.ensures.word _ c.is_open.ensures.tested
+    c.if-is_open.true)
+    ∙ sym c.attempt.ensures
+    ∙ c.in-Some.is
+
 -- an order found
 pub returns-then-search : goal.returns-then-search
 returns-then-search t c =
     let l = c.loop-i in
     let first = has_first l.order _ _ l.invariant.0 c.requires.1.1 c.if-remaining-eq0.false in
-    let e = c.attempt-next.ensures
-    ∙ candidate_open _ _ _ _ _ _ _ _ _ c.least_end-limit.ensures c.is_open.ensures.word _ c.is_open.ensures.tested
-    c.if-is_open.true in
+    let e = tried t (goal.at.returns-then-search t c).In-Some in
     let r = found_written l.order c.search.new.order _ _ c.search.ensures.found c.search.ensures.written first _ _
     c.if-search.true
-    (λ o f.
-    l.invariant.1
-    ∙ tries_found _ _ _ _ _ _ _ _ _ c.loop-i-test.true c.attempt-next.result e c.if-next.true o f)
-    _ l.invariant.0 in
+    (λ o f. l.invariant.1 ∙ tries_found _ _ _ _ _ _ _ _ _ c.loop-i-test.true c.in-Some.after e o f) _ l.invariant.0 in
     record { found = r.0; written = r.1 }
 
 -- none found, and the answer leaves every table as it is
@@ -41,12 +50,10 @@ returns-then-still t c =
     let first = has_first l.order _ _ l.invariant.0 c.requires.1.1 c.if-remaining-eq0.false in
     let kept = none_written l.order c.search.new.order _ _ c.search.ensures.found c.search.ensures.written first
     c.if-search.false in
-    let e = c.attempt-next.ensures
-    ∙ candidate_open _ _ _ _ _ _ _ _ _ c.least_end-limit.ensures c.is_open.ensures.word _ c.is_open.ensures.tested
-    c.if-is_open.true in
+    let e = tried t (goal.at.returns-then-still t c).In-Some in
     let r = none_found _ _ _ (kept ∙ l.invariant.0)
     (l.invariant.1
-    ∙ tries_still _ _ _ _ _ _ _ _ _ c.loop-i-test.true c.attempt-next.result e c.if-next.true
+    ∙ tries_still _ _ _ _ _ _ _ _ _ c.loop-i-test.true c.in-Some.after e
     (child_none _ _ c.search.ensures.found c.if-search.false) (sym c.still.ensures ∙ c.if-still.true)) in
     record { found = r.0; written = r.1 }
 
@@ -55,32 +62,35 @@ loop-i-preserved t c =
     let l = c.loop-i in
     let more = c.loop-i-test.true in
     elim c.if-is_open.branch [
-      | then-is_open+then-next+else-search+else-still w ↦ (
+      | then-is_open+in-Some+else-search+else-still w ↦ (
         w.order-is
             ∙ none_written l.order w.search.new.order _ _ w.search.ensures.found w.search.ensures.written
             (has_first l.order _ _ l.invariant.0 c.requires.1.1 c.if-remaining-eq0.false) w.if-search.false
             ∙ l.invariant.0,
         l.invariant.1
-            ∙ tries_on _ _ _ _ _ _ _ _ _ more w.attempt-next.result
-            (w.attempt-next.ensures
-            ∙ candidate_open _ _ _ _ _ _ _ _ _ c.least_end-limit.ensures c.is_open.ensures.word _ c.is_open.ensures.tested
-            w.if-is_open.true) w.if-next.true
+            ∙ tries_on _ _ _ _ _ _ _ _ _ more w.in-Some.after
+            (sym
+            (candidate_open _ _ _ _ _ _ _ _ _ c.least_end-limit.ensures c.is_open.ensures.word _ c.is_open.ensures.tested
+            w.if-is_open.true)
+            ∙ sym w.attempt.ensures
+            ∙ w.in-Some.is)
             (child_none _ _ w.search.ensures.found w.if-search.false) (sym w.still.ensures ∙ w.if-still.false),
-      )
-      | then-is_open+else-next w ↦ (
-        w.order-is ∙ l.invariant.0,
-        l.invariant.1
-            ∙ tries_none _ _ _ _ _ _ _ _ _ more w.attempt-next.result
-            (w.attempt-next.ensures
-            ∙ candidate_open _ _ _ _ _ _ _ _ _ c.least_end-limit.ensures c.is_open.ensures.word _ c.is_open.ensures.tested
-            w.if-is_open.true) w.if-next.false,
       )
       | else-is_open w ↦ (
         w.order-is ∙ l.invariant.0,
         l.invariant.1
             ∙ tries_closed _ _ _ _ _ _ _ _ _ more
-            (candidate_closed _ _ _ _ _ _ _ _ _ c.least_end-limit.ensures c.is_open.ensures.word _ c.is_open.ensures.tested
-            w.if-is_open.false),
+            (elim w.else-is_open.branch [
+              | else-is_open-via-else-is_open v ↦
+                  candidate_closed _ _ _ _ _ _ _ _ _ c.least_end-limit.ensures c.is_open.ensures.word _ c.is_open.ensures.tested
+                  v.if-is_open.false
+              | else-is_open-via-then-is_open+in-None-1 v ↦
+                  sym
+                  (candidate_open _ _ _ _ _ _ _ _ _ c.least_end-limit.ensures c.is_open.ensures.word _ c.is_open.ensures.tested
+                  v.if-is_open.true)
+                  ∙ sym v.attempt.ensures
+                  ∙ search rules
+            ]),
       )
     ]
 
