@@ -5,35 +5,35 @@ ghost use Rattle.lines.specs.Grammar.{command_of, of_fields, fields_of, first_fi
 
 use commands::{Command, four_fields, three_fields};
 
-// What the line means, given without its line feed.
-pub fn parse(line: &[u8]) -> Command
+// What the line means, given without its line feed; nothing where it is no command.
+pub fn parse(line: &[u8]) -> Option<Command>
     ensures { result ≡ command_of line.now }
 {
     let end = first_field(line);
     if line.len() <= end {
         if letter(line) == b'T' {
-            return Command::List;
+            return Some(Command::List);
         }
-        return Command::Unread;
+        return None;
     }
     let next = end + 1;
     after_letter(letter(&line[..end]), &line[next..])
 }
 
 // The command of a letter and the fields after it.
-fn after_letter(letter: u8, rest: &[u8]) -> Command
+fn after_letter(letter: u8, rest: &[u8]) -> Option<Command>
     ensures { result ≡ of_fields ((letter ∷ []) ∷ fields_of rest.now) }
 {
     let end = first_field(rest);
     if rest.len() <= end {
-        return Command::Unread;
+        return None;
     }
     let next = end + 1;
     after_field(letter, &rest[..end], &rest[next..])
 }
 
 // The command of a letter, a field and the fields after them.
-fn after_field(letter: u8, x: &[u8], rest: &[u8]) -> Command
+fn after_field(letter: u8, x: &[u8], rest: &[u8]) -> Option<Command>
     ensures { result ≡ of_fields ((letter ∷ []) ∷ x.now ∷ fields_of rest.now) }
 {
     let end = first_field(rest);
@@ -45,11 +45,11 @@ fn after_field(letter: u8, x: &[u8], rest: &[u8]) -> Command
 }
 
 // The command of a letter, two fields and the fields after them, of which there may be one.
-fn after_fields(letter: u8, x: &[u8], y: &[u8], rest: &[u8]) -> Command
+fn after_fields(letter: u8, x: &[u8], y: &[u8], rest: &[u8]) -> Option<Command>
     ensures { result ≡ of_fields ((letter ∷ []) ∷ x.now ∷ y.now ∷ fields_of rest.now) }
 {
     if first_field(rest) < rest.len() {
-        return Command::Unread;
+        return None;
     }
     four_fields(letter, x, y, rest)
 }
