@@ -69,11 +69,12 @@ pub fn first_field(bytes: &[u8]) -> usize
 }
 
 // The letter that a field is, or 0.
+#[tactic(auto, using(crate::proofs::Splitting::letter_one, crate::proofs::Splitting::letter_none))]
 fn letter(field: &[u8]) -> u8
     ensures { result ≡ letter_of field.now }
 {
-    if field.len() == 1 {
-        return field[0];
+    match field {
+        [letter] => *letter,
+        _ => 0,
     }
-    0
 }

@@ -50,13 +50,7 @@ impl Reader {
         if self.long {
             return None;
         }
-        let line = self.line;
-        let len = self.len;
-        let kept = &line[..];
-        if kept.len() < len {
-            return None;
-        }
-        parse(&kept[..len])
+        parse(self.line.get(..self.len)?)
     }
 
     // Whether no byte came since `new`.
