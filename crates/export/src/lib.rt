@@ -64,7 +64,8 @@ pub fn export(words: &[u64], out: &mut [u8]) -> Result<u64, Refusal>
 {
     let mut accounts = [0u32; GREATEST_COUNT];
     let mut totals = [0i64; GREATEST_COUNT];
-    let k = listing(words, &mut accounts, &mut totals)? as usize;
+    let n = listing(words, &mut accounts, &mut totals)?;
+    let k = n as usize;
     if too_short(&accounts, &totals, k, out.len()) {
         return Err(Refusal::Narrow);
     }

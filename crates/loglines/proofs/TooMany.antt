@@ -4,7 +4,7 @@ use Prim.Native.Nat.{ℕ, ◌/◌, ◌≤◌, ◌<◌}
 use mathlib.Core.Path.{◌≡◌, refl, sym, ◌∙◌, ap}
 use mathlib.Core.Bool.{Bool, true, false, not}
 use mathlib.Core.List.{List, []}
-use Rattle.std.specs.Prelude.{Some}
+use Rattle.std.specs.Prelude.{Some, Ok}
 use native.Mathlib.Omega.{arith}
 use lib.Dec.{leb}
 use lib.ListN.{length, take, replicate}
@@ -13,7 +13,6 @@ use borrow.Author.Tests.{leb-true, leb-false}
 use Rattle.interface.specs.Limits.{least_workers, in_range}
 use Rattle.interface.specs.declared.Refusal.{Refusal}
 use Rattle.interface.specs.declared.Refusal.TheVariants.{Settings, BadLog}
-use Rattle.interface.specs.declared.Verdict.TheVariants.{Accepted, Refused}
 use Rattle.machine.specs.Choice.{when◌then◌else◌}
 use Rattle.machine.proofs.laws.Base.{if_ap}
 use Rattle.logs.specs.Log.{operation_words, greatest_operations, count_of}
@@ -39,8 +38,8 @@ many_refused l b M places h = rw (no_log l h) (sym (if_ap Some (not (in_range le
 
 -- an accepted log has no more than 12
 pub accepted_few :
-    (l : List ℕ) (b M : ℕ) (before order : List ℕ) → (order, Accepted) ≡ check_log_words l b M before → count_of l ≤ greatest_operations
-accepted_few l b M before order e = few l (passes l b M (length before) (all_judged.judged l b M before order Accepted e).0).0
+    (l : List ℕ) (b M : ℕ) (before order : List ℕ) → (order, Ok Verdict.Accepted) ≡ check_log_words l b M before → count_of l ≤ greatest_operations
+accepted_few l b M before order e = few l (passes l b M (length before) (all_judged.judged l b M before order (Ok Verdict.Accepted) e).0).0
 
 -- ---- the first 13 for all
 

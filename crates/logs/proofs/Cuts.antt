@@ -6,14 +6,13 @@ use mathlib.Core.Path.{◌≡◌, refl, sym, ap, ◌∙◌, subst}
 use mathlib.Core.Logic.{◌≢◌, ◌⊎◌, inl, inr, ⊎_elim, by_cases}
 use mathlib.Core.Bool.{Bool, true, false, not}
 use mathlib.Core.List.{List, [], ◌∷◌}
-use Rattle.std.specs.Prelude.{Option, Some, None, Result, ⊤}
+use Rattle.std.specs.Prelude.{Option, Some, None}
 use borrow.Author.Tests.{not-true, ltb-true}
 use Rattle.machine.specs.Choice.{assign}
 use Rattle.machine.proofs.laws.Base.{no_both, none_some, below_suc, if_elim, and_parts}
 use Rattle.logs.specs.Search.{CutLaws, SearchLaws, starting, or_else, count_left, ready, Completes, begun, opened, tries, search, is_same, exchanged_from, exchanged, unless_exchanged, candidate, unless_still, cut_begun, cut_tries, cut_search}
 use Rattle.logs.proofs.Left.{left_before, not_taken, others_left, taken_both, left_less}
 use Rattle.logs.proofs.SearchLaws.{ready_at, ready_of, ready_fewer, opened_parts, opened_is, tries_order, sound_at, first_at}
-use Rattle.interface.specs.declared.Refusal.{Refusal}
 
 module _ (T : Type 0) (n : ℕ) (fits : T → ℕ → Option T) (earlier : ℕ → ℕ → Bool) where
   abbrev IsReady : (ℕ → Bool) → ℕ → Type 0
@@ -22,8 +21,8 @@ module _ (T : Type 0) (n : ℕ) (fits : T → ℕ → Option T) (earlier : ℕ �
   abbrev Order : (ℕ → Bool) → T → List ℕ → Type 0
   Order = Completes T n fits earlier
 
-  abbrev (Result ⊤ Refusal) : (ℕ → Bool) → T → ℕ → Option T
-  (Result ⊤ Refusal) = opened T n fits earlier
+  abbrev Opened : (ℕ → Bool) → T → ℕ → Option T
+  Opened = opened T n fits earlier
 
   -- no order completes what is left
   abbrev Lost : (ℕ → Bool) → T → Type 0
@@ -44,11 +43,11 @@ module _ (T : Type 0) (n : ℕ) (fits : T → ℕ → Option T) (earlier : ℕ �
   none_lost : (m : ℕ) (left : ℕ → Bool) (t : T) → count_left n left ≡ m → search T n fits earlier m left t ≡ None → Lost left t
   none_lost m left t z e o c = none_some e (first_at T n fits earlier m left t o z c).1.0
 
-  closed_lost : (left : ℕ → Bool) (t : T) (i : ℕ) → Result ⊤ Refusal left t i ≡ None → LostFrom left t i
+  closed_lost : (left : ℕ → Bool) (t : T) (i : ℕ) → Opened left t i ≡ None → LostFrom left t i
   closed_lost left t i w o c =
       none_some w (opened_is T n fits earlier left t i c.1.1.1.0 c.1.0 c.1.1.0 c.1.1.1.1.0)
 
-  opened_lost : (left : ℕ → Bool) (t : T) (i : ℕ) (u : T) → Result ⊤ Refusal left t i ≡ Some u
+  opened_lost : (left : ℕ → Bool) (t : T) (i : ℕ) (u : T) → Opened left t i ≡ Some u
       → Lost (assign left i false) u → LostFrom left t i
   opened_lost left t i u w lost o c =
       let f = (opened_parts T n fits earlier left t i u w).1.1 in
@@ -142,11 +141,11 @@ module _ (T : Type 0) (n : ℕ) (fits : T → ℕ → Option T) (earlier : ℕ �
 
     -- the invariant: what cut 1 leaves out at a node leads to no order
     abbrev Passed : T → ℕ → (ℕ → Bool) → T → Type 0
-    Passed t₀ last left t = (i : ℕ) → i < last → i < n → (u : T) → Result ⊤ Refusal left t i ≡ Some u → Exchanged t₀ last u i
+    Passed t₀ last left t = (i : ℕ) → i < last → i < n → (u : T) → Opened left t i ≡ Some u → Exchanged t₀ last u i
         → Lost (assign left i false) u
 
     passed_child : (left : ℕ → Bool) (t : T) (i : ℕ) → i < n → ((j : ℕ) → j < i → LostFrom left t j) → (u : T)
-        → Result ⊤ Refusal left t i ≡ Some u → Passed t i (assign left i false) u
+        → Opened left t i ≡ Some u → Passed t i (assign left i false) u
     passed_child left t i l tried u w j below lj t₂ v x o c =
         let z = opened_parts T n fits earlier left t i u w in
         let y = opened_parts T n fits earlier (assign left i false) u j t₂ v in
@@ -170,7 +169,7 @@ module _ (T : Type 0) (n : ℕ) (fits : T → ℕ → Option T) (earlier : ℕ �
       one_less i l e = let k = left_less n left i l e in omega arith
 
       -- cut 2: no order at all
-      none_later : (k i : ℕ) (u : T) → suc i + k ≡ n → Result ⊤ Refusal left t i ≡ Some u → Lost (assign left i false) u
+      none_later : (k i : ℕ) (u : T) → suc i + k ≡ n → Opened left t i ≡ Some u → Lost (assign left i false) u
           → still i ≡ true → Later k (suc i) ≡ None
       none_later k i u a w lost s = none_of (Later k (suc i)) (λ p e. let f = front p (order p e) in lost_here f.0 f.1)
         where
@@ -189,7 +188,7 @@ module _ (T : Type 0) (n : ℕ) (fits : T → ℕ → Option T) (earlier : ℕ �
           front p = to_front i (omega arith) (λ x y. idle i x y s) p left t parts.0
 
       -- a place that is tried, with what its branch finds
-      after_branch : (k i : ℕ) (u : T) → suc i + k ≡ n → Result ⊤ Refusal left t i ≡ Some u → (cut_later : Option (List ℕ))
+      after_branch : (k i : ℕ) (u : T) → suc i + k ≡ n → Opened left t i ≡ Some u → (cut_later : Option (List ℕ))
           → (LostFrom left t i → cut_later ≡ Later k (suc i)) → (v : Option (List ℕ)) → Plain m (assign left i false) u ≡ v
           → unless_still T n fits earlier still same i v cut_later ≡ or_else (starting i v) (Later k (suc i))
       unfolding unless_still or_else starting
@@ -214,7 +213,7 @@ module _ (T : Type 0) (n : ℕ) (fits : T → ℕ → Option T) (earlier : ℕ �
         From k i u = or_else (starting i (Plain m (assign left i false) u)) (Later k (suc i))
 
         at_place : (k i : ℕ) → suc i + k ≡ n → ((j : ℕ) → j < i → LostFrom left t j)
-            → (LostFrom left t i → CutLater k (suc i) ≡ Later k (suc i)) → (v : Option T) → Result ⊤ Refusal left t i ≡ v
+            → (LostFrom left t i → CutLater k (suc i) ≡ Later k (suc i)) → (v : Option T) → Opened left t i ≡ v
             → CutBegun k i (unless_exchanged T n fits earlier still same t₀ last i v)
             ≡ or_else (begun T n fits earlier (Plain m) left i v) (Later k (suc i))
         unfolding cut_begun unless_exchanged or_else begun starting
@@ -239,7 +238,7 @@ module _ (T : Type 0) (n : ℕ) (fits : T → ℕ → Option T) (earlier : ℕ �
         at_places zero i a tried = refl
         at_places (suc k) i a tried =
             at_place k i (omega arith) tried (λ h. at_places k (suc i) (omega arith) (below_suc (LostFrom left t) i tried h))
-            (Result ⊤ Refusal left t i) refl
+            (Opened left t i) refl
 
     -- ---- the whole search, with m left
 

@@ -4,14 +4,13 @@ use native.Mathlib.Omega.{arith}
 use mathlib.Core.Path.{◌≡◌, refl, sym, ap, ◌∙◌, subst}
 use mathlib.Core.Bool.{Bool, true, false, not}
 use mathlib.Core.List.{List}
-use Rattle.std.specs.Prelude.{Option, Some, None, Result}
+use Rattle.std.specs.Prelude.{Option, Some, None, Result, Ok, Err}
 use lib.Dec.{ltb, eqb}
 use lib.ListN.{length}
 use borrow.Author.Tests.{eqb-true, leb-true}
 use Rattle.interface.specs.Limits.{least_workers, in_range}
 use Rattle.interface.specs.declared.Refusal.{Refusal}
 use Rattle.interface.specs.declared.Verdict.{Verdict}
-use Rattle.interface.specs.declared.Verdict.TheVariants.{Accepted, No, Refused}
 use Rattle.machine.specs.Choice.{when◌then◌else◌}
 use Rattle.machine.proofs.laws.Base.{none_some, is_false, and_parts}
 use Rattle.logs.specs.Log.{are_log, count_of, is_log, log_of, operation_words, greatest_operations}
@@ -77,20 +76,20 @@ module _ (l : List ℕ) (b M : ℕ) where
     unfolding check_log_words refused_or
     unrefused e = rw e
 
-    pub refused : (r : Refusal) → refusal l b M (length before) ≡ Some r → check_log_words l b M before ≡ (before, Refused r)
+    pub refused : (r : Refusal) → refusal l b M (length before) ≡ Some r → check_log_words l b M before ≡ (before, Err r)
     unfolding check_log_words refused_or
     refused r e = rw e
 
     only : (after : List ℕ) (v : Result Verdict Refusal) → Judged l b M before after v → (after, v) ≡ check_log_words l b M before
     unfolding verdict_on
-    only after (Refused r) h = sym (refused r h.0 ∙ ap (λ (x : List ℕ). (x, Refused r)) (sym h.1))
-    only after Accepted h =
+    only after (Err r) h = sym (refused r h.0 ∙ ap (λ (x : List ℕ). (x, Err r)) (sym h.1))
+    only after (Ok Verdict.Accepted) h =
         let o = h.1.0 in
         let found = (all_first b M (log_of l) (is-log h.0)).first_found o h.1.1.0 in
-        sym (unrefused h.0 ∙ ap (verdict_on before) found ∙ ap (λ (x : List ℕ). (x, Accepted)) (sym h.1.1.1))
-    only after No h =
+        sym (unrefused h.0 ∙ ap (verdict_on before) found ∙ ap (λ (x : List ℕ). (x, Ok Verdict.Accepted)) (sym h.1.1.1))
+    only after (Ok Verdict.No) h =
         sym (unrefused h.0 ∙ ap (verdict_on before) (none_found (order_of b M (log_of l)) refl)
-        ∙ ap (λ (x : List ℕ). (x, No)) (sym h.1.1))
+        ∙ ap (λ (x : List ℕ). (x, Ok Verdict.No)) (sym h.1.1))
       where
         none_found : (f : Option (List ℕ)) → order_of b M (log_of l) ≡ f → f ≡ None
         none_found None e = refl

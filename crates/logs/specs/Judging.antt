@@ -1,11 +1,10 @@
 -- What judging a log answers. 02, No. 9: "It accepts, showing one such order, exactly if some order ..; Otherwise it
 -- answers no. An empty log is accepted. Checks: 14, bad log, ..; b and M outside 01's ranges give 1 before it." No. 10:
 -- "The checker shall show the first". Rests on specs/Orders, specs/Comparing and specs/Search.
-use Rattle.std.specs.Prelude.{ℕ, ◌≡◌, Bool, true, not, List, [], ltb, length, Option, Some, None, Result}
+use Rattle.std.specs.Prelude.{ℕ, ◌≡◌, Bool, true, not, List, [], ltb, length, Option, Some, None, Result, Ok, Err}
 use Rattle.interface.specs.Limits.{least_workers, in_range}
 use Rattle.interface.specs.declared.Refusal.{Refusal}
 use Rattle.interface.specs.declared.Verdict.{Verdict}
-use Rattle.interface.specs.declared.Verdict.TheVariants.{Accepted, No, Refused}
 use Rattle.lists.specs.Parts.{overlay}
 use Rattle.machine.specs.Choice.{when◌then◌else◌}
 use Rattle.machine.specs.Sequential.{Table}
@@ -58,13 +57,13 @@ refusal l b M places =
 
 -- the list for the order, and the verdict, by what was found
 unfoldable pub verdict_on : List ℕ → Option (List ℕ) → List ℕ × Result Verdict Refusal
-verdict_on before None = (before, No)
-verdict_on before (Some o) = (overlay before 0 o, Accepted)
+verdict_on before None = (before, Ok Verdict.No)
+verdict_on before (Some o) = (overlay before 0 o, Ok Verdict.Accepted)
 
 -- a refusal leaves the list as it was
 unfoldable pub refused_or : List ℕ → Option Refusal → List ℕ × Result Verdict Refusal → List ℕ × Result Verdict Refusal
 refused_or before None judged = judged
-refused_or before (Some r) judged = (before, Refused r)
+refused_or before (Some r) judged = (before, Err r)
 
 -- what judging leaves of the list for the order, and its verdict
 unfoldable pub check_log_words : List ℕ → ℕ → ℕ → List ℕ → List ℕ × Result Verdict Refusal
@@ -74,11 +73,11 @@ check_log_words l b M before =
 -- The same told without the search: a log is accepted with the first of all orders that explain it written at the start
 -- of the list, or none does; else the list is as it was.
 abbrev pub Judged : List ℕ → ℕ → ℕ → List ℕ → List ℕ → Result Verdict Refusal → Type 0
-Judged l b M before after (Refused r) = (refusal l b M (length before) ≡ Some r) × (after ≡ before)
-Judged l b M before after Accepted =
+Judged l b M before after (Err r) = (refusal l b M (length before) ≡ Some r) × (after ≡ before)
+Judged l b M before after (Ok Verdict.Accepted) =
     (refusal l b M (length before) ≡ None)
     × ((o : List ℕ) × (First b M (log_of l) o × (after ≡ overlay before 0 o)))
-Judged l b M before after No =
+Judged l b M before after (Ok Verdict.No) =
     (refusal l b M (length before) ≡ None)
     × (((o : List ℕ) → Explains b M (log_of l) o → ⊥) × (after ≡ before))
 

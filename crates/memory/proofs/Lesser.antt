@@ -1,8 +1,10 @@
 -- Laws of the lesser of two numbers. Rests on its definition.
-use Prim.Native.Nat.{ℕ, ◌≤◌, ◌<◌}
-use mathlib.Core.Path.{◌≡◌, refl, sym}
+use Prim.Native.Nat.{ℕ, ◌≤◌, ◌<◌, min}
+use mathlib.Core.Path.{◌≡◌, refl, sym, ◌∙◌}
+use mathlib.Core.Logic.{by_cases}
 use mathlib.Core.Bool.{Bool, true, false}
 use native.Mathlib.Omega.{arith}
+use native.Mathlib.Decide.{dec_lt}
 use lib.Dec.{ltb}
 use borrow.Author.Tests.{ltb-true, ltb-false, lt-ltb, le-ltb}
 use Rattle.machine.specs.Choice.{when◌then◌else◌}
@@ -35,3 +37,10 @@ least_small a b h = sym (if_true a b (lt-ltb a b h))
 pub least_large : (a b : ℕ) → b ≤ a → b ≡ least a b
 unfolding least
 least_large a b h = sym (if_false a b (le-ltb a b h))
+
+-- the library's lesser is the same
+pub least_min : (a b : ℕ) → min a b ≡ least a b
+least_min a b =
+    by_cases (dec_lt a b)
+    (λ h. let e : min a b ≡ a = omega arith in e ∙ least_small a b h)
+    (λ h. let e : min a b ≡ b = omega arith in e ∙ least_large a b (omega arith))

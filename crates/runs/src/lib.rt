@@ -34,14 +34,16 @@ fn run_in(words: &mut [u64], x: u64, w: usize, most: u64) -> Ran
         let k = memory::get(words, p + WORKER_STEPS) % STEPS_RANGE;
         memory::put(words, p + WORKER_STEPS, k + 1);
         if kind == KIND_LOOKUP {
-            if let Stepped::Answered(c) = lookup_step(words, g, p, k) {
-                return Ran::Answered(c);
+            match lookup_step(words, g, p, k) {
+                Stepped::Moved => {}
+                Stepped::Answered(c) => return Ran::Answered(c),
             }
         } else if k < 2 * g.workers + 9 {
             early_step(words, x, w, k as usize);
         } else {
-            if let Stepped::Answered(c) = update_step(x, w, words, k) {
-                return Ran::Answered(c);
+            match update_step(x, w, words, k) {
+                Stepped::Moved => {}
+                Stepped::Answered(c) => return Ran::Answered(c),
             }
         }
         done += 1;

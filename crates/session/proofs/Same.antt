@@ -15,17 +15,15 @@ use Rattle.commands.specs.Commands.{line_of}
 use Rattle.lines.specs.Session.{told}
 use Rattle.texts.specs.Texts.{text_on, words_on}
 use Rattle.simulation.proofs.Represents.{Represents}
-use Rattle.std.specs.Prelude.{Result, ⊤}
-use Rattle.interface.specs.declared.Refusal.{Refusal}
 
 -- an opened table: settings in their ranges, and words that mean its machine
-pub record (Result ⊤ Refusal) (l : List ℕ) (s : Settings) (m : Machine) : Type 0 where
+pub record Opened (l : List ℕ) (s : Settings) (m : Machine) : Type 0 where
   pub range : in_range s.workers s.capacity s.depth ≡ true
   pub represents : Represents s l m
 
 abbrev pub Meant : List ℕ → Memory → Type 0
 Meant l zeros = strange l ≡ true
-Meant l (holding s m) = Result ⊤ Refusal l s m
+Meant l (holding s m) = Opened l s m
 
 -- as many words as the program lends, and they are this memory
 pub record Same (l : List ℕ) (x : Memory) : Type 0 where

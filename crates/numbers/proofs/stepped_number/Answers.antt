@@ -1,17 +1,18 @@
 -- `stepped_number` gives the number and the report of a step's answer, by cases.
 -- Rests on the definitions.
 use mathlib.Core.Path.{refl}
+use Rattle.std.proofs.Common.{rules}
 use Rattle.numbers.specs.Returned.{stepped_number, stepped_report}
 use Rattle.numbers.proofs.stepped_number.Goals as goal
 
-pub returns-in-Moved : goal.returns-in-Moved
+pub returns-in-Ok-Moved : goal.returns-in-Ok-Moved
 unfolding stepped_number stepped_report
-returns-in-Moved c = rw c.in-Moved.is (refl, refl)
+returns-in-Ok-Moved c = search rules
 
-pub returns-in-Answered : goal.returns-in-Answered
+pub returns-in-Ok-Answered : goal.returns-in-Ok-Answered
 unfolding stepped_number stepped_report
-returns-in-Answered c = rw c.in-Answered.is c.ended.ensures
+returns-in-Ok-Answered c = search rules
 
-pub returns-in-Refused : goal.returns-in-Refused
+pub returns-in-Err : goal.returns-in-Err
 unfolding stepped_number stepped_report
-returns-in-Refused c = rw c.in-Refused.is (refl, c.number.ensures)
+returns-in-Err c = rw c.in-Err.is (refl, c.number.ensures)

@@ -1,16 +1,17 @@
 -- `verdict_number` gives the number that `verdict_number` gives, by cases.
 -- Rests on the definition.
+use Rattle.std.proofs.Common.{rules}
 use Rattle.numbers.specs.Returned.{verdict_number}
 use Rattle.numbers.proofs.verdict_number.Goals as goal
 
-pub returns-in-Accepted : goal.returns-in-Accepted
+pub returns-in-Ok-Accepted : goal.returns-in-Ok-Accepted
 unfolding verdict_number
-returns-in-Accepted c = rw c.in-Accepted.is
+returns-in-Ok-Accepted c = search rules
 
-pub returns-in-No : goal.returns-in-No
+pub returns-in-Ok-No : goal.returns-in-Ok-No
 unfolding verdict_number
-returns-in-No c = rw c.in-No.is
+returns-in-Ok-No c = search rules
 
-pub returns-in-Refused : goal.returns-in-Refused
+pub returns-in-Err : goal.returns-in-Err
 unfolding verdict_number
-returns-in-Refused c = rw c.in-Refused.is c.number.ensures
+returns-in-Err c = rw c.in-Err.is c.number.ensures

@@ -3,10 +3,10 @@
 use Rattle.responses.specs.Responses.{of_done}
 use Rattle.responses.proofs.of_done.Goals as goal
 
-pub returns-in-Opened : goal.returns-in-Opened
+pub returns-in-Ok : goal.returns-in-Ok
 unfolding of_done
-returns-in-Opened c = rw c.in-Opened.is
+returns-in-Ok c = rw c.in-Ok.is
 
-pub returns-in-Refused : goal.returns-in-Refused
+pub returns-in-Err : goal.returns-in-Err
 unfolding of_done
-returns-in-Refused c = rw (c.in-Refused.is, c.number.ensures)
+returns-in-Err c = rw (c.in-Err.is, c.number.ensures)

@@ -1,16 +1,17 @@
 -- `of_ran`: by the answer of the run.
 -- Rests on the contracts of what is called.
+use Rattle.std.proofs.Common.{rules}
 use Rattle.responses.specs.Responses.{of_ran}
 use Rattle.responses.proofs.of_ran.Goals as goal
 
-pub returns-in-Moved : goal.returns-in-Moved
+pub returns-in-Ok-Moved : goal.returns-in-Ok-Moved
 unfolding of_ran
-returns-in-Moved c = rw c.in-Moved.is
+returns-in-Ok-Moved c = search rules
 
-pub returns-in-Answered : goal.returns-in-Answered
+pub returns-in-Ok-Answered : goal.returns-in-Ok-Answered
 unfolding of_ran
-returns-in-Answered c = rw c.in-Answered.is
+returns-in-Ok-Answered c = search rules
 
-pub returns-in-Refused : goal.returns-in-Refused
+pub returns-in-Err : goal.returns-in-Err
 unfolding of_ran
-returns-in-Refused c = rw (c.in-Refused.is, c.number.ensures)
+returns-in-Err c = rw (c.in-Err.is, c.number.ensures)

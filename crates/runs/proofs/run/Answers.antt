@@ -5,10 +5,9 @@ use mathlib.Core.Path.{sym, ◌∙◌}
 use Rattle.layout.proofs.Positions.{placed}
 use Rattle.layout.proofs.Checks.{fits_of, fits_read, strange_first, stranger_next}
 use Rattle.runs.proofs.RunLaws.{run_none, run_goes}
-use Rattle.memory.proofs.Lesser.{least_small, least_large}
+use Rattle.memory.proofs.Lesser.{least_min}
 use Rattle.runs.specs.Runs.{run_words}
 use Rattle.runs.proofs.run.Goals as goal
-use Rattle.runs.proofs.run.Goals.{else-most-lt-LONGEST_RUN, then-most-lt-LONGEST_RUN}
 
 pub returns-then-strange_words : goal.returns-then-strange_words
 unfolding run_words
@@ -46,12 +45,12 @@ returns-then-get-eq-KIND_NONE c =
 pub run_in-requires : goal.run_in-requires
 run_in-requires c = (
   fits_of _ (sym c.strange_words.ensures ∙ c.if-strange_words.false),
-  (rw c.settings_of-g.ensures at c.if-g-worker.false, (elim c.if-most-lt-LONGEST_RUN.branch [ then-most-lt-LONGEST_RUN w ↦ omega arith | else-most-lt-LONGEST_RUN w ↦ omega arith ])),
+  (rw c.settings_of-g.ensures at c.if-g-worker.false, omega (arith, c.min.ensures)),
 )
 
 pub returns : goal.returns
 returns c =
     run_goes _ _ _ _ c.strange_words.ensures c.if-strange_words.false c.settings_of-g.ensures c.if-g-worker.false _ _
     c.worker_at.ensures c.get.ensures _ _ _ c.if-get-eq-KIND_NONE.false
-    (elim c.if-most-lt-LONGEST_RUN.branch [ then-most-lt-LONGEST_RUN w ↦ w.run_in-is ∙ least_small _ _ w.if-most-lt-LONGEST_RUN.true | else-most-lt-LONGEST_RUN w ↦ w.run_in-is ∙ least_large _ _ w.if-most-lt-LONGEST_RUN.false ])
+    (c.min.ensures ∙ least_min _ _)
     c.run_in.ensures
