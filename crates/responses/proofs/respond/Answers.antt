@@ -22,19 +22,19 @@ returns-in-Insert c =
     let fits : SFits w64 c.in-Insert.total = search rules in
     let kept = to_z-of_z fits in
     rw c.in-Insert.is (replied of_done _ _ _ _ (c.call.ensures ∙ ap (call_words _ _ kind_insert _) kept)
-    c.of_done.ensures)
+    c.of_done-in-Insert.ensures)
 
 pub returns-in-Delete : goal.returns-in-Delete
 unfolding responded
 returns-in-Delete c =
     rw c.in-Delete.is
-    (replied of_done _ _ _ _ c.call-in-Delete.ensures c.of_called-in-Delete.ensures)
+    (replied of_done _ _ _ _ c.call-in-Delete.ensures c.of_done-in-Delete.ensures)
 
 pub returns-in-Lookup : goal.returns-in-Lookup
 unfolding responded
 returns-in-Lookup c =
     rw c.in-Lookup.is
-    (replied of_done _ _ _ _ c.call-in-Lookup.ensures c.of_called-in-Lookup.ensures)
+    (replied of_done _ _ _ _ c.call-in-Lookup.ensures c.of_done-in-Lookup.ensures)
 
 pub returns-in-Post : goal.returns-in-Post
 unfolding responded
@@ -42,7 +42,7 @@ returns-in-Post c =
     let fits : SFits w64 c.in-Post.amount = search rules in
     let kept = to_z-of_z fits in
     rw c.in-Post.is (replied of_done _ _ _ _ (c.call-in-Post.ensures ∙ ap (call_words _ _ kind_post _) kept)
-    c.of_called-in-Post.ensures)
+    c.of_done-in-Post.ensures)
 
 pub returns-in-Steps : goal.returns-in-Steps
 unfolding responded
@@ -53,7 +53,3 @@ returns-in-Steps c =
 pub returns-in-List : goal.returns-in-List
 unfolding responded
 returns-in-List c = rw c.in-List.is
-
-pub returns-in-Unread : goal.returns-in-Unread
-unfolding responded
-returns-in-Unread c = rw c.in-Unread.is
