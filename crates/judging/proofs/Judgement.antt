@@ -5,7 +5,7 @@ use native.Mathlib.Omega.{arith}
 use mathlib.Core.Path.{refl, ◌≡◌, sym, ap, ◌∙◌}
 use mathlib.Core.Bool.{Bool, true, false, not}
 use mathlib.Core.List.{List, []}
-use Rattle.std.specs.Prelude.{Option, Some, None, Ok, Err}
+use Rattle.std.specs.Prelude.{Option, Some, None, Result, Ok, Err}
 use lib.ListN.{length, replicate}
 use borrow.Author.Tests.{ltb-true, lt-ltb, le-ltb}
 use Rattle.interface.specs.Limits.{least_workers, in_range, built}
@@ -50,6 +50,13 @@ module _ (b M : ℕ) where
       go : (t : Bool) → in_range least_workers b M ≡ t → t ≡ false
       go true h = let w = right_settings least_workers b M h in let z : ◌≡◌ {A = ℕ} 0 1 = cc in absurd (omega arith)
       go false h = refl
+
+  -- and they are refused as settings
+  pub settings_why : (r : Refusal) → built least_workers b M ≡ Err r → Refusal.Settings ≡ r
+  settings_why r e =
+      let q : ◌≡◌ {A = Result Settings Refusal} (Err Refusal.Settings) (Err r) =
+      sym (outside_range least_workers b M (settings_out r e)) ∙ e in
+      cc
 
 -- ---- good logs
 

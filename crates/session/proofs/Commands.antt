@@ -57,7 +57,7 @@ record Replied (x : List ℕ × Reply) (y : Script.Response) : Type 0 where
 -- ---- opening
 
 fresh_meant : (l : List ℕ) (s : Settings) → in_range s.workers s.capacity s.depth ≡ true → words_needed s ≤ length l
-    → Result ⊤ Refusal (overlay l 0 (fresh_words s)) s opened
+    → Opened (overlay l 0 (fresh_words s)) s opened
 unfolding opened first_cells new_bucket having
 fresh_meant l s range enough = record {
   range = range;
@@ -111,7 +111,7 @@ module _ (l : List ℕ) (count : length l ≡ 8_192) (w kind a : ℕ) (v : ℤ) 
   unfolding replying call_words of_done printed_reply when◌then◌else◌
   strange_call e = rw e (record { text = refl; count = count; meant = e })
 
-  module _ (s : Settings) (m : Machine) (h : Result ⊤ Refusal l s m) (narrow : a < 2 ^ 32) (fits : SFits w64 v) where
+  module _ (s : Settings) (m : Machine) (h : Opened l s m) (narrow : a < 2 ^ 32) (fits : SFits w64 v) where
     call_text : (x y : Result ⊤ Refusal) → x ≡ y → printed_reply (of_done x) ≡ printed (Script.call_response s (call s m w kind a v).0 y).reply
     unfolding of_done Script.call_response printed_reply
     call_text x (Ok _) e = rw e
@@ -122,7 +122,7 @@ module _ (l : List ℕ) (count : length l ≡ 8_192) (w kind a : ℕ) (v : ℤ) 
     call_memory (Ok _) = refl
     call_memory (Err r) = refl
 
-    call_represents : Result ⊤ Refusal (call_words l w kind a v).0 s (call s m w kind a v).0
+    call_represents : Opened (call_words l w kind a v).0 s (call s m w kind a v).0
     unfolding next
     call_represents =
         record { range = h.range; represents = represents_next s h.range l m h.represents (calling w kind a v) (narrow, fits) tt }
@@ -145,7 +145,7 @@ module _ (l : List ℕ) (count : length l ≡ 8_192) (w : ℕ) where
   strange_run k e = rw e (record { text = refl; count = count; meant = e })
 
   run_replied :
-      (s : Settings) (m : Machine) → Result ⊤ Refusal l s m → (k : ℕ) → 1 ≤ k → Replied (replying of_ran (run_words l w k)) (Script.steps s w 0 k m)
+      (s : Settings) (m : Machine) → Opened l s m → (k : ℕ) → 1 ≤ k → Replied (replying of_ran (run_words l w k)) (Script.steps s w 0 k m)
   unfolding replying
   run_replied s m h zero more = absurd (omega arith)
   run_replied s m h (suc k) more =
@@ -181,7 +181,7 @@ strange_listing : (l : List ℕ) (x y : ℕ) → strange l ≡ true → listing_
 unfolding listing_text printed_reply when◌then◌else◌
 strange_listing l x y e = rw e
 
-module _ (l : List ℕ) (s : Settings) (m : Machine) (h : Result ⊤ Refusal l s m) (x y : ℕ) where
+module _ (l : List ℕ) (s : Settings) (m : Machine) (h : Opened l s m) (x y : ℕ) where
   shown_rows : rows l (shape_of l) ≡ contents m
   shown_rows = let k = h.represents in
       ap (rows l) (shape_is s h.range l m k.means) ∙ rows_are s h.range l m k.means k.good k.table k.parts

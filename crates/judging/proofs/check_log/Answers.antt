@@ -2,24 +2,27 @@
 use mathlib.Core.Bool.{true}
 use mathlib.Core.Path.{◌≡◌, sym, ◌∙◌}
 use borrow.Author.Rules.{rules}
+use Rattle.std.proofs.lemmas.Result.{err_from_is_err_and}
 use Rattle.interface.specs.Limits.{least_workers, in_range}
 use Rattle.interface.specs.declared.Verdict.{Verdict}
 use Rattle.machine.specs.Choice.{when◌then◌else◌}
 use Rattle.logs.specs.Log.{are_log, count_of}
 use Rattle.logs.specs.Judging.{check_log_words}
 use Rattle.logs.proofs.Judgements.{few}
-use Rattle.judging.proofs.Judgement.{settings_in, settings_out, wrong_settings, bad_log, too_narrow, short, refused_as, answered}
+use Rattle.judging.proofs.Judgement.{settings_in, settings_out, settings_why, wrong_settings, bad_log, too_narrow, short, refused_as, answered}
 use Rattle.judging.proofs.check_log.Goals as goal
 use Rattle.judging.proofs.check_log.Goals.{After-is_log, After-search, Else-not-is_log}
 use Rattle.std.specs.Prelude.{Ok}
 
-pub returns-in_default : goal.returns-in_default
-returns-in_default c =
-    refused_as _ _ _ _ _ (wrong_settings _ _ _ _ (settings_out _ _ _ (sym c.new.ensures ∙ c.in_default.is)))
+pub returns-in_err-new : goal.returns-in_err-new
+returns-in_err-new c =
+    let p = err_from_is_err_and c.from_residual.result c.from_residual.ensures.1 in
+    rw (p.1, p.2, ← settings_why _ _ _ (sym c.new.ensures ∙ c.in_err-new.was))
+    (refused_as _ _ _ _ _ (wrong_settings _ _ _ _ (settings_out _ _ _ (sym c.new.ensures ∙ c.in_err-new.was))))
 
 -- past the first check, and past the second
 in-range : (c : After-is_log) → in_range least_workers c.args.capacity c.args.depth ≡ true
-in-range c = settings_in _ _ _ (sym c.new.ensures ∙ c.in-Settings.is)
+in-range c = settings_in _ _ _ (sym c.new.ensures ∙ c.in_ok-new.was)
 
 good : (c : Else-not-is_log) → are_log c.args.log.now ≡ true
 good c = sym c.is_log.ensures ∙ c.if-not-is_log.false

@@ -8,7 +8,7 @@ use mathlib.Core.Path.{◌≡◌, refl, ap, sym, ◌∙◌, subst, subst⁻¹}
 use mathlib.Core.Logic.{◌≢◌, by_cases}
 use mathlib.Core.Bool.{Bool, true}
 use mathlib.Core.List.{List}
-use Rattle.std.specs.Prelude.{Option, None, Result, Ok, ⊤}
+use Rattle.std.specs.Prelude.{Option, None, Ok}
 use lib.ListN.{length, get_or, set}
 use Rattle.interface.specs.Limits.{in_range}
 use Rattle.interface.specs.Numbers.{kind_none}
@@ -40,7 +40,6 @@ use Rattle.updates.specs.Updates.{update_at}
 use Rattle.simulation.specs.Meaning.{at, slot_in, name_in, operation_in, Keeps, Refers, Live, referred, HasState, HasDirectory, HasWork, SameOutcome, Marks, WorkerMeans, Meaning}
 use Rattle.simulation.proofs.frames.Entering.{raised, raised_own, raised_count, raised_beside, raised_enough, held_record, update_enters, Follows}
 use Rattle.simulation.proofs.frames.Frames.{at_here, at_beside, set_inside, inside_trans, worker_wide, record_wide, descriptor_near, name_same, keeps_same, OwnWords, own_head, own_record, own_means}
-use Rattle.interface.specs.declared.Refusal.{Refusal}
 
 -- words that mean a machine, and a worker whose step or call is asked for
 pub record Ready (s : Settings) (l : List ℕ) (m : Machine) (w : ℕ) : Type 0 where
@@ -56,7 +55,7 @@ Next {s} {l} {m} {w} ready c x a = Follows s ready.range l m ready.means ready.g
 -- ---- what one worker's words have to mean
 
 -- the call of worker w
-pub record (Result ⊤ Refusal) (s : Settings) (w : ℕ) (l : List ℕ) (v : Worker) : Type 0 where
+pub record Called (s : Settings) (w : ℕ) (l : List ℕ) (v : Worker) : Type 0 where
   pub operation : operation_in (descriptor_in l (start_of s (worker w))) ≡ v.operation
   pub narrow : at s l (worker w) worker_account < 2 ^ 32
   pub fits : at s l (worker w) worker_total < 2 ^ 64
@@ -251,7 +250,7 @@ module _ {s : Settings} {l : List ℕ} {m : Machine} {w : ℕ} (ready : Ready s 
 
   -- if the words after the step mean this about the worker, they mean the whole machine
   pub mine_means :
-      (l' : List ℕ) (v : Worker) (pc : PC) → (task_of s.workers v).pc ≡ pc → OwnWords s w l l' → Result ⊤ Refusal s w l' v
+      (l' : List ℕ) (v : Worker) (pc : PC) → (task_of s.workers v).pc ≡ pc → OwnWords s w l l' → Called s w l' v
       → SeenToggle s w l' v.reads.toggle → SeenSlots s w l' v.reads.slots → CounterMeans s l m w l' v pc
       → Meaning s l' (record { cells = m.cells; workers = assign m.workers w v })
   mine_means l' v pc e f c b x st =
@@ -288,7 +287,7 @@ module _ {s : Settings} {l : List ℕ} {m : Machine} {w : ℕ} (ready : Ready s 
 
   pub going_called :
       (l' : List ℕ) (x : Reads) → ((i : ℕ) → i < worker_steps → at s l' (worker w) i ≡ at s l (worker w) i)
-      → at s l' (worker w) worker_steps ≡ suc (m.workers w).steps → Result ⊤ Refusal s w l' (going x)
+      → at s l' (worker w) worker_steps ≡ suc (m.workers w).steps → Called s w l' (going x)
   going_called l' x same count =
       let h = worker_means in
       record {
