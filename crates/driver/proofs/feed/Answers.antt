@@ -1,5 +1,4 @@
 -- `feed`: the loop's invariant is that feeding the bytes left comes to feeding all; the measure is how many are left.
-use Prim.Native.Nat.{◌-◌}
 use mathlib.Core.Path.{refl, ◌∙◌, ap}
 use lib.ListN.{length}
 use borrow.Author.Rules.{rules}
