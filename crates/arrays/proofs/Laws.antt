@@ -1,57 +1,34 @@
 -- Laws of the definitions of specs/Arrays, which the functions' proofs cite: a turn and the end of each loop, and the lengths of changed
 -- arrays. Rests on those definitions.
 use Prim.Native.Nat.{ℕ, zero, suc, ◌+◌, ◌-◌, ◌≤◌, ◌<◌}
-use mathlib.Core.Path.{◌≡◌, refl, sym, ◌∙◌, ap, subst}
-use mathlib.Core.List.{List, [], ◌∷◌, ◌++◌, append_assoc, append-nil}
-use native.Mathlib.Nat.{sub_self}
+use mathlib.Core.Path.{◌≡◌, refl, sym, ◌∙◌, subst}
+use mathlib.Core.List.{List, [], ◌∷◌, ◌++◌, append_assoc}
 use native.Mathlib.Numerals.{add-one}
 use native.Mathlib.Omega.{arith}
 use lib.Dec.{ltb, leb, eqb}
-use lib.ListN.{length, get_or, set, take, drop, length-append, length-take, length-drop, take-append-drop, get_or-append}
-use lib.Seq.{append_snoc, drop-cons, get_or-append-add, get_or-drop, get_or-take, length-take-le, set_at, take-suc}
+use lib.ListN.{length, get_or, set, take, drop, length-append, length-take, length-drop}
+use lib.Seq.{append_snoc, drop-cons, length-take-le, set_at, take-suc}
 use borrow.Author.Tests.{ltb-true, leb-true, lt-ltb, le-ltb, le-leb, lt-leb, eq-eqb, ne_eqb}
+use Rattle.std.specs.List.{copy_within}
 use Rattle.machine.specs.Choice.{when◌then◌else◌, ◌and◌}
 use Rattle.machine.proofs.laws.Base.{if_elim, and_parts}
 use Rattle.arrays.specs.Arrays.{inserted_in, removed_from, scan}
 use Rattle.arrays.specs.declared.Position.{Position}
 use Rattle.arrays.specs.declared.Position.TheVariants.{At, Before}
 
--- ---- items moved up, from the last of c down to position k; what stood at k still stands there
-
-pub raised : List ℕ → ℕ → ℕ → List ℕ
-raised l c k = take (suc k) l ++ take (c - k) (drop k l) ++ drop (suc c) l
+-- ---- an item put in
 
 -- a store at the last position of what was taken
 set_end : (l r : List ℕ) (k v : ℕ) → k < length l → set (take (suc k) l ++ r) k v ≡ take k l ++ v ∷ r
 set_end l r k v h = rw (take-suc l k 0, append_snoc) (set_at (take k l) (get_or l k 0) r v k (length-take-le k l (omega arith)))
 
-pub raised_start : (l : List ℕ) (c : ℕ) → raised l c c ≡ l
-unfolding raised
-raised_start l c = rw (sub_self, append-nil, take-append-drop)
-
-raised_step :
-    (l : List ℕ) (c k : ℕ) → k < c → c < length l → set (raised l c (suc k)) (suc k) (get_or (raised l c (suc k)) k 0) ≡ raised l c k
-unfolding raised
-raised_step l c k h f =
-    let rest : List ℕ = take (c - suc k) (drop (suc k) l) ++ drop (suc c) l in
-    let front : List ℕ = take (suc (suc k)) l in
-    let long : length front ≡ suc (suc k) = length-take-le (suc (suc k)) l (omega arith) in
-    let read : get_or (front ++ rest) k 0 ≡ get_or l k 0 =
-    get_or-append front rest 0 k (omega arith) ∙ get_or-take (suc (suc k)) l k 0 (omega arith) in
-    let more : c - k ≡ suc (c - suc k) = omega arith in
-    rw (append_assoc front, read, more, drop-cons l k 0 (omega arith), append_assoc (take (suc k) l))
-    (set_end l rest (suc k) (get_or l k 0) (omega arith))
-
-pub raised_turn :
-    (l : List ℕ) (c k : ℕ) → 0 < k → k ≤ c → c < length l → set (raised l c k) k (get_or (raised l c k) (k - 1) 0) ≡ raised l c (k - 1)
-raised_turn l c k p h f =
-    let e : suc (k - 1) ≡ k = omega arith in
-    rw e at (raised_step l c (k - 1) (omega arith) f)
-
-pub raised_end : (l : List ℕ) (c i v : ℕ) → i ≤ c → c < length l → set (raised l c i) i v ≡ inserted_in l c i v
-unfolding inserted_in when◌then◌else◌ ◌and◌ raised
-raised_end l c i v h f =
-    rw (lt-ltb c (length l) f, le-leb i c h, append_assoc)
+-- the items from i on copied one place up, and v put at i
+pub inserted_copied :
+    (l : List ℕ) (c i v : ℕ) → i ≤ c → c < length l → set (copy_within l i c (i + 1)) i v ≡ inserted_in l c i v
+unfolding inserted_in when◌then◌else◌ ◌and◌
+inserted_copied l c i v h f =
+    let end : i + 1 + (c - i) ≡ suc c = omega arith in
+    rw (lt-ltb c (length l) f, le-leb i c h, append_assoc, end, add-one)
     (set_end l _ i v (omega arith) ∙ sym (append_assoc (take i l) (v ∷ take (c - i) (drop i l)) (drop (suc c) l)))
 
 -- no room, or a position past the first c
@@ -74,40 +51,14 @@ length_inserted l c i v =
     simp (length-append, length-take, length-drop) (omega arith))
     (λ t. refl)
 
--- ---- items moved down, from position i on, to before position k
+-- ---- an item taken out
 
-pub lowered : List ℕ → ℕ → ℕ → List ℕ
-lowered l i k = take i l ++ take (k - i) (drop (suc i) l) ++ drop k l
-
-pub lowered_start : (l : List ℕ) (i : ℕ) → lowered l i i ≡ l
-unfolding lowered
-lowered_start l i = rw (sub_self, append-nil, take-append-drop)
-
-pub lowered_turn :
-    (l : List ℕ) (i k : ℕ) → i ≤ k → k + 1 < length l → set (lowered l i k) k (get_or (lowered l i k) (k + 1) 0) ≡ lowered l i (k + 1)
-unfolding lowered
-lowered_turn l i k h f =
-    let tail : List ℕ = drop (suc i) l in
-    let front : List ℕ = take i l ++ take (k - i) tail in
-    let left : length tail ≡ length l - suc i = length-drop (suc i) l in
-    let long : length front ≡ k =
-    length-append (take i l) (take (k - i) tail)
-    ∙ omega (arith, length-take-le i l (omega arith), length-take-le (k - i) tail (omega arith)) in
-    let read : get_or (front ++ drop k l) (k + 1) 0 ≡ get_or l (k + 1) 0 =
-    ap (λ (n : ℕ). get_or (front ++ drop k l) (n + 1) 0) (sym long) ∙ get_or-append-add front (drop k l) 1 0 ∙ get_or-drop k l 1 0 in
-    let last : get_or tail (k - i) 0 ≡ get_or l (k + 1) 0 = get_or-drop (suc i) l (k - i) 0 ∙ ap (λ (n : ℕ). get_or l n 0) (omega arith) in
-    let more : k + 1 - i ≡ suc (k - i) = omega arith in
-    rw read
-    (ap (λ (r : List ℕ). set (front ++ r) k (get_or l (k + 1) 0)) (drop-cons l k 0 (omega arith))
-    ∙ set_at front (get_or l k 0) (drop (suc k) l) (get_or l (k + 1) 0) k long
-    ∙ rw (more, take-suc tail (k - i) 0 (omega arith), last, add-one, ← append_assoc (take i l), append_snoc))
-
-pub lowered_end : (l : List ℕ) (c i k : ℕ) → i < c → c ≤ length l → k < c → c ≤ k + 1 → lowered l i k ≡ removed_from l c i
-unfolding removed_from when◌then◌else◌ ◌and◌ lowered
-lowered_end l c i k h f m n =
-    let e : k ≡ c - 1 = omega arith in
-    let d : k - i ≡ c - suc i = omega arith in
-    rw (le-leb c (length l) f, lt-ltb i c h, d, e)
+-- the items past i copied one place down
+pub removed_copied : (l : List ℕ) (c i : ℕ) → i < c → c ≤ length l → copy_within l (i + 1) c i ≡ removed_from l c i
+unfolding removed_from when◌then◌else◌ ◌and◌
+removed_copied l c i h f =
+    let end : i + (c - (i + 1)) ≡ c - 1 = omega arith in
+    rw (le-leb c (length l) f, lt-ltb i c h, end, add-one)
 
 pub removed_none : (l : List ℕ) (c i : ℕ) → length l < c → removed_from l c i ≡ l
 unfolding removed_from when◌then◌else◌ ◌and◌

@@ -1,5 +1,5 @@
 // Slices of words: an item put in or taken out, the later ones moved, and the search among ascending accounts. One
-// search serves a bucket's state, the update in place and the lookup. It counts in a byte: a bucket has at most 16
+// search serves a bucket's state, the update in place and the lookup. Its position is a byte: a bucket has at most 16
 // accounts (docs/DECISIONS.md, 70, 71). Each contract is an equality with a definition of specs/.
 #![tactic(auto)]
 
@@ -18,36 +18,18 @@ pub enum Position {
 pub fn raise(a: &mut [u64], c: usize, i: usize, v: u64)
     ensures { a.new ≡ inserted_in a.old c i v }
 {
-    if a.len() <= c {
-        return;
+    if c < a.len() && i <= c {
+        a.copy_within(i..c, i + 1);
+        a[i] = v;
     }
-    if c < i {
-        return;
-    }
-    let mut k = c;
-    while i < k {
-        let x = a[k - 1];
-        a[k] = x;
-        k -= 1;
-    }
-    a[i] = v;
 }
 
 // Position i taken out of a slice's first c items, the later ones moved down.
 pub fn lower(a: &mut [u64], c: usize, i: usize)
     ensures { a.new ≡ removed_from a.old c i }
 {
-    if a.len() < c {
-        return;
-    }
-    if c <= i {
-        return;
-    }
-    let mut k = i;
-    while k + 1 < c {
-        let x = a[k + 1];
-        a[k] = x;
-        k += 1;
+    if c <= a.len() && i < c {
+        a.copy_within(i + 1..c, i);
     }
 }
 
@@ -56,16 +38,15 @@ pub fn scan(accounts: &[u64], account: u64) -> Position
     requires { length accounts.now ≤ greatest_capacity }
     ensures { result ≡ scan accounts.now account 0 }
 {
-    let mut i: u8 = 0;
-    while (i as usize) < accounts.len() {
-        let x = accounts[i as usize];
-        if account <= x {
-            if account == x {
-                return Position::At(i);
-            }
-            return Position::Before(i);
+    for (i, x) in accounts.iter().enumerate() {
+        if account <= *x {
+            let i = i as u8;
+            return if account == *x {
+                Position::At(i)
+            } else {
+                Position::Before(i)
+            };
         }
-        i += 1;
     }
-    Position::Before(i)
+    Position::Before(accounts.len() as u8)
 }

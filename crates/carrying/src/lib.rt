@@ -13,7 +13,7 @@ use interface::{
     KIND_POST, Settings,
 };
 use rules::{Descriptor, answer_number, crowded};
-use sums::{Sum, sum_of};
+use sums::sum_of;
 
 // Worker j's post carried out at the position that a search gave, where there is room for it.
 fn post_own(
@@ -30,16 +30,11 @@ fn post_own(
     ensures { words.new ≡ changed_at words.old g q toggle j p u }
 {
     match sum_of(total_own(words, g, q, c, u.account, p), u.total) {
-        Sum::Within(total) => {
-            let v = Descriptor {
-                kind: u.kind,
-                account: u.account,
-                total,
-                ticket: u.ticket,
-            };
+        Some(total) => {
+            let v = Descriptor { total, ..u };
             put_own(words, g, q, c, toggle, j, p, v, ANSWER_POSTED, total);
         }
-        Sum::Outside => settle_own(words, g, q, c, toggle, j, u.ticket, ANSWER_OVERRUN),
+        None => settle_own(words, g, q, c, toggle, j, u.ticket, ANSWER_OVERRUN),
     }
 }
 
@@ -61,14 +56,12 @@ pub fn carry_own(
         settle_own(words, g, q, c, toggle, j, u.ticket, ANSWER_CROWDED);
         return;
     }
-    if u.kind == KIND_INSERT {
-        let answer = answer_number(p, ANSWER_REPLACED, ANSWER_ADDED);
-        put_own(words, g, q, c, toggle, j, p, u, answer, 0);
-        return;
+    match u.kind {
+        KIND_INSERT => {
+            let answer = answer_number(p, ANSWER_REPLACED, ANSWER_ADDED);
+            put_own(words, g, q, c, toggle, j, p, u, answer, 0);
+        }
+        KIND_POST => post_own(words, g, q, c, toggle, j, p, u),
+        _ => delete_own(words, g, q, c, toggle, j, p, u),
     }
-    if u.kind == KIND_POST {
-        post_own(words, g, q, c, toggle, j, p, u);
-        return;
-    }
-    delete_own(words, g, q, c, toggle, j, p, u);
 }

@@ -68,7 +68,7 @@ fn units(d: Decimal) -> Decimal
     ensures { result ≡ units_of d }
 {
     Decimal {
-        minus: d.minus,
         size: d.size / 100,
+        ..d
     }
 }

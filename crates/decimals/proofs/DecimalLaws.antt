@@ -52,6 +52,14 @@ digit_count_within (suc k) n h =
     by true e ih = omega (arith, digit_count_small n (ltb-true n 10 e))
     by false e ih = let b = ltb-false n 10 e in omega (arith, digit_count_large n b, ih b)
 
+-- a number from a power of ten on and below the next has one digit more than the power says
+pub digit_count_at : (k n : ℕ) → 10 ^ k ≤ n → n < 10 * 10 ^ k → digit_count n ≡ k + 1
+digit_count_at zero n h b = digit_count_small n b
+digit_count_at (suc k) n h b =
+    let low : 10 ^ k * 10 ≤ n = rw (← pow-suc 10 k) h in
+    let high : n < 10 * (10 ^ k * 10) = rw (← pow-suc 10 k) b in
+    omega (arith, digit_count_large n (omega arith), digit_count_at k (n / 10) (omega arith) (omega arith))
+
 -- ---- the digits
 
 pub length_digits : (k n : ℕ) → length (digits k n) ≡ k

@@ -31,10 +31,8 @@ pub fn spell(out: &mut [u8], at: usize, k: usize, n: u64)
     requires { at + k ≤ length out.old }
     ensures { out.new ≡ overlay out.old at (digits k n) }
 {
-    let mut i = k;
     let mut rest = n;
-    while 0 < i {
-        i -= 1;
+    for i in (0..k).rev() {
         out[at + i] = b'0' + (rest % 10) as u8;
         rest /= 10;
     }
@@ -52,13 +50,10 @@ pub fn width(d: Decimal) -> usize
 pub fn digit_count(n: u64) -> usize
     ensures { (result ≡ digit_count n) × (result ≤ most_digits) }
 {
-    let mut k = 1;
-    let mut rest = n;
-    while 10 <= rest {
-        rest /= 10;
-        k += 1;
+    match n.checked_ilog10() {
+        Some(k) => k as usize + 1,
+        None => 1,
     }
-    k
 }
 
 pub fn unsigned(n: u64) -> Decimal
@@ -73,15 +68,8 @@ pub fn unsigned(n: u64) -> Decimal
 pub fn signed(x: i64) -> Decimal
     ensures { result ≡ sign_of x }
 {
-    if x < 0 {
-        Decimal {
-            minus: true,
-            size: (!x) as u64 + 1,
-        }
-    } else {
-        Decimal {
-            minus: false,
-            size: x as u64,
-        }
+    Decimal {
+        minus: x < 0,
+        size: x.unsigned_abs(),
     }
 }

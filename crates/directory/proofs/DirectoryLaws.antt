@@ -40,9 +40,9 @@ module _ (l m : List ℕ) (s : Settings) (p j x : ℕ) (e : m ≡ resolved_at l 
 -- ---- the swap
 
 module _ (l : List ℕ) (s : Settings) (p x : ℕ) (e : x ≡ word l (p + worker_marks)) where
-  pub nothing_marked : x ≡ 0 → true ≡ nothing_to_split l s p
+  pub nothing_marked : x ≡ 0 → eqb x 0 ≡ nothing_to_split l s p
   unfolding nothing_to_split
-  nothing_marked h = rw (eq-eqb (word l (p + worker_marks)) 0 (sym e ∙ h))
+  nothing_marked h = rw (e, eq-eqb (word l (p + worker_marks)) 0 (sym e ∙ h))
 
   pub nothing_short : (k : ℕ) → (x ≡ 0 → ⊥) → k ≡ words_needed s → ltb (length l) k ≡ nothing_to_split l s p
   unfolding nothing_to_split

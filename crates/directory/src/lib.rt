@@ -18,14 +18,12 @@ fn resolve(words: &mut [u64], g: Settings, w: usize)
     requires { Whole words.old g × (w < g.workers) }
     ensures { words.new ≡ resolved_at words.old g (worker_at g.workers w) g.workers }
 {
-    let mut j: usize = 0;
-    while j < g.workers as usize {
+    for j in 0..g.workers as usize {
         if (worker_word(words, g, w, WORKER_MARKS) >> j) % 2 == 1 {
             let q = record_of(words, g, slot_word(words, g, w, j, SLOT_ACCOUNT));
             let bits = dues(words, g, w, q);
             take_all(words, g, w, bits);
         }
-        j += 1;
     }
 }
 
@@ -34,10 +32,7 @@ fn nothing(words: &[u64], g: Settings, w: usize) -> bool
     requires { Fits words.now g × (w < g.workers) }
     ensures { result ≡ nothing_to_split words.now g (worker_at g.workers w) }
 {
-    if worker_word(words, g, w, WORKER_MARKS) == 0 {
-        return true;
-    }
-    words.len() < needed(g)
+    worker_word(words, g, w, WORKER_MARKS) == 0 || words.len() < needed(g)
 }
 
 pub fn swap_directory(words: &mut [u64], g: Settings, w: usize)

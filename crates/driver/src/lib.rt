@@ -38,20 +38,24 @@ pub fn feed(
 {
     let mut reader = reader;
     let mut used: usize = 0;
-    let mut i: usize = 0;
-    while i < input.len() && roomy(out.len(), used) {
-        let byte = input[i];
+    for (i, &byte) in input.iter().enumerate() {
+        if !roomy(out.len(), used) {
+            return Fed {
+                reader,
+                used,
+                taken: i,
+            };
+        }
         if byte == b'\n' {
             used = answer(words, accounts, totals, out, used, reader.command());
             reader = Reader::new();
         } else {
             reader = reader.push(byte);
         }
-        i += 1;
     }
     Fed {
         reader,
         used,
-        taken: i,
+        taken: input.len(),
     }
 }

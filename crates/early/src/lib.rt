@@ -20,20 +20,12 @@ fn round_step(words: &mut [u64], x: u64, w: usize, k: usize)
     ensures { (words.new, Ok Stepped.Moved) ≡ update_step words.old (settings_of x) w k }
 {
     let n = settings_of(x).workers as usize;
-    let j = reduce(k - 3, n + 3);
-    if j < 1 {
-        engine::read_state(words, settings_of(x), w);
-        return;
+    match reduce(k - 3, n + 3) {
+        0 => engine::read_state(words, settings_of(x), w),
+        1 => engine::read_toggle(words, settings_of(x), w),
+        j if j < n + 2 => engine::read_slot(words, settings_of(x), w, j - 2),
+        _ => swaps::swap(words, settings_of(x), w),
     }
-    if j < 2 {
-        engine::read_toggle(words, settings_of(x), w);
-        return;
-    }
-    if j < n + 2 {
-        engine::read_slot(words, settings_of(x), w, j - 2);
-        return;
-    }
-    swaps::swap(words, settings_of(x), w);
 }
 
 // A step before the first check, after k own steps.

@@ -29,12 +29,10 @@ pub fn count_in(words: &[u64], g: Settings, e: usize) -> usize
     let q = entry_record(words, g, e);
     let c = size(words, g, q);
     let mut k: usize = 0;
-    let mut i: usize = 0;
-    while i < c {
+    for i in 0..c {
         if first_bits(g.depth, memory::get(words, q + RECORD_ACCOUNTS + i)) == e as u64 {
             k += 1;
         }
-        i += 1;
     }
     k
 }
@@ -59,15 +57,13 @@ pub fn write_in(
     let b = g.capacity as usize;
     let c = size(words, g, q);
     let mut at = k;
-    let mut i: usize = 0;
-    while i < c {
+    for i in 0..c {
         let a = memory::get(words, q + RECORD_ACCOUNTS + i);
         if first_bits(g.depth, a) == e as u64 {
             accounts[at] = (a % 4294967296) as u32;
             totals[at] = memory::total_of(memory::get(words, q + RECORD_ACCOUNTS + b + i));
             at += 1;
         }
-        i += 1;
     }
     at
 }

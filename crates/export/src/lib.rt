@@ -19,10 +19,8 @@ fn file_size(accounts: &[u32], totals: &[i64], k: usize) -> usize
     ensures { result ≡ length (csv_file (rows_at accounts.now totals.now 0 k)) }
 {
     let mut size = HEADER_SIZE;
-    let mut i: usize = 0;
-    while i < k {
+    for i in 0..k {
         size += row_size(accounts[i], totals[i]);
-        i += 1;
     }
     size
 }
@@ -34,10 +32,7 @@ fn too_short(accounts: &[u32], totals: &[i64], k: usize, bytes: usize) -> bool
         × (length (csv_file (rows_at accounts.now totals.now 0 k)) ≤ header_size + longest_row * k))) }
     ensures { result ≡ ltb bytes (length (csv_file (rows_at accounts.now totals.now 0 k))) }
 {
-    if HEADER_SIZE + LONGEST_ROW * k <= bytes {
-        return false;
-    }
-    bytes < file_size(accounts, totals, k)
+    bytes < HEADER_SIZE + LONGEST_ROW * k && bytes < file_size(accounts, totals, k)
 }
 
 // Writes the file of the first k rows, and answers how many bytes it has.
@@ -50,10 +45,8 @@ fn write_file(accounts: &[u32], totals: &[i64], k: usize, out: &mut [u8]) -> usi
 {
     write_header(out);
     let mut at = HEADER_SIZE;
-    let mut i: usize = 0;
-    while i < k {
+    for i in 0..k {
         at = write_row(out, at, accounts[i], totals[i]);
-        i += 1;
     }
     at
 }

@@ -13,30 +13,23 @@ pub fn half(state: BucketState, d: u64, q: u64) -> BucketState
 {
     let old_accounts = state.accounts;
     let old_totals = state.totals;
-    let settled = state.settled;
-    let answers = state.answers;
-    let posted = state.posted;
     let n = state.size();
     let mut accounts = [0u64; ARRAY_SIZE];
     let mut totals = [0u64; ARRAY_SIZE];
     let mut kept: usize = 0;
-    let mut i = 0;
-    while i < n {
+    for i in 0..n {
         let a = old_accounts[i];
         if first_bits(d, a) == q {
             accounts[kept] = a;
             totals[kept] = old_totals[i];
             kept += 1;
         }
-        i += 1;
     }
     BucketState {
         accounts,
         totals,
-        settled,
-        answers,
-        posted,
         count: kept as u64,
         applied: 0,
+        ..state
     }
 }

@@ -1,12 +1,11 @@
 -- All places of a log left, as the search is given them. Rests on the definition.
-use Prim.Native.Nat.{ℕ, zero, suc, ◌+◌, ◌-◌, ◌≤◌, ◌<◌}
+use Prim.Native.Nat.{ℕ, zero, suc, ◌-◌, ◌≤◌, ◌<◌}
 use native.Mathlib.Omega.{arith}
-use native.Mathlib.Numerals.{add-one}
-use mathlib.Core.Path.{◌≡◌, refl, ap, fun_ext}
+use mathlib.Core.Path.{◌≡◌, refl, fun_ext}
 use mathlib.Core.Bool.{Bool, true, false}
-use mathlib.Core.List.{List, ◌∷◌, ◌++◌}
+use mathlib.Core.List.{List, ◌++◌}
 use lib.Dec.{ltb, eqb}
-use lib.ListN.{get_or, set, replicate}
+use lib.ListN.{get_or, replicate}
 use borrow.Author.Tests.{ltb-true, ltb-false}
 use Rattle.searching.specs.Searching.{is_left}
 use Rattle.judging.specs.Places.{all_left}
@@ -39,11 +38,3 @@ left_at n k i = go (ltb i n) refl
 pub all-left : (n : ℕ) → is_left (all_left n) ≡ (λ i. ltb i n)
 unfolding is_left all_left
 all-left n = fun_ext (λ i. left_at n (12 - n) i)
-
-one_more : (i k : ℕ) → set (flags i (suc k)) i 1 ≡ flags (suc i) k
-one_more zero k = refl
-one_more (suc i) k = ap (λ (x : List ℕ). 1 ∷ x) (one_more i k)
-
-pub left_more : (i : ℕ) → i < 12 → set (all_left i) i 1 ≡ all_left (i + 1)
-unfolding all_left
-left_more i h = let e : 12 - i ≡ suc (12 - suc i) = omega arith in rw (add-one, e) (one_more i (12 - suc i))

@@ -19,11 +19,7 @@ fn all_left(n: usize) -> [u64; GREATEST_OPERATIONS]
     ensures { result ≡ all_left n }
 {
     let mut left = [0u64; GREATEST_OPERATIONS];
-    let mut i: usize = 0;
-    while i < n {
-        left[i] = 1;
-        i += 1;
-    }
+    left[..n].fill(1);
     left
 }
 

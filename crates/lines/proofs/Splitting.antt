@@ -1,15 +1,19 @@
 -- A line cut at its spaces, field by field. Rests on the definitions of specs/Grammar.
 use Prim.Native.Nat.{ℕ, suc, ◌+◌, ◌≤◌, ◌<◌}
-use mathlib.Core.Path.{◌≡◌, refl, ◌∙◌, ap}
-use mathlib.Core.Bool.{Bool, true, false}
+use mathlib.Core.Path.{◌≡◌, refl, sym, ◌∙◌, ap}
+use mathlib.Core.Bool.{Bool, true, false, not, cond}
 use mathlib.Core.List.{List, [], ◌∷◌}
 use Rattle.std.specs.Prelude.{None}
 use native.Mathlib.Omega.{arith}
 use native.Mathlib.Numerals.{add-one}
-use lib.Dec.{eqb}
-use lib.ListN.{length, take, drop, get_or, drop_of_length-le}
-use lib.Seq.{drop-cons}
-use borrow.Author.Tests.{eq-eqb, ne_eqb}
+use lib.Dec.{eqb, ltb}
+use lib.ListN.{length, take, drop, get_or}
+use borrow.Author.Tests.{ltb-true, ltb-false}
+use Rattle.std.specs.Prelude.{Some, None}
+use Rattle.std.specs.Option.{unwrap_or}
+use Rattle.std.specs.List.{position, position_or_len}
+use Rattle.std.proofs.lemmas.List.Sums.{prefix_len-le-length}
+use Rattle.std.proofs.lemmas.List.Recursion.{is_position_or_len}
 use Rattle.machine.specs.Choice.{when◌then◌else◌}
 use Rattle.decimals.specs.Ascii.{space}
 use Rattle.commands.specs.Commands.{one_field}
@@ -18,18 +22,39 @@ use Rattle.lines.specs.Grammar.{fields_of, first_field, letter_of, of_fields, co
 
 -- ---- the first field, byte by byte
 
-module _ (l : List ℕ) (i : ℕ) (h : i < length l) where
-  pub field_ends : get_or l i 0 ≡ space → first_field (drop i l) ≡ 0
-  unfolding first_field when◌then◌else◌
-  field_ends e = rw (drop-cons l i 0 h, eq-eqb (get_or l i 0) space e)
+pub first_field_at : (l : List ℕ) → first_field l ≡ position_or_len (λ b. eqb b space) l
+unfolding first_field when◌then◌else◌
+first_field_at = is_position_or_len first_field (λ b. eqb b space) refl (λ x xs. by (eqb x space) (first_field xs))
+  where
+    by : (t : Bool) (n : ℕ) → (when t then 0 else suc n) ≡ cond t 0 (1 + n)
+    by true n = refl
+    by false n = omega arith
 
-  pub field_goes_on : (get_or l i 0 ≡ space → ⊥) → first_field (drop i l) ≡ suc (first_field (drop (i + 1) l))
-  unfolding first_field when◌then◌else◌
-  field_goes_on e = rw (drop-cons l i 0 h, ne_eqb (get_or l i 0) space e, add-one)
+module _ (l : List ℕ) where
+  abbrev at : ℕ
+  at = position_or_len (λ b. eqb b space) l
 
-pub field_at_end : (l : List ℕ) (i : ℕ) → length l ≤ i → first_field (drop i l) ≡ 0
-unfolding first_field
-field_at_end l i h = rw (drop_of_length-le l h)
+  -- where a space is found
+  pub found : (i : ℕ) → Some i ≡ position (λ b. eqb b space) l → (i ≡ first_field l) × (i < length l)
+  found i h = by (ltb at (length l)) refl h
+    where
+      by : (t : Bool) → ltb at (length l) ≡ t → Some i ≡ cond t (Some at) None → (i ≡ first_field l) × (i < length l)
+      by true e p = let n : i ≡ at = cc in (n ∙ sym (first_field_at l), let b = ltb-true at (length l) e in omega arith)
+      by false e p = cc
+
+  pub none_found : None ≡ position (λ b. eqb b space) l → length l ≤ first_field l
+  none_found h = by (ltb at (length l)) refl h
+    where
+      by : (t : Bool) → ltb at (length l) ≡ t → None ≡ cond t (Some at) None → length l ≤ first_field l
+      by true e p = cc
+      by false e p = rw (first_field_at l) (ltb-false at (length l) e)
+
+  pub or_length : unwrap_or (position (λ b. eqb b space) l) (length l) ≡ first_field l
+  or_length = by (ltb at (length l)) refl
+    where
+      by : (t : Bool) → ltb at (length l) ≡ t → unwrap_or (cond t (Some at) None) (length l) ≡ first_field l
+      by true e = sym (first_field_at l)
+      by false e = let b = ltb-false at (length l) e in omega (arith, first_field_at l, prefix_len-le-length (λ b. not (eqb b space)) l)
 
 -- ---- the fields, one by one
 

@@ -27,19 +27,12 @@ const GREATEST_WORD: u64 = u64::MAX;
 pub fn read_field(k: usize, field: &[u8]) -> Number
     ensures { result ≡ as_number (field_word k field.now) }
 {
-    if k == LOGGED_ACCOUNT {
-        return read_number(field, GREATEST_ACCOUNT);
+    match k {
+        LOGGED_ACCOUNT => read_number(field, GREATEST_ACCOUNT),
+        LOGGED_TOTAL | LOGGED_ANSWER_TOTAL => read_total(field),
+        LOGGED_ANSWER => read_answer(field),
+        _ => read_number(field, GREATEST_WORD),
     }
-    if k == LOGGED_TOTAL {
-        return read_total(field);
-    }
-    if k == LOGGED_ANSWER {
-        return read_answer(field);
-    }
-    if k == LOGGED_ANSWER_TOTAL {
-        return read_total(field);
-    }
-    read_number(field, GREATEST_WORD)
 }
 
 // A total, as a word of two's complement.
@@ -84,15 +77,5 @@ fn answer_or(field: &[u8], word: &[u8], answer: u64, rest: Number) -> Number
 fn same(field: &[u8], word: &[u8]) -> bool
     ensures { result ≡ same_numbers field.now word.now }
 {
-    if field.len() != word.len() {
-        return false;
-    }
-    let mut i = 0;
-    while i < field.len() {
-        if field[i] != word[i] {
-            return false;
-        }
-        i += 1;
-    }
-    true
+    field == word
 }

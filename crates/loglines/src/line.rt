@@ -41,8 +41,7 @@ pub fn read_operation(line: &[u8]) -> Row
 {
     let mut words = [0u64; OPERATION_WORDS];
     let mut from: usize = 0;
-    let mut k: usize = 0;
-    while k < FOLLOWED {
+    for k in 0..FOLLOWED {
         let rest = &line[from..];
         let end = first_field(rest);
         if rest.len() <= end {
@@ -53,7 +52,6 @@ pub fn read_operation(line: &[u8]) -> Row
         };
         words[k] = word;
         from = from + end + 1;
-        k += 1;
     }
     last_field(&line[from..], words)
 }

@@ -90,18 +90,14 @@ fn store(words: &mut [u64], at: usize, row: &[u64])
     requires { at + length row.now ≤ length words.old }
     ensures { words.new ≡ overlay words.old at row.now }
 {
-    let mut i = 0;
-    while i < row.len() {
-        words[at + i] = row[i];
-        i += 1;
-    }
+    words[at..at + row.len()].copy_from_slice(row);
 }
 
 // The lines with one more, counted up to the greatest word.
 fn next_line(lines: u64) -> u64
     ensures { result ≡ next_line lines }
 {
-    if lines < u64::MAX { lines + 1 } else { lines }
+    lines.saturating_add(1)
 }
 
 impl Progress {
@@ -223,10 +219,8 @@ pub fn feed(feeding: Feeding, input: &[u8]) -> Feeding
     ensures { result ≡ fed feeding input.now }
 {
     let mut feeding = feeding;
-    let mut i: usize = 0;
-    while i < input.len() {
-        feeding = feeding.take(input[i]);
-        i += 1;
+    for &byte in input {
+        feeding = feeding.take(byte);
     }
     feeding
 }

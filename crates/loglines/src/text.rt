@@ -74,11 +74,7 @@ fn print_judged(progress: Progress, out: &mut [u8]) -> usize
 fn within(filled: usize) -> usize
     ensures { (result ≤ kept_words) × ((l : List ℕ) → length l ≡ kept_words → take result l ≡ take filled l) }
 {
-    if KEPT_WORDS < filled {
-        KEPT_WORDS
-    } else {
-        filled
-    }
+    filled.min(KEPT_WORDS)
 }
 
 // The line of an order.
@@ -88,10 +84,8 @@ fn print_order(out: &mut [u8], places: &[u64]) -> usize
         × ((result ≡ length (order_text places.now)) × (result ≤ length out.new)) }
 {
     let mut at = print_word(out, 0, b"order");
-    let mut i = 0;
-    while i < places.len() {
-        at = print_place(out, at, places[i]);
-        i += 1;
+    for &place in places {
+        at = print_place(out, at, place);
     }
     out[at] = b'\n';
     at + 1

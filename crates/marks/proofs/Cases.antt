@@ -1,25 +1,31 @@
 -- The cases of a state step's definitions, in the order in which the code tests them: each takes what the code has read.
 -- Rests on the definitions of a state step.
-use Prim.Native.Nat.{ℕ, ◌+◌, ◌≤◌, ◌<◌}
+use Prim.Native.Nat.{ℕ, max, ◌+◌, ◌*◌, ◌%◌, ◌^◌, ◌<◌}
+use native.Mathlib.Nat.{zero-mul}
+use native.Mathlib.Omega.{arith}
+use native.Mathlib.Decide.{ℕ_discrete}
 use mathlib.Core.Path.{◌≡◌, sym, ◌∙◌, ap}
+use mathlib.Core.Logic.{by_cases}
 use mathlib.Core.Bool.{Bool, true, false, not}
 use mathlib.Core.List.{List}
 use lib.Dec.{ltb, eqb}
 use lib.ListN.{set}
-use lib.Seq.{set-get_or}
-use borrow.Author.Tests.{lt-ltb, le-ltb, eq-eqb, ne_eqb}
+use lib.Bits.{bit_or}
+use borrow.Author.Tests.{eq-eqb, ne_eqb}
 use Rattle.interface.specs.Numbers.{kind_none}
 use Rattle.interface.specs.declared.Settings.{Settings}
 use Rattle.fields.specs.Fields.{slot_kind, slot_account, slot_ticket, worker_marks}
 use Rattle.fields.specs.Regions.{read_at}
 use Rattle.machine.specs.Choice.{◌and◌}
-use Rattle.machine.proofs.laws.Base.{if_true, if_false, and_true, and_left_false, and_no}
+use Rattle.machine.proofs.laws.Base.{if_true, if_false, eq_elim, and_true, and_left_false, and_no}
 use Rattle.rules.specs.Rules.{bit, with_bit}
 use Rattle.layout.specs.Shape.{word}
 use Rattle.layout.specs.Addresses.{record_of, marked_at, record_for}
 use Rattle.record.specs.Bucket.{splittable_at, settled_ticket}
 use Rattle.marks.specs.StateStep.{found_before, splits_at, marks, state_step_at}
-use Rattle.rules.proofs.Bits.{mark_kept}
+use Rattle.rules.proofs.Bits.{is_one, bit_below, shift_one}
+use Rattle.std.proofs.lemmas.Nat.{or_disjoint}
+use Rattle.std.proofs.lemmas.Nat.Bits.{bit_at_or, bit_at-pow_same, bit_at-pow_other, and_pow, same_from_bits}
 
 -- ---- a state step's test
 
@@ -34,11 +40,10 @@ module _ (l : List ℕ) (s : Settings) (p j kind : ℕ) (read : kind ≡ word l 
   marks_idle e = rw (eq-eqb (word l (read_at p j + slot_kind)) kind_none (sym read ∙ e))
 
   module _ (pending : kind ≡ kind_none → ⊥) (a q : ℕ) (account : a ≡ word l (read_at p j + slot_account)) (at : q ≡ record_of l s a)
-      (t : Bool) (tested : t ≡ splittable_at l s q) where
+      (v : Bool) (tested : v ≡ splits_at l s p j q) where
     -- what is left of the test
-    marks_rest :
-        (t and ltb (settled_ticket l s q j) (word l (read_at p j + slot_ticket)) and not (found_before l s p j q)) ≡ marks l s p j
-    unfolding marks splits_at ◌and◌
+    marks_rest : (v and not (found_before l s p j q)) ≡ marks l s p j
+    unfolding marks ◌and◌
     marks_rest =
         rw (
           tested,
@@ -46,19 +51,24 @@ module _ (l : List ℕ) (s : Settings) (p j kind : ℕ) (read : kind ≡ word l 
           record_here l s p j a q account at,
         )
 
-    pub marks_not : t ≡ false → false ≡ marks l s p j
+    pub marks_not : v ≡ false → v ≡ marks l s p j
     unfolding ◌and◌
-    marks_not e = rw e at marks_rest
+    marks_not e = e ∙ rw e at marks_rest
 
-    module _ (yes : t ≡ true) (ticket : ℕ) (k : ticket ≡ word l (read_at p j + slot_ticket)) (last : ℕ) (m : last ≡ settled_ticket l s q j)
-      where
-        pub marks_settled : ticket ≤ last → false ≡ marks l s p j
-        unfolding ◌and◌
-        marks_settled h = rw (← m, ← k, yes, le-ltb last ticket h) at marks_rest
+    pub marks_found : v ≡ true → (b : Bool) → b ≡ found_before l s p j q → not b ≡ marks l s p j
+    unfolding ◌and◌
+    marks_found e b found = ap not found ∙ rw e at marks_rest
 
-        pub marks_found : last < ticket → (b : Bool) → b ≡ found_before l s p j q → not b ≡ marks l s p j
-        unfolding ◌and◌
-        marks_found h b found = ap not found ∙ rw (← m, ← k, yes, lt-ltb last ticket h) at marks_rest
+-- the test of the bucket and its ticket
+module _ (l : List ℕ) (s : Settings) (p j q : ℕ) (t : Bool) (tested : t ≡ splittable_at l s q) where
+  pub splits_not : t ≡ false → t ≡ splits_at l s p j q
+  unfolding splits_at ◌and◌
+  splits_not e = rw (← tested, e)
+
+  pub splits_by : t ≡ true → (ticket : ℕ) → ticket ≡ word l (read_at p j + slot_ticket) → (last : ℕ) → last ≡ settled_ticket l s q j
+      → ltb last ticket ≡ splits_at l s p j q
+  unfolding splits_at ◌and◌
+  splits_by e ticket k last m = rw (← tested, e, m, k)
 
 -- ---- a state step
 
@@ -71,8 +81,20 @@ module _ (l : List ℕ) (s : Settings) (p j : ℕ) (b : Bool) (tested : b ≡ ma
   unfolding state_step_at
   step_marked e x y ex ey = rw (ey, ex) (sym (if_true _ _ (sym tested ∙ e)))
 
-  pub step_kept : b ≡ true → (x : ℕ) → x ≡ word l (p + worker_marks) → (bit x j ≡ 0 → ⊥) → l ≡ state_step_at l s p j
-  step_kept e x ex d = sym (set-get_or l (p + worker_marks) 0) ∙ step_marked e x (word l (p + worker_marks)) ex (sym ex ∙ sym (mark_kept x j d))
+-- the code's mark: bit j set by `|`, where it may be set already
+pub mark_or : (x j : ℕ) → j < 64 → bit_or x (1 * 2 ^ j % 2 ^ 64) ≡ with_bit x j
+unfolding with_bit bit
+mark_or x j h =
+    rw (shift_one j h)
+    (eq_elim (λ y. bit_or x (2 ^ j) ≡ y) (bit x j) 0 _ _
+    (λ clear. or_disjoint x (2 ^ j) (and_pow x j ∙ ap (λ (k : ℕ). k * 2 ^ j) clear ∙ zero-mul (2 ^ j)))
+    (λ set. same_from_bits (bit_or x (2 ^ j)) x (λ i. bit_at_or x (2 ^ j) i ∙ same i (is_one x j set))))
+  where
+    same : (i : ℕ) → bit x j ≡ 1 → max (bit x i) (bit (2 ^ j) i) ≡ bit x i
+    same i e =
+        by_cases (ℕ_discrete i j)
+        (λ z. rw (z, bit_at-pow_same j) (omega (arith, e, bit_below x j)))
+        (λ z. rw (bit_at-pow_other j i z) (omega arith))
 
 -- ---- a step before step j that has found the bucket in record q
 

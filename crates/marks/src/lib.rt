@@ -13,7 +13,7 @@ use fields::{RECORD_COUNT, RECORD_DEPTH, SLOT_ACCOUNT, SLOT_KIND, SLOT_TICKET, W
 use interface::{KIND_NONE, Settings};
 use layout::addresses::{put_worker_word, record_of, slot_word, worker_word};
 use record::settled_ticket;
-use rules::{flip_bit, splittable};
+use rules::splittable;
 
 // Whether a step of this round has found the bucket in the record at q before.
 fn found_before(words: &[u64], g: Settings, w: usize, j: usize, q: usize) -> bool
@@ -21,13 +21,11 @@ fn found_before(words: &[u64], g: Settings, w: usize, j: usize, q: usize) -> boo
     ensures { result ≡ found_before words.now g (worker_at g.workers w) j q }
 {
     let bits = worker_word(words, g, w, WORKER_MARKS);
-    let mut i = j;
-    while 0 < i {
-        i -= 1;
-        if (bits >> i) % 2 == 1 {
-            if record_of(words, g, slot_word(words, g, w, i, SLOT_ACCOUNT)) == q {
-                return true;
-            }
+    for i in (0..j).rev() {
+        if (bits >> i) % 2 == 1
+            && record_of(words, g, slot_word(words, g, w, i, SLOT_ACCOUNT)) == q
+        {
+            return true;
         }
     }
     false
@@ -43,13 +41,9 @@ fn marking(words: &[u64], g: Settings, w: usize, j: usize) -> bool
     }
     let q = record_of(words, g, slot_word(words, g, w, j, SLOT_ACCOUNT));
     let depth = memory::get(words, q + RECORD_DEPTH);
-    if !splittable(g, depth, memory::get(words, q + RECORD_COUNT)) {
-        return false;
-    }
-    if slot_word(words, g, w, j, SLOT_TICKET) <= settled_ticket(words, g, q, j) {
-        return false;
-    }
-    !found_before(words, g, w, j, q)
+    splittable(g, depth, memory::get(words, q + RECORD_COUNT))
+        && settled_ticket(words, g, q, j) < slot_word(words, g, w, j, SLOT_TICKET)
+        && !found_before(words, g, w, j, q)
 }
 
 pub fn state_step(words: &mut [u64], g: Settings, w: usize, j: usize)
@@ -58,8 +52,6 @@ pub fn state_step(words: &mut [u64], g: Settings, w: usize, j: usize)
 {
     if marking(words, g, w, j) {
         let x = worker_word(words, g, w, WORKER_MARKS);
-        if (x >> j) % 2 == 0 {
-            put_worker_word(words, g, w, WORKER_MARKS, flip_bit(x, j));
-        }
+        put_worker_word(words, g, w, WORKER_MARKS, x | 1 << j);
     }
 }

@@ -12,18 +12,14 @@ ghost use Rattle.memory.specs.Words.{least};
 pub fn word_of(x: i64) -> u64
     ensures { result ≡ of_z w64 x }
 {
-    if x < 0 { !((!x) as u64) } else { x as u64 }
+    x.cast_unsigned()
 }
 
 // The total that a word keeps.
 pub fn total_of(w: u64) -> i64
     ensures { result ≡ to_z w64 w }
 {
-    if w < 9223372036854775808 {
-        w as i64
-    } else {
-        !((!w) as i64)
-    }
+    w.cast_signed()
 }
 
 // The word at i.
@@ -46,7 +42,7 @@ pub fn get_from(words: &[u64], at: usize, k: usize) -> u64
 pub fn get_or(words: &[u64], i: usize) -> u64
     ensures { result ≡ get_or words.now i 0 }
 {
-    if i < words.len() { words[i] } else { 0 }
+    words.get(i).copied().unwrap_or(0)
 }
 
 // Another word at i.
@@ -63,12 +59,7 @@ pub fn copy(words: &mut [u64], from: usize, to: usize, k: usize)
     requires { (from + k ≤ length words.old) × ((to + k ≤ length words.old) × ((from + k ≤ to) ⊎ (to ≤ from))) }
     ensures { words.new ≡ overlay words.old to (part words.old from k) }
 {
-    let mut i: usize = 0;
-    while i < k {
-        let v = words[from + i];
-        words[to + i] = v;
-        i += 1;
-    }
+    words.copy_within(from..from + k, to);
 }
 
 // The word v at each index from `from` to `to`, the last not counted.
@@ -76,10 +67,8 @@ pub fn fill(words: &mut [u64], from: usize, to: usize, v: u64)
     requires { to ≤ length words.old }
     ensures { words.new ≡ overlay words.old from (replicate (to - from) v) }
 {
-    let mut i = from;
-    while i < to {
-        words[i] = v;
-        i += 1;
+    if from < to {
+        words[from..to].fill(v);
     }
 }
 
@@ -87,9 +76,5 @@ pub fn fill(words: &mut [u64], from: usize, to: usize, v: u64)
 pub fn least(count: u64, capacity: usize) -> usize
     ensures { result ≡ least count capacity }
 {
-    if count < capacity as u64 {
-        count as usize
-    } else {
-        capacity
-    }
+    capacity.min(count as usize)
 }

@@ -1,6 +1,7 @@
 -- Reading numbers within a limit. Rests on the definitions of specs/Numerals.
 use Prim.Native.Nat.{ℕ, zero, suc, zero-le, ◌+◌, ◌-◌, ◌*◌, ◌≤◌, ◌<◌}
 use mathlib.Core.Path.{◌≡◌, refl, sym, ◌∙◌, ap}
+use mathlib.Core.Logic.{◌⊎◌, inl, inr}
 use mathlib.Core.Bool.{Bool, true, false}
 use mathlib.Core.List.{List, [], ◌∷◌}
 use Rattle.std.specs.Prelude.{Option, Some, None, ◌==◌}
@@ -79,11 +80,8 @@ module _ (most v : ℕ) (l : List ℕ) (i : ℕ) (h : i < length l) where
   unfolding digits_after up_to when◌then◌else◌
   stop e = rw (drop-cons l i 0 h, e)
 
-  pub stop_low : get_or l i 0 < zero_digit → up_to most (digits_after v (drop i l)) ≡ None
-  stop_low k = stop (digit_low (get_or l i 0) k)
-
-  pub stop_high : nine_digit < get_or l i 0 → up_to most (digits_after v (drop i l)) ≡ None
-  stop_high k = stop (digit_high (get_or l i 0) k)
+  pub stop_other : (get_or l i 0 < zero_digit) ⊎ (nine_digit < get_or l i 0) → up_to most (digits_after v (drop i l)) ≡ None
+  stop_other k = stop (elim k [ inl h ↦ digit_low (get_or l i 0) h | inr h ↦ digit_high (get_or l i 0) h ])
 
   pub go_on : zero_digit ≤ get_or l i 0 → get_or l i 0 ≤ nine_digit
       → up_to most (digits_after v (drop i l)) ≡ up_to most (digits_after (v * 10 + (get_or l i 0 - zero_digit)) (drop (i + 1) l))

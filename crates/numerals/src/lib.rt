@@ -26,33 +26,18 @@ fn read_digits(field: &[u8], most: u64) -> Option<u64>
     ensures { result ≡ up_to most (digits_after 0 field.now) }
 {
     let mut value: u64 = 0;
-    let mut i = 0;
-    while i < field.len() {
-        let byte = field[i];
-        if byte < b'0' {
+    for &byte in field {
+        if !byte.is_ascii_digit() {
             return None;
         }
-        if b'9' < byte {
+        let digit = u64::from(byte - b'0');
+        let next = value.checked_mul(10)?.checked_add(digit)?;
+        if most < next {
             return None;
         }
-        let digit = wide(byte - b'0');
-        if most / 10 < value {
-            return None;
-        }
-        let tens = value * 10;
-        if most - tens < digit {
-            return None;
-        }
-        value = tens + digit;
-        i += 1;
+        value = next;
     }
     Some(value)
-}
-
-fn wide(byte: u8) -> u64
-    ensures { result ≡ byte }
-{
-    byte as u64
 }
 
 // The total or the amount that the field is, if it is one.

@@ -5,17 +5,17 @@ use native.Mathlib.Omega.{arith}
 use mathlib.Core.Path.{◌≡◌, refl, sym, ◌∙◌}
 use mathlib.Core.Bool.{Bool, true, false}
 use mathlib.Core.List.{List, [], ◌∷◌, ◌++◌}
-use lib.ListN.{length, set, replicate, length-append, length-replicate}
+use lib.ListN.{length, replicate, length-append, length-replicate}
 use borrow.Author.Tests.{le-leb, lt-leb}
 use Rattle.interface.specs.Limits.{in_range, built, greatest_workers, greatest_capacity}
 use Rattle.interface.specs.declared.Settings.{Settings}
 use Rattle.interface.specs.declared.Refusal.{Refusal}
 use Rattle.interface.proofs.Laws.{range_of, wrong_settings, right_settings}
-use Rattle.fields.specs.Fields.{header_settings, header_needed, header_depth, header_number, header_spare, header_size, deepest, record_size, spare_words}
+use Rattle.fields.specs.Fields.{header_spare, header_size, deepest, record_size, spare_words}
 use Rattle.fields.specs.Regions.{directory_start, record_start, words_needed}
 use Rattle.machine.proofs.laws.Base.{if_true, if_false}
 use Rattle.lists.specs.Parts.{overlay}
-use Rattle.lists.proofs.PartLaws.{overlay_nil, overlay_join, overlay_more}
+use Rattle.lists.proofs.PartLaws.{overlay_join}
 use Rattle.layout.specs.Shape.{first_word}
 use Rattle.opening.specs.Opening.{fresh_words, needed_for, opened_words, open_words}
 use Rattle.std.specs.Prelude.{Result, Ok, Err}
@@ -27,23 +27,6 @@ laid_behind : (l w : List ℕ) (n : ℕ) (xs ys : List ℕ) → w ≡ overlay l 
 laid_behind l w n xs ys e k =
     let m : n ≡ 0 + length xs = omega arith in
     rw (e, m) (overlay_join l 0 xs ys (omega arith))
-
-laid_one :
-    (l w : List ℕ) (n v : ℕ) (xs : List ℕ) → w ≡ overlay l 0 xs → n ≡ length xs → n < length l → set w n v ≡ overlay l 0 (xs ++ v ∷ [])
-laid_one l w n v xs e k h =
-    let m : n ≡ 0 + length xs = omega arith in
-    rw (e, m) (overlay_more l 0 xs v (omega arith))
-
-pub header_laid :
-    (l l₁ l₂ l₃ l₄ l₅ : List ℕ) (x y : ℕ) → header_size ≤ length l → l₁ ≡ set l header_settings x
-    → l₂ ≡ set l₁ header_needed y → l₃ ≡ set l₂ header_depth 0 → l₄ ≡ set l₃ header_number 0 → l₅ ≡ set l₄ header_spare 1
-    → l₅ ≡ overlay l 0 (x ∷ y ∷ 0 ∷ 0 ∷ 1 ∷ [])
-header_laid l l₁ l₂ l₃ l₄ l₅ x y h e₁ e₂ e₃ e₄ e₅ =
-    let f₁ = e₁ ∙ laid_one l l header_settings x [] (sym (overlay_nil l 0)) refl (omega arith) in
-    let f₂ = e₂ ∙ laid_one l l₁ header_needed y (x ∷ []) f₁ refl (omega arith) in
-    let f₃ = e₃ ∙ laid_one l l₂ header_depth 0 (x ∷ y ∷ []) f₂ refl (omega arith) in
-    let f₄ = e₄ ∙ laid_one l l₃ header_number 0 (x ∷ y ∷ 0 ∷ []) f₃ refl (omega arith) in
-    e₅ ∙ laid_one l l₄ header_spare 1 (x ∷ y ∷ 0 ∷ 0 ∷ []) f₄ refl (omega arith)
 
 -- the parts of a fresh table lie one behind the other
 pub fresh_parts :

@@ -9,10 +9,7 @@ ghost use Rattle.lists.specs.Parts.{overlay};
 ghost use Rattle.layout.specs.Shape.{first_word};
 ghost use Rattle.opening.specs.Opening.{needed_for, fresh_words, open_words};
 
-use fields::{
-    CAPACITY_UNIT, DEPTH_UNIT, HEADER_DEPTH, HEADER_NEEDED, HEADER_NUMBER, HEADER_SETTINGS,
-    HEADER_SPARE, MARK, MARK_UNIT,
-};
+use fields::{CAPACITY_UNIT, DEPTH_UNIT, HEADER_SPARE, MARK, MARK_UNIT};
 use interface::{Refusal, Settings};
 use layout::shape::directory_start;
 use spares::needed;
@@ -39,11 +36,7 @@ fn header(words: &mut [u64], first: u64, all: u64)
     requires { header_size ≤ length words.old }
     ensures { words.new ≡ overlay words.old 0 (first ∷ all ∷ 0 ∷ 0 ∷ 1 ∷ []) }
 {
-    memory::put(words, HEADER_SETTINGS, first);
-    memory::put(words, HEADER_NEEDED, all);
-    memory::put(words, HEADER_DEPTH, 0);
-    memory::put(words, HEADER_NUMBER, 0);
-    memory::put(words, HEADER_SPARE, 1);
+    words[..=HEADER_SPARE].copy_from_slice(&[first, all, 0, 0, 1]);
 }
 
 // The header, empty slots, idle workers, a directory whose entries all name the first record, empty records.

@@ -35,17 +35,20 @@ pub fn show(
 }
 
 // The first rows of the two lists.
-fn put_rows(accounts: &[u32], totals: &[i64], count: usize, out: &mut [u8], used: usize) -> usize
+fn put_rows(
+    accounts: &[u32],
+    totals: &[i64],
+    count: usize,
+    out: &mut [u8],
+    mut used: usize,
+) -> usize
     requires { (count ≤ length accounts.now) × (count ≤ length totals.now) }
     ensures { output_of out.new result
         ≡ put_rows (output_of out.old used)
         (rows_at accounts.now totals.now 0 count) }
 {
-    let mut used = used;
-    let mut i: usize = 0;
-    while i < count {
+    for i in 0..count {
         used = put_row(out, used, accounts[i], totals[i]);
-        i += 1;
     }
     used
 }
@@ -75,8 +78,5 @@ pub fn put_reply(out: &mut [u8], used: usize, reply: Reply) -> usize
 pub fn roomy(len: usize, used: usize) -> bool
     ensures { result ≡ room_for longest len used }
 {
-    if len < used {
-        return false;
-    }
-    LONGEST <= len - used
+    used <= len && LONGEST <= len - used
 }

@@ -1,5 +1,6 @@
 -- A round in which one worker's bit alone differs: that worker's update is all that is carried out.
 -- Rests on the bucket's laws of a round.
+use Rattle.std.specs.Prelude.{Option, Some, None}
 use Prim.Native.Nat.{ℕ, zero, suc, ◌+◌, ◌-◌, ◌*◌, ◌≤◌, ◌<◌}
 use native.Mathlib.Nat.{add-zero, add-suc}
 use native.Mathlib.Omega.{arith}
@@ -18,8 +19,6 @@ use Rattle.bucket.specs.declared.BucketState.{BucketState}
 use Rattle.rules.specs.declared.Descriptor.{Descriptor}
 use Rattle.arrays.specs.declared.Position.{Position}
 use Rattle.arrays.specs.declared.Position.TheVariants.{At, Before}
-use Rattle.sums.specs.declared.Sum.{Sum}
-use Rattle.sums.specs.declared.Sum.TheVariants.{Within, Outside}
 use Rattle.rules.proofs.Laws.{pending_same}
 use Rattle.rounds.proofs.Laws.{help_left}
 
@@ -35,10 +34,10 @@ unfolding remove_of
 remove_applied x (At i) = refl
 remove_applied x (Before i) = refl
 
-posted_applied : (x : BucketState) (j : ℕ) (p : Position) (u : Descriptor) (v : Sum) → (posted_of x j p u v).applied ≡ x.applied
+posted_applied : (x : BucketState) (j : ℕ) (p : Position) (u : Descriptor) (v : Option ℕ) → (posted_of x j p u v).applied ≡ x.applied
 unfolding posted_of settle_of
-posted_applied x j p u (Within total) = put_applied x p u.account total
-posted_applied x j p u Outside = refl
+posted_applied x j p u (Some total) = put_applied x p u.account total
+posted_applied x j p u None = refl
 
 change_applied : (x : BucketState) (j : ℕ) (p : Position) (u : Descriptor) → (changed_of x j p u).applied ≡ x.applied
 unfolding changed_of post_of settle_of

@@ -24,14 +24,12 @@ pub fn own_round(words: &mut [u64], g: Settings, w: usize, q: usize, toggle: u64
     ensures { words.new ≡ round_at words.old g (worker_at g.workers w) q }
 {
     let c = least(memory::get(words, q + RECORD_COUNT), g.capacity as usize);
-    if holds_back(g, memory::get(words, q + RECORD_DEPTH), c as u64) {
-        put_first(words, q, c as u64, toggle);
-        return;
-    }
     let u = slot_read(words, g, w, w);
-    if u.ticket <= settled_ticket(words, g, q, w) {
+    if holds_back(g, memory::get(words, q + RECORD_DEPTH), c as u64)
+        || u.ticket <= settled_ticket(words, g, q, w)
+    {
         put_first(words, q, c as u64, toggle);
-        return;
+    } else {
+        carry_own(words, g, q, c, toggle, w, u);
     }
-    carry_own(words, g, q, c, toggle, w, u);
 }

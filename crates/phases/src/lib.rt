@@ -36,17 +36,12 @@ fn bucket_phase(r: usize, n: usize) -> Phase
     if r < 1 {
         return Phase::Flip;
     }
-    let i = reduce(r - 1, n + 3);
-    if i < 1 {
-        return Phase::ReadState;
+    match reduce(r - 1, n + 3) {
+        0 => Phase::ReadState,
+        1 => Phase::ReadToggle,
+        i if i < n + 2 => Phase::ReadSlot(i - 2),
+        _ => Phase::Swap,
     }
-    if i < 2 {
-        return Phase::ReadToggle;
-    }
-    if i < n + 2 {
-        return Phase::ReadSlot(i - 2);
-    }
-    Phase::Swap
 }
 
 // A step of the directory pass.
@@ -54,17 +49,12 @@ fn directory_phase(r: usize, n: usize) -> Phase
     requires { (n ≤ 8) × (r < 4 * n + 4) }
     ensures { planned result ≡ get_or (directory_pass n) r check_state }
 {
-    let i = reduce(r, 2 * n + 2);
-    if i < 1 {
-        return Phase::CopyDirectory;
+    match reduce(r, 2 * n + 2) {
+        0 => Phase::CopyDirectory,
+        i if i <= n => Phase::ReadSlot(i - 1),
+        i if i <= 2 * n => Phase::StateStep(i - (n + 1)),
+        _ => Phase::SwapDirectory,
     }
-    if i <= n {
-        return Phase::ReadSlot(i - 1);
-    }
-    if i <= 2 * n {
-        return Phase::StateStep(i - (n + 1));
-    }
-    Phase::SwapDirectory
 }
 
 // A step of a pass.
@@ -73,24 +63,20 @@ fn pass_phase(r: usize, n: usize) -> Phase
     ensures { planned result ≡ get_or (pass n) r check_state }
 {
     if r < 1 {
-        return Phase::ReadDirectory;
+        Phase::ReadDirectory
+    } else if r < 2 * n + 8 {
+        bucket_phase(r - 1, n)
+    } else if r < 2 * n + 9 {
+        Phase::ReadDirectory
+    } else if r < 2 * n + 10 {
+        Phase::Check
+    } else if r < 6 * n + 14 {
+        directory_phase(r - (2 * n + 10), n)
+    } else if r < 6 * n + 15 {
+        Phase::ReadDirectory
+    } else {
+        Phase::Check
     }
-    if r < 2 * n + 8 {
-        return bucket_phase(r - 1, n);
-    }
-    if r < 2 * n + 9 {
-        return Phase::ReadDirectory;
-    }
-    if r < 2 * n + 10 {
-        return Phase::Check;
-    }
-    if r < 6 * n + 14 {
-        return directory_phase(r - (2 * n + 10), n);
-    }
-    if r < 6 * n + 15 {
-        return Phase::ReadDirectory;
-    }
-    Phase::Check
 }
 
 // The step that comes after k own steps.
@@ -98,10 +84,10 @@ pub fn phase_of(k: usize, n: usize) -> Phase
     requires { (n ≤ 8) × (k < 65_536) }
     ensures { planned result ≡ phase n k }
 {
-    if k < 1 {
-        return Phase::Announce;
+    match k {
+        0 => Phase::Announce,
+        _ => pass_phase(reduce(k - 1, 6 * n + 16), n),
     }
-    pass_phase(reduce(k - 1, 6 * n + 16), n)
 }
 
 // Which check the step after k own steps is: as many as the plan has up to it.
@@ -110,16 +96,14 @@ pub fn check_number(k: u64, n: u64) -> u64
     ensures { result ≡ check_number n k }
 {
     if k < 2 * n + 10 {
-        return 0;
+        0
+    } else if k < 6 * n + 16 {
+        1
+    } else if k < 8 * n + 26 {
+        2
+    } else if k < 12 * n + 32 {
+        3
+    } else {
+        4
     }
-    if k < 6 * n + 16 {
-        return 1;
-    }
-    if k < 8 * n + 26 {
-        return 2;
-    }
-    if k < 12 * n + 32 {
-        return 3;
-    }
-    4
 }

@@ -71,19 +71,12 @@ pub fn copy(out: &mut [u8], at: usize, word: &[u8])
     requires { at + length word.now ≤ length out.old }
     ensures { out.new ≡ overlay out.old at word.now }
 {
-    let mut i = 0;
-    while i < word.len() {
-        out[at + i] = word[i];
-        i += 1;
-    }
+    out[at..at + word.len()].copy_from_slice(word);
 }
 
 // Whether `size` bytes have room from `at` on in a buffer of `len`.
 fn room(len: usize, at: usize, size: usize) -> bool
     ensures { result ≡ leb (at + size) len }
 {
-    if len < at {
-        return false;
-    }
-    size <= len - at
+    at <= len && size <= len - at
 }

@@ -13,8 +13,8 @@ use Rattle.rebate.specs.declared.Band.{Band}
 use Rattle.rebate.specs.Bands.{ascending, yearly}
 use Rattle.rebate.specs.Rebate.{whole_rate, inside, due_by}
 
-abbrev pub None : Band
-None = record { start = 0; rate = 0 }
+abbrev pub none : Band
+none = record { start = 0; rate = 0 }
 
 -- ---- the computed test, at each band
 
@@ -24,13 +24,6 @@ next_above x y l e = ltb-true x.start y.start ((and-eq-true_iff (ltb x.start y.s
 pub rest_ascends : (x : Band) (l : List Band) → ascending (x ∷ l) ≡ true → ascending l ≡ true
 rest_ascends x [] e = refl
 rest_ascends x (y ∷ l) e = ((and-eq-true_iff (ltb x.start y.start) (ascending (y ∷ l))).0 e).1
-
-pub starts_ascend :
-    (l : List Band) → ascending l ≡ true → (i : ℕ) → suc i < length l → (get_or l i None).start < (get_or l (suc i) None).start
-starts_ascend [] e i h = absurd (omega arith)
-starts_ascend (x ∷ []) e i h = absurd (omega arith)
-starts_ascend (x ∷ y ∷ l) e zero h = next_above x y l e
-starts_ascend (x ∷ y ∷ l) e (suc i) h = starts_ascend (y ∷ l) (rest_ascends x (y ∷ l) e) i (omega arith)
 
 -- ---- the part inside a band
 
@@ -42,7 +35,7 @@ inside_most (x ∷ y ∷ l) t = omega arith
 
 -- of the first of the bands from i on, where one follows
 pub inside_between :
-    (l : List Band) (i t : ℕ) → suc i < length l → inside (drop i l) t ≡ t - (get_or l i None).start - (t - (get_or l (suc i) None).start)
+    (l : List Band) (i t : ℕ) → suc i < length l → inside (drop i l) t ≡ t - (get_or l i none).start - (t - (get_or l (suc i) none).start)
 unfolding inside
 inside_between [] i t h = absurd (omega arith)
 inside_between (x ∷ []) i t h = absurd (omega arith)
@@ -50,7 +43,7 @@ inside_between (x ∷ y ∷ l) zero t h = refl
 inside_between (x ∷ y ∷ l) (suc i) t h = inside_between (y ∷ l) i t (omega arith)
 
 -- and where none follows
-pub inside_last : (l : List Band) (i t : ℕ) → suc i ≡ length l → inside (drop i l) t ≡ t - (get_or l i None).start
+pub inside_last : (l : List Band) (i t : ℕ) → suc i ≡ length l → inside (drop i l) t ≡ t - (get_or l i none).start
 unfolding inside
 inside_last [] i t e = absurd (omega arith)
 inside_last (x ∷ []) zero t e = refl
@@ -63,13 +56,13 @@ inside_last (x ∷ y ∷ l) (suc i) t e = inside_last (y ∷ l) i t (omega arith
 -- by the bands from i on: by band i, and by those behind it
 pub due_first :
     (l : List Band) (i t : ℕ) → i < length l
-    → due_by (drop i l) t ≡ inside (drop i l) t * (get_or l i None).rate + due_by (drop (suc i) l) t
+    → due_by (drop i l) t ≡ inside (drop i l) t * (get_or l i none).rate + due_by (drop (suc i) l) t
 unfolding due_by
 due_first [] i t h = absurd (omega arith)
 due_first (x ∷ l) zero t h = refl
 due_first (x ∷ l) (suc i) t h = due_first l i t (omega arith)
 
-pub rate_most : (i : ℕ) → (get_or yearly.bands i None).rate ≤ 350
+pub rate_most : (i : ℕ) → (get_or yearly.bands i none).rate ≤ 350
 rate_most zero = omega arith
 rate_most (suc zero) = omega arith
 rate_most (suc (suc zero)) = omega arith
@@ -86,7 +79,7 @@ apart part rate =
 
 -- one band more is summed
 pub due_added :
-    (l : List Band) (i t part rate cents parts due : ℕ) → i < length l → part ≡ inside (drop i l) t → rate ≡ (get_or l i None).rate
+    (l : List Band) (i t part rate cents parts due : ℕ) → i < length l → part ≡ inside (drop i l) t → rate ≡ (get_or l i none).rate
     → whole_rate * cents + parts + due_by (drop i l) t ≡ due
     → whole_rate * (cents + part / whole_rate * rate) + (parts + part % whole_rate * rate) + due_by (drop (suc i) l) t ≡ due
 due_added l i t part rate cents parts due h e r n =

@@ -38,7 +38,7 @@ const WHOLE_RATE: u64 = 10000;
 fn above(amount: u64, limit: u64) -> u64
     ensures { result ≡ amount - limit }
 {
-    if limit < amount { amount - limit } else { 0 }
+    amount.saturating_sub(limit)
 }
 
 // Band i of the table.
@@ -55,10 +55,9 @@ fn inside(amount: u64, i: usize) -> u64
     ensures { result ≡ inside (drop i yearly.bands) amount }
 {
     let part = above(amount, band_at(i).start);
-    if i + 1 < BAND_COUNT {
-        part - above(amount, band_at(i + 1).start)
-    } else {
-        part
+    match BANDS.get(i + 1) {
+        Some(next) => part - above(amount, next.start),
+        None => part,
     }
 }
 
@@ -69,13 +68,11 @@ fn on_amount(amount: u64) -> u64
 {
     let mut cents: u64 = 0;
     let mut parts: u64 = 0;
-    let mut i: usize = 0;
-    while i < BAND_COUNT {
+    for i in 0..BAND_COUNT {
         let part = inside(amount, i);
         let rate = band_at(i).rate;
         cents += part / WHOLE_RATE * rate;
         parts += part % WHOLE_RATE * rate;
-        i += 1;
     }
     cents + (parts + WHOLE_RATE / 2) / WHOLE_RATE
 }

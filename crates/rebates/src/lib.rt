@@ -19,11 +19,9 @@ fn write(listed: &[u32], totals: &[i64], k: usize, accounts: &mut [u32], rebates
         × (rebates.new
         ≡ rebates_with rebates.old 0 (rows_at listed.now totals.now 0 k)) }
 {
-    let mut i: usize = 0;
-    while i < k {
+    for i in 0..k {
         accounts[i] = listed[i];
         rebates[i] = rebate(totals[i]);
-        i += 1;
     }
 }
 

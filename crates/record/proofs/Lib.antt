@@ -1,4 +1,3 @@
 pub mod Runs
 pub mod States
 pub mod Tests
-pub mod WordAddresses

@@ -32,21 +32,17 @@ pub fn load_state(words: &[u64], q: usize, b: usize, n: usize) -> BucketState
     };
     let accounts = q + RECORD_ACCOUNTS;
     let totals = accounts + b;
-    let mut i: usize = 0;
-    while i < c {
+    for i in 0..c {
         s.accounts[i] = words[accounts + i];
         s.totals[i] = words[totals + i];
-        i += 1;
     }
     let settled = totals + b;
     let answers = settled + n;
     let posted = answers + n;
-    let mut j: usize = 0;
-    while j < n {
+    for j in 0..n {
         s.settled[j] = words[settled + j];
         s.answers[j] = words[answers + j];
         s.posted[j] = words[posted + j];
-        j += 1;
     }
     s
 }

@@ -6,7 +6,7 @@ use native.Mathlib.Omega.{arith}
 use mathlib.Core.Path.{◌≡◌, refl, ap, sym, ◌∙◌}
 use mathlib.Core.Bool.{Bool, true, false, not, ◌||◌}
 use mathlib.Core.List.{List, [], ◌∷◌}
-use Rattle.std.specs.Prelude.{Option, Some, None, Result, Ok, Err}
+use Rattle.std.specs.Prelude.{Option, Some, None, Result, Ok, Err, ⊤}
 use lib.Dec.{ltb, leb, eqb}
 use lib.ListN.{length, drop, replicate, length-map}
 use lib.IntN.{ℤ}
@@ -55,11 +55,12 @@ if_not k j x y = go (leb k j) refl
 words_never : {k : ℕ} (r : Refusal) → Ok k ≡ Err r → ⊥
 words_never r e = let z : ◌≡◌ {A = ℕ} 0 1 = cc in omega arith
 
-opened_never : (r : Refusal) → Ok tt ≡ Err r → ⊥
-opened_never r e = let z : ◌≡◌ {A = ℕ} 0 1 = cc in omega arith
+-- what an opening answers, and a call
+abbrev done : Result ⊤ Refusal
+done = Ok tt
 
-accepted_never : (r : Refusal) → Ok tt ≡ Err r → ⊥
-accepted_never r e = let z : ◌≡◌ {A = ℕ} 0 1 = cc in omega arith
+done_never : (r : Refusal) → done ≡ Err r → ⊥
+done_never r e = let z : ◌≡◌ {A = ℕ} 0 1 = cc in omega arith
 
 moved_never : {r : Refusal} → Ok Stepped.Moved ≡ Err r → ⊥
 moved_never e = let z : ◌≡◌ {A = ℕ} 0 1 = cc in omega arith
@@ -96,7 +97,7 @@ module _ (n b M : ℕ) where
 
   pub opening-checks : (l : List ℕ) → RefusedBy Err (opening_checks l n b M) l (open_words l n b M)
   unfolding opening_checks open_words opened_words
-  opening-checks l = rw (built_is (opened_words l), if_not) (check_then (check_then (passed opened_never) _) _)
+  opening-checks l = rw (built_is (opened_words l), if_not) (check_then (check_then (passed done_never) _) _)
 
 -- ---- a call
 
@@ -105,15 +106,15 @@ kind_checks :
     (l m n : List ℕ) (w kind : ℕ)
     → RefusedBy Err (check6 kind ∷ check7 l w kind ∷ []) l
     (when ltb kind kind_insert || ltb greatest_kind kind then (l, Err Refusal.Kind)
-    else when eqb kind kind_lookup then (m, Ok tt)
+    else when eqb kind kind_lookup then (m, done)
     else when leb greatest_ticket (own_word l w worker_ticket) then (l, Err Refusal.Spent)
-    else (n, Ok tt))
+    else (n, done))
 unfolding when◌then◌else◌
 kind_checks l m n w zero = stopped
-kind_checks l m n w (suc zero) = going_on (check_then (passed accepted_never) _)
-kind_checks l m n w (suc (suc zero)) = going_on (check_then (passed accepted_never) _)
-kind_checks l m n w (suc (suc (suc zero))) = going_on (going_on (passed accepted_never))
-kind_checks l m n w (suc (suc (suc (suc zero)))) = going_on (check_then (passed accepted_never) _)
+kind_checks l m n w (suc zero) = going_on (check_then (passed done_never) _)
+kind_checks l m n w (suc (suc zero)) = going_on (check_then (passed done_never) _)
+kind_checks l m n w (suc (suc (suc zero))) = going_on (going_on (passed done_never))
+kind_checks l m n w (suc (suc (suc (suc zero)))) = going_on (check_then (passed done_never) _)
 kind_checks l m n w (suc (suc (suc (suc (suc k))))) =
     let kind : ℕ = suc (suc (suc (suc (suc k)))) in
     rw (

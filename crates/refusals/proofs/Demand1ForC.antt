@@ -42,15 +42,10 @@ unfolding needed_number needed_for words_needed record_start directory_start
 needed_known (Ok s) k = absurd (let h = k.1 in omega arith)
 needed_known (Err r) k = (r, refl)
 
-opened_known : (a : Result ⊤ Refusal) → RefusalNumber (done_number a) → (r : Refusal) × (a ≡ Err r)
+done_known : (a : Result ⊤ Refusal) → RefusalNumber (done_number a) → (r : Refusal) × (a ≡ Err r)
 unfolding done_number
-opened_known (Ok _) k = absurd (k.0 refl)
-opened_known (Err r) k = (r, refl)
-
-called_known : (a : Result ⊤ Refusal) → RefusalNumber (done_number a) → (r : Refusal) × (a ≡ Err r)
-unfolding done_number
-called_known (Ok _) k = absurd (k.0 refl)
-called_known (Err r) k = (r, refl)
+done_known (Ok _) k = absurd (k.0 refl)
+done_known (Err r) k = (r, refl)
 
 stepped_known : (a : Result Stepped Refusal) → RefusalNumber (stepped_number a) → (r : Refusal) × (a ≡ Err r)
 unfolding stepped_number ended_number
@@ -84,13 +79,13 @@ strange_in_c l h =
 -- Demand 1 for the C functions.
 pub demand1_for_c : Demand1ForC
 unfolding
-    flat reported written left_of written_of lists_of needed_number done_number done_number stepped_number ran_number counted_number
+    flat reported written left_of written_of lists_of needed_number done_number stepped_number ran_number counted_number
     stepped_report ran_report counted_report
 demand1_for_c =
     record {
       needed = λ n b M. in_c needed_number (λ r. refl) (needed_known (built n b M)) (λ r e h. h) (demand1.needed n b M);
-      opening = λ l n b M. in_c done_number (λ r. refl) (opened_known _) (λ r e h. h) (demand1.opening l n b M);
-      call = λ l w kind a v. in_c done_number (λ r. refl) (called_known _) (λ r e h. h) (demand1.call l w kind a v);
+      opening = λ l n b M. in_c done_number (λ r. refl) (done_known _) (λ r e h. h) (demand1.opening l n b M);
+      call = λ l w kind a v. in_c done_number (λ r. refl) (done_known _) (λ r e h. h) (demand1.call l w kind a v);
       step = λ l report w. in_c stepped_number (λ r. refl) (stepped_known _) (λ r e h. rw (e, h)) (demand1.step l w);
       run = λ l report w most. in_c ran_number (λ r. refl) (ran_known _) (λ r e h. rw (e, h)) (demand1.run l w most);
       listing = λ l accounts totals report.

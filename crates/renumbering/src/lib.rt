@@ -15,14 +15,7 @@ pub fn any_has(words: &[u64], g: Settings, k: usize, x: u64) -> bool
     requires { Fits words.now g × (k < worker_slots) }
     ensures { result ≡ any_has words.now g.workers k x }
 {
-    let mut j = g.workers as usize;
-    while 0 < j {
-        j -= 1;
-        if worker_word(words, g, j, k) == x {
-            return true;
-        }
-    }
-    false
+    (0..g.workers as usize).any(|j| worker_word(words, g, j, k) == x)
 }
 
 // Whether a worker that holds record q has read its state under number x.

@@ -25,7 +25,6 @@ use Rattle.report.specs.Report.{answer_base}
 use Rattle.logs.specs.Log.{logged_at, word_at, logged_kind, logged_account, logged_total, logged_answer, logged_answer_total}
 use Rattle.logs.specs.Orders.{same_total, gives}
 use Rattle.sums.specs.Sums.{added, sum_of}
-use Rattle.sums.specs.declared.Sum.TheVariants.{Within, Outside}
 use Rattle.sums.proofs.Ranges.{fits_total}
 use Rattle.replay.specs.declared.Outcome.{Outcome}
 use Rattle.replay.specs.declared.Outcome.TheVariants.{Balance, Unchanged, Another}
@@ -71,17 +70,17 @@ afterwards r s = as_outcome (is_still (answer_base + answer_number r)) (Some s)
 -- ---- a sum, by what `sum_of` answers
 
 module _ (t v : ℕ) where
-  sum_within : (s : ℕ) → sum_of t v ≡ Within s → (is_total (to_z w64 t +ℤ to_z w64 v) ≡ true) × (s ≡ of_z w64 (to_z w64 t +ℤ to_z w64 v))
+  sum_within : (s : ℕ) → sum_of t v ≡ Some s → (is_total (to_z w64 t +ℤ to_z w64 v) ≡ true) × (s ≡ of_z w64 (to_z w64 t +ℤ to_z w64 v))
   unfolding sum_of added when◌then◌else◌
   sum_within s = go (is_total (to_z w64 t +ℤ to_z w64 v)) refl
     where
       go : (b : Bool) → is_total (to_z w64 t +ℤ to_z w64 v) ≡ b
-          → when b then Within (of_z w64 (to_z w64 t +ℤ to_z w64 v)) else Outside ≡ Within s
+          → when b then Some (of_z w64 (to_z w64 t +ℤ to_z w64 v)) else None ≡ Some s
           → (is_total (to_z w64 t +ℤ to_z w64 v) ≡ true) × (s ≡ of_z w64 (to_z w64 t +ℤ to_z w64 v))
       go true e f = (e, cc)
       go false e f = absurd (let z : ◌≡◌ {A = ℕ} 0 1 = cc in omega arith)
 
-  sum_outside : sum_of t v ≡ Outside → is_total (to_z w64 t +ℤ to_z w64 v) ≡ false
+  sum_outside : sum_of t v ≡ None → is_total (to_z w64 t +ℤ to_z w64 v) ≡ false
   unfolding sum_of added when◌then◌else◌
   sum_outside e = is_false _ (λ q. let z : ◌≡◌ {A = ℕ} 0 1 = cc (rw q at e) in omega arith)
 
@@ -216,13 +215,13 @@ module _ (l : List ℕ) (i : ℕ) where
         go false e = post_outside None e ∙ sym (post_outside (Some (pos 0)) e)
 
     pub post_sum :
-        (t s : ℕ) → sum_of t (word_at l i logged_total) ≡ Within s → Fits w64 (word_at l i logged_answer_total)
+        (t s : ℕ) → sum_of t (word_at l i logged_total) ≡ Some s → Fits w64 (word_at l i logged_answer_total)
         → outcome_at l i false (Some (to_z w64 t)) ≡ when (is_answer l i (Posted (pos 0)) && is_answer_total l i s) then Balance 1 s else Another
     unfolding total_or0
     post_sum t s e f = let h = sum_within t (word_at l i logged_total) s e in rw h.1 (post_within (Some (to_z w64 t)) f h.0)
 
     pub post_overrun :
-        (t : ℕ) → sum_of t (word_at l i logged_total) ≡ Outside
+        (t : ℕ) → sum_of t (word_at l i logged_total) ≡ None
         → outcome_at l i false (Some (to_z w64 t)) ≡ when is_answer l i Overrun then Unchanged else Another
     unfolding total_or0
     post_overrun t e = post_outside (Some (to_z w64 t)) (sum_outside t (word_at l i logged_total) e)

@@ -22,7 +22,7 @@ use logs::{
 };
 use memory::get_or;
 use rules::first_bits;
-use sums::{Sum, sum_of};
+use sums::sum_of;
 
 // Answers are logged as this and their number, past every refusal's.
 const ANSWER_BASE: u64 = 16;
@@ -65,14 +65,12 @@ fn first_place(log: &[u64], i: usize) -> usize
     ensures { (result ≡ first_place log.now i) × (result ≤ i) }
 {
     let account = word_at(log, i, LOGGED_ACCOUNT);
-    let mut j: usize = 0;
-    while j < i {
+    for j in 0..i {
         if word_at(log, j, LOGGED_ACCOUNT) == account {
             return j;
         }
-        j += 1;
     }
-    j
+    i
 }
 
 // ---- crowding
@@ -84,14 +82,12 @@ fn agreeing(log: &[u64], depth: u64, bits: u64, balances: [u64; BALANCES]) -> u6
 {
     let count = log.len() / OPERATION_WORDS;
     let mut found: u64 = 0;
-    let mut j: usize = 0;
-    while j < count {
-        if balances[j * BALANCE_WORDS] != 0 {
-            if first_bits(depth, word_at(log, j, LOGGED_ACCOUNT)) == bits {
-                found += 1;
-            }
+    for j in 0..count {
+        if balances[j * BALANCE_WORDS] != 0
+            && first_bits(depth, word_at(log, j, LOGGED_ACCOUNT)) == bits
+        {
+            found += 1;
         }
-        j += 1;
     }
     found
 }
@@ -182,12 +178,12 @@ fn summed(log: &[u64], i: usize, total: u64) -> Outcome
     let answer = word_at(log, i, LOGGED_ANSWER);
     let logged = word_at(log, i, LOGGED_ANSWER_TOTAL);
     match sum_of(total, word_at(log, i, LOGGED_TOTAL)) {
-        Sum::Within(sum) => balance_if(
+        Some(sum) => balance_if(
             (answer == ANSWER_BASE + ANSWER_POSTED) & (logged == sum),
             1,
             sum,
         ),
-        Sum::Outside => unchanged_if(answer == ANSWER_BASE + ANSWER_OVERRUN),
+        None => unchanged_if(answer == ANSWER_BASE + ANSWER_OVERRUN),
     }
 }
 
@@ -213,20 +209,13 @@ fn outcome_of(log: &[u64], i: usize, crowded: bool, there: u64, total: u64) -> O
     ensures { result ≡ as_outcome (still_at log.now i)
         (outcome_of (logged_at log.now i) crowded (balance_of there total)) }
 {
-    let kind = word_at(log, i, LOGGED_KIND);
-    if kind == KIND_INSERT {
-        return inserted(log, i, crowded, there);
+    match word_at(log, i, LOGGED_KIND) {
+        KIND_INSERT => inserted(log, i, crowded, there),
+        KIND_DELETE => deleted(log, i, there),
+        KIND_LOOKUP => looked_up(log, i, there, total),
+        KIND_POST => posted(log, i, crowded, there, total),
+        _ => Outcome::Another,
     }
-    if kind == KIND_DELETE {
-        return deleted(log, i, there);
-    }
-    if kind == KIND_LOOKUP {
-        return looked_up(log, i, there, total);
-    }
-    if kind == KIND_POST {
-        return posted(log, i, crowded, there, total);
-    }
-    Outcome::Another
 }
 
 // ---- the balances
@@ -246,11 +235,7 @@ pub fn replay(
     let at = first_place(log, i) * BALANCE_WORDS;
     let there = balances[at];
     let total = balances[at + 1];
-    let crowded = if there == 0 {
-        crowds(log, capacity, depth, balances, i)
-    } else {
-        false
-    };
+    let crowded = there == 0 && crowds(log, capacity, depth, balances, i);
     match outcome_of(log, i, crowded, there, total) {
         Outcome::Balance(held, sum) => {
             let mut next = balances;

@@ -9,25 +9,20 @@ use interface::{Answer, Completion};
 // Answers are this and their number, past every refusal's.
 pub const ANSWER_BASE: u64 = 16;
 
+// Words at the start of a report that has room for them.
+fn tell_words(report: &mut [u64], words: &[u64])
+    ensures { report.new ≡ told report.old words.now }
+{
+    if words.len() <= report.len() {
+        report[..words.len()].copy_from_slice(words);
+    }
+}
+
 // A word at the start of a report that has room for it.
 pub fn tell_one(report: &mut [u64], first: u64)
     ensures { report.new ≡ told report.old (first ∷ []) }
 {
-    if report.len() < 1 {
-        return;
-    }
-    report[0] = first;
-}
-
-// Two words at the start of a report that has room for both.
-fn tell_two(report: &mut [u64], first: u64, second: u64)
-    ensures { report.new ≡ told report.old (first ∷ second ∷ []) }
-{
-    if report.len() < 2 {
-        return;
-    }
-    report[0] = first;
-    report[1] = second;
+    tell_words(report, &[first]);
 }
 
 // Three words at the start of a report, the first two where it has two places only.
@@ -35,12 +30,10 @@ pub fn tell(report: &mut [u64], first: u64, second: u64, third: u64)
     ensures { report.new ≡ told_three report.old first second third }
 {
     if report.len() < 3 {
-        tell_two(report, first, second);
-        return;
+        tell_words(report, &[first, second]);
+    } else {
+        tell_words(report, &[first, second, third]);
     }
-    report[0] = first;
-    report[1] = second;
-    report[2] = third;
 }
 
 // The total of an answer, found's or posted's, as a word; 0 where it has none.
@@ -48,15 +41,10 @@ fn total_word(answer: Answer) -> u64
     ensures { result ≡ total_word answer }
 {
     match answer {
-        Answer::Added => 0,
-        Answer::Replaced => 0,
-        Answer::Removed => 0,
-        Answer::Absent => 0,
+        // Kept: two arms. One for both kinds gets no proof, by a bug that rattle reports of itself.
         Answer::Found(total) => memory::word_of(total),
-        Answer::None => 0,
         Answer::Posted(total) => memory::word_of(total),
-        Answer::Crowded => 0,
-        Answer::Overrun => 0,
+        _ => 0,
     }
 }
 

@@ -1,5 +1,6 @@
 -- Laws of rounds, which the functions' proofs cite: each case of an update carried out and of help, a turn and the end of the loop.
 -- Rests on the definitions of specs/Rounds.
+use Rattle.std.specs.Prelude.{Option, Some, None}
 use Prim.Native.Nat.{ℕ, zero, suc, ◌+◌, ◌-◌, ◌*◌, ◌/◌, ◌≤◌, ◌<◌}
 use mathlib.Core.Path.{◌≡◌, refl, sym, ◌∙◌, ap}
 use mathlib.Core.Logic.{◌≢◌}
@@ -25,8 +26,6 @@ use Rattle.bucket.specs.declared.BucketState.{BucketState}
 use Rattle.rules.specs.declared.Descriptor.{Descriptor}
 use Rattle.arrays.specs.declared.Position.{Position}
 use Rattle.arrays.specs.declared.Position.TheVariants.{At, Before}
-use Rattle.sums.specs.declared.Sum.{Sum}
-use Rattle.sums.specs.declared.Sum.TheVariants.{Within, Outside}
 use Rattle.sums.specs.Sums.{sum_of}
 use Rattle.rules.proofs.Laws.{pending_settled}
 
@@ -48,13 +47,13 @@ module _ (x : BucketState) (j : ℕ) (p : Position) (u : Descriptor) where
 
   -- a post, by what its sum is
   pub post_within :
-      (y : BucketState) (total : ℕ) → sum_of (total_in x p) u.total ≡ Within total → y ≡ put_of x p u.account total
+      (y : BucketState) (total : ℕ) → sum_of (total_in x p) u.total ≡ Some total → y ≡ put_of x p u.account total
       → settle_of y j u.ticket posted_number total ≡ post_of x j p u
   unfolding post_of posted_of
   post_within y total e g = rw (e, g)
 
   pub post_outside :
-      sum_of (total_in x p) u.total ≡ Outside → settle_of x j u.ticket (answer_number Overrun) 0 ≡ post_of x j p u
+      sum_of (total_in x p) u.total ≡ None → settle_of x j u.ticket (answer_number Overrun) 0 ≡ post_of x j p u
   unfolding post_of posted_of
   post_outside e = rw e
 
@@ -64,12 +63,12 @@ module _ (x : BucketState) (j : ℕ) (p : Position) (u : Descriptor) where
     change_post = rw kind
 
     pub change_posted :
-        (y : BucketState) (total : ℕ) → sum_of (total_in x p) u.total ≡ Within total → y ≡ put_of x p u.account total
+        (y : BucketState) (total : ℕ) → sum_of (total_in x p) u.total ≡ Some total → y ≡ put_of x p u.account total
         → settle_of y j u.ticket posted_number total ≡ changed_of x j p u
     change_posted y total e g = post_within y total e g ∙ change_post
 
     pub change_overrun :
-        sum_of (total_in x p) u.total ≡ Outside → settle_of x j u.ticket (answer_number Overrun) 0 ≡ changed_of x j p u
+        sum_of (total_in x p) u.total ≡ None → settle_of x j u.ticket (answer_number Overrun) 0 ≡ changed_of x j p u
     change_overrun e = post_outside e ∙ change_post
 
   -- crowded, or not
@@ -110,9 +109,9 @@ unfolding helped_of descriptor_in
 helped_past x slots s d toggle m zero h = rw add-zero
 helped_past x slots s d toggle m (suc k) h =
     let y : BucketState = helped_of x slots s d toggle (m + k) in
-    let None = get_or-eq_default slots 0 {n = slot_size * (m + k) + slot_ticket} (omega arith) in
+    let none = get_or-eq_default slots 0 {n = slot_size * (m + k) + slot_ticket} (omega arith) in
     rw (add-suc)
-    (help_left y s d toggle (m + k) _ (pending_settled toggle y.applied (m + k) (get_or y.settled (m + k) 0) _ (omega (arith, None)))
+    (help_left y s d toggle (m + k) _ (pending_settled toggle y.applied (m + k) (get_or y.settled (m + k) 0) _ (omega (arith, none)))
     ∙ helped_past x slots s d toggle m k h)
 
 -- a worker's settled ticket changes by its own update only
@@ -128,10 +127,10 @@ remove_settled x (At i) = refl
 remove_settled x (Before i) = refl
 
 posted_settled :
-    (x : BucketState) (j : ℕ) (p : Position) (u : Descriptor) (v : Sum) → (posted_of x j p u v).settled ≡ set x.settled j u.ticket
+    (x : BucketState) (j : ℕ) (p : Position) (u : Descriptor) (v : Option ℕ) → (posted_of x j p u v).settled ≡ set x.settled j u.ticket
 unfolding posted_of settle_of
-posted_settled x j p u (Within total) = ap (λ (l : List ℕ). set l j u.ticket) (put_settled x p u.account total)
-posted_settled x j p u Outside = refl
+posted_settled x j p u (Some total) = ap (λ (l : List ℕ). set l j u.ticket) (put_settled x p u.account total)
+posted_settled x j p u None = refl
 
 change_settled :
     (x : BucketState) (j : ℕ) (p : Position) (u : Descriptor) → (changed_of x j p u).settled ≡ set x.settled j u.ticket

@@ -1,5 +1,6 @@
 -- Updates carried out and rounds keep the items of a state's arrays, and never have more accounts than a bucket has room for; a round
 -- where no bit differs changes nothing. Rests on the laws of a state and of rounds.
+use Rattle.std.specs.Prelude.{Option, Some, None}
 use Prim.Native.Nat.{ℕ, zero, suc, ◌≤◌}
 use native.Mathlib.Omega.{arith}
 use mathlib.Core.Bool.{true, false}
@@ -17,8 +18,6 @@ use Rattle.bucket.specs.declared.BucketState.{BucketState}
 use Rattle.rules.specs.declared.Descriptor.{Descriptor}
 use Rattle.arrays.specs.declared.Position.{Position}
 use Rattle.arrays.specs.declared.Position.TheVariants.{At, Before}
-use Rattle.sums.specs.declared.Sum.{Sum}
-use Rattle.sums.specs.declared.Sum.TheVariants.{Within, Outside}
 use Rattle.rounds.proofs.Laws.{help_left}
 use Rattle.bucket.proofs.Sizes.{Sized, put_sized, remove_sized, settle_sized, put_count, remove_count}
 use Rattle.rules.specs.Rules.{creates_by, crowded_by, bit}
@@ -26,10 +25,10 @@ use Rattle.rules.proofs.Laws.{creates_insert, creates_post, room_left, pending_s
 
 -- ---- a state's arrays keep their items
 
-posted_sized : (x : BucketState) (j : ℕ) (p : Position) (u : Descriptor) (v : Sum) → Sized x → Sized (posted_of x j p u v)
+posted_sized : (x : BucketState) (j : ℕ) (p : Position) (u : Descriptor) (v : Option ℕ) → Sized x → Sized (posted_of x j p u v)
 unfolding posted_of
-posted_sized x j p u (Within total) z = settle_sized _ j u.ticket _ total (put_sized x p u.account total z)
-posted_sized x j p u Outside z = settle_sized x j u.ticket _ 0 z
+posted_sized x j p u (Some total) z = settle_sized _ j u.ticket _ total (put_sized x p u.account total z)
+posted_sized x j p u None z = settle_sized x j u.ticket _ 0 z
 
 change_sized : (x : BucketState) (j : ℕ) (p : Position) (u : Descriptor) → Sized x → Sized (changed_of x j p u)
 unfolding changed_of post_of
@@ -69,10 +68,10 @@ module _ (x : BucketState) (s : Settings) (h : x.count ≤ s.capacity) where
         let f = room_left s x.count u.kind p (new i e) uncrowded in
         omega arith
 
-    posted_count : (v : Sum) → (posted_of x j p u v).count ≤ s.capacity
+    posted_count : (v : Option ℕ) → (posted_of x j p u v).count ≤ s.capacity
     unfolding posted_of settle_of
-    posted_count (Within total) = placed_count p refl total
-    posted_count Outside = h
+    posted_count (Some total) = placed_count p refl total
+    posted_count None = h
 
   change_count :
       (j : ℕ) (p : Position) (u : Descriptor) → crowded_by s x.count u.kind p ≡ false → (changed_of x j p u).count ≤ s.capacity

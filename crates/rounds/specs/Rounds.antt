@@ -1,6 +1,6 @@
 -- What an update and a round make of a bucket's state, for any field values. Rests on the definitions on a state and on
 -- the rules.
-use Rattle.std.specs.Prelude.{ℕ, zero, suc, ◌*◌, not, List, eqb, get_or}
+use Rattle.std.specs.Prelude.{ℕ, zero, suc, ◌*◌, not, List, eqb, get_or, Option, Some, None}
 use Rattle.interface.specs.Numbers.{kind_insert, kind_post, answer_number}
 use Rattle.interface.specs.declared.Settings.{Settings}
 use Rattle.interface.specs.declared.Answer.TheVariants.{Crowded, Overrun}
@@ -11,16 +11,14 @@ use Rattle.rules.specs.declared.Descriptor.{Descriptor}
 use Rattle.arrays.specs.declared.Position.{Position}
 use Rattle.rules.specs.Rules.{holds_back_by, descriptor_in, crowded_by, insert_answer, delete_answer, posted_number, pending_by}
 use Rattle.bucket.specs.State.{search_of, total_in, put_of, remove_of, settle_of}
-use Rattle.sums.specs.declared.Sum.{Sum}
-use Rattle.sums.specs.declared.Sum.TheVariants.{Within, Outside}
 use Rattle.sums.specs.Sums.{sum_of}
 
 -- ---- one update
 
 -- worker j's post at position p settled, by what its sum is: posted with the new total, or overrun with nothing changed
-unfoldable pub posted_of : BucketState → ℕ → Position → Descriptor → Sum → BucketState
-posted_of x j p u (Within total) = settle_of (put_of x p u.account total) j u.ticket posted_number total
-posted_of x j p u Outside = settle_of x j u.ticket (answer_number Overrun) 0
+unfoldable pub posted_of : BucketState → ℕ → Position → Descriptor → Option ℕ → BucketState
+posted_of x j p u (Some total) = settle_of (put_of x p u.account total) j u.ticket posted_number total
+posted_of x j p u None = settle_of x j u.ticket (answer_number Overrun) 0
 
 -- "the amount is added to the account's total, an account not there starts from 0 and is made"
 unfoldable pub post_of : BucketState → ℕ → Position → Descriptor → BucketState

@@ -14,7 +14,7 @@ use interface::{
     ANSWER_REPLACED, KIND_INSERT, KIND_POST, Settings,
 };
 use rules::{Descriptor, answer_number, crowded, descriptor_at, holds_back, pending};
-use sums::{Sum, sum_of};
+use sums::sum_of;
 
 // What stands at position j of an array, and 0 past the end.
 fn at(a: &[u64; ARRAY_SIZE], j: usize) -> u64
@@ -29,12 +29,12 @@ fn post(state: BucketState, j: usize, p: Position, u: Descriptor) -> BucketState
     ensures { result ≡ post_of state j p u }
 {
     match sum_of(state.total(p), u.total) {
-        Sum::Within(total) => {
+        Some(total) => {
             state
                 .put(p, u.account, total)
                 .settle(j, u.ticket, ANSWER_POSTED, total)
         }
-        Sum::Outside => state.settle(j, u.ticket, ANSWER_OVERRUN, 0),
+        None => state.settle(j, u.ticket, ANSWER_OVERRUN, 0),
     }
 }
 

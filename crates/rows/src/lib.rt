@@ -22,10 +22,8 @@ fn count(words: &[u64], g: Settings) -> usize
 {
     let span: usize = 1 << g.depth;
     let mut k: usize = 0;
-    let mut e: usize = 0;
-    while e < span {
+    for e in 0..span {
         k += count_in(words, g, e);
-        e += 1;
     }
     k
 }
@@ -39,10 +37,8 @@ fn write(words: &[u64], g: Settings, accounts: &mut [u32], totals: &mut [i64])
 {
     let span: usize = 1 << g.depth;
     let mut k: usize = 0;
-    let mut e: usize = 0;
-    while e < span {
+    for e in 0..span {
         k = write_in(words, g, e, k, accounts, totals);
-        e += 1;
     }
 }
 

@@ -27,8 +27,7 @@ pub struct Descriptor {
 pub fn first_bits(d: u64, account: u64) -> u64
     ensures { result ≡ first_bits d account }
 {
-    let rest: u64 = if d < 32 { 32 - d } else { 0 };
-    places::place_in(account) >> rest
+    places::place_in(account) >> 32u64.saturating_sub(d)
 }
 
 // ---- full buckets: by the settings, the bucket's depth and how many accounts it has
@@ -44,10 +43,7 @@ pub fn full(s: Settings, count: u64) -> bool
 pub fn splittable(s: Settings, depth: u64, count: u64) -> bool
     ensures { result ≡ splittable_by s depth count }
 {
-    if full(s, count) {
-        return depth < s.depth;
-    }
-    false
+    full(s, count) && depth < s.depth
 }
 
 // Whether the bucket takes no update.
@@ -86,10 +82,7 @@ fn creates(kind: u64, p: Position) -> bool
 pub fn crowded(s: Settings, count: u64, kind: u64, p: Position) -> bool
     ensures { result ≡ crowded_by s count kind p }
 {
-    if full(s, count) {
-        return creates(kind, p);
-    }
-    false
+    full(s, count) && creates(kind, p)
 }
 
 // One number where the account stands there, the other where it is missing.
@@ -116,11 +109,5 @@ pub fn flip_bit(x: u64, w: usize) -> u64
 pub fn pending(toggle: u64, applied: u64, j: usize, settled: u64, ticket: u64) -> bool
     ensures { result ≡ pending_by toggle applied j settled ticket }
 {
-    if 64 <= j {
-        return false;
-    }
-    if (toggle >> j) % 2 == (applied >> j) % 2 {
-        return false;
-    }
-    settled < ticket
+    j < 64 && (toggle >> j) % 2 != (applied >> j) % 2 && settled < ticket
 }

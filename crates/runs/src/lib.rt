@@ -25,8 +25,7 @@ fn run_in(words: &mut [u64], x: u64, w: usize, most: u64) -> Ran
 {
     let g = settings_of(x);
     let p = worker_at(g, w);
-    let mut done: u64 = 0;
-    while done < most {
+    for done in 0..most {
         let kind = memory::get(words, p + WORKER_KIND);
         if kind == KIND_NONE {
             return Ran::Moved(done);
@@ -46,9 +45,8 @@ fn run_in(words: &mut [u64], x: u64, w: usize, most: u64) -> Ran
                 Stepped::Answered(c) => return Ran::Answered(c),
             }
         }
-        done += 1;
     }
-    Ran::Moved(done)
+    Ran::Moved(most)
 }
 
 // Up to so many steps of a worker, ending early at an answer: checks 8, 3, 5.

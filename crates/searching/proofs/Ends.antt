@@ -1,6 +1,6 @@
 -- The least end of what is left: one place more, and what it decides: nothing that is left ended before a call exactly
 -- where the least end did not. Rests on the definitions.
-use Prim.Native.Nat.{ℕ, zero, suc, ◌+◌, ◌≤◌}
+use Prim.Native.Nat.{ℕ, zero, suc, ◌+◌, ◌≤◌, min}
 use native.Mathlib.Omega.{arith}
 use native.Mathlib.Numerals.{add-one}
 use mathlib.Core.Path.{◌≡◌, refl, ap, ◌∙◌}
@@ -10,6 +10,7 @@ use mathlib.Core.List.{List}
 use lib.Dec.{leb, ltb}
 use lib.ListN.{get_or}
 use borrow.Author.Tests.{eq-eqb, ne_eqb, le-leb, lt-leb, ltb-true, ltb-false, leb-true, leb-false}
+use Rattle.std.proofs.lemmas.Bool.Decides.{nat_tests}
 use Rattle.machine.specs.Choice.{when◌then◌else◌, ◌and◌}
 use Rattle.memory.specs.Words.{least}
 use Rattle.logs.specs.Log.{log_of, logged_at, word_at, logged_call, logged_end, all, precedes, greatest_operations, greatest_word}
@@ -19,6 +20,10 @@ use Rattle.replay.specs.Replay.{replayed}
 use Rattle.searching.specs.Searching.{is_left, least_end}
 
 -- ---- one place more
+
+pub least_min : (a b : ℕ) → min a b ≡ least a b
+unfolding least when◌then◌else◌
+least_min a b = grind (arith, nat_tests)
 
 module _ (l left : List ℕ) (i limit : ℕ) (known : limit ≡ least_end l left i) where
   pub ends_left : (e : ℕ) → e ≡ word_at l i logged_end → get_or left i 0 ≡ 1 → least limit e ≡ least_end l left (i + 1)

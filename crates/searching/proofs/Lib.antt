@@ -3,3 +3,4 @@ mod Tries
 mod Written
 mod Ends
 mod Candidates
+mod StillLaws

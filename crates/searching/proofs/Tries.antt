@@ -1,7 +1,8 @@
 -- Laws of the search at one node, as the source's loop goes through the places: what each turn comes to, by what it was
 -- told of the operation tried and of what is left without it. Rests on the definitions of the search with cuts.
-use Prim.Native.Nat.{ℕ, zero, suc, ◌-◌, ◌≤◌, ◌<◌}
+use Prim.Native.Nat.{ℕ, zero, suc, ◌+◌, ◌-◌, ◌≤◌, ◌<◌}
 use native.Mathlib.Omega.{arith}
+use native.Mathlib.Numerals.{add-one}
 use mathlib.Core.Path.{◌≡◌, refl, ap, ◌∙◌, fun_ext}
 use mathlib.Core.Bool.{Bool, true, false}
 use mathlib.Core.List.{List, [], ◌∷◌}
@@ -47,21 +48,18 @@ module _ (l : List ℕ) (b M : ℕ) (before : List ℕ) (last : ℕ) (left x : L
   unfolding cut_search
   tries_start m h = let e : m ≡ suc (m - 1) = omega arith in ap (λ (n : ℕ). search_in l b M n before last (is_left left) x) e
 
-  pub tries_end : (m k : ℕ) → k ≤ 0 → tries_in l b M m before last left x k (12 - k) ≡ None
+  pub tries_end : (m i : ℕ) → 12 ≤ i → tries_in l b M m before last left x (12 - i) i ≡ None
   unfolding cut_tries
-  tries_end m k h = let e : k ≡ 0 = omega arith in rw e
+  tries_end m i h = let e : 12 - i ≡ 0 = omega arith in rw e
 
-  -- k places are not tried yet
-  module _ (m k : ℕ) (more : 0 < k) (most : k ≤ 12) where
-    -- the place to try next; it and those after it; those after it
-    abbrev i : ℕ
-    i = 12 - k
-
+  -- place i comes next
+  module _ (m i : ℕ) (more : i < 12) where
+    -- it and those after it; those after it
     abbrev here : Option (List ℕ)
-    here = tries_in l b M m before last left x k i
+    here = tries_in l b M m before last left x (12 - i) i
 
     abbrev later : Option (List ℕ)
-    later = tries_in l b M m before last left x (k - 1) (12 - (k - 1))
+    later = tries_in l b M m before last left x (12 - (i + 1)) (i + 1)
 
     turn :
         here
@@ -69,9 +67,8 @@ module _ (l : List ℕ) (b M : ℕ) (before : List ℕ) (last : ℕ) (left x : L
         (is_left left) x i (candidate_in l b M before last (is_left left) x i) later
     unfolding cut_tries
     turn =
-        let e : k ≡ suc (k - 1) = omega arith in
-        let next : 12 - (k - 1) ≡ suc i = omega arith in
-        rw next (ap (λ (n : ℕ). tries_in l b M m before last left x n i) e)
+        let e : 12 - i ≡ suc (12 - (i + 1)) = omega arith in
+        ap (λ (n : ℕ). tries_in l b M m before last left x n i) e ∙ rw add-one
 
     pub tries_closed : candidate_in l b M before last (is_left left) x i ≡ None → here ≡ later
     unfolding cut_begun

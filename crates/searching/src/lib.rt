@@ -12,7 +12,6 @@ ghost use Rattle.searching.specs.Searching.{search_in, written_in, is_found};
 
 use interface::{ANSWER_ABSENT, ANSWER_CROWDED, ANSWER_FOUND, ANSWER_NONE, ANSWER_OVERRUN};
 use logs::{GREATEST_OPERATIONS, LOGGED_ANSWER, LOGGED_CALL, LOGGED_END};
-use memory::least;
 use replay::{BALANCES, Replayed, replay, word_at};
 use report::ANSWER_BASE;
 
@@ -24,50 +23,31 @@ fn least_end(log: &[u64], left: [u64; GREATEST_OPERATIONS]) -> u64
     ensures { result ≡ least_end log.now left greatest_operations }
 {
     let mut limit = GREATEST_WORD;
-    let mut j: usize = 0;
-    while j < GREATEST_OPERATIONS {
-        if left[j] == 1 {
-            let end = word_at(log, j, LOGGED_END);
-            limit = least(limit, end as usize) as u64;
+    for (j, &here) in left.iter().enumerate() {
+        if here == 1 {
+            limit = limit.min(word_at(log, j, LOGGED_END));
         }
-        j += 1;
     }
     limit
 }
 
 // Whether the answer logged at i leaves every table as it is.
+#[tactic(auto, using(crate::proofs::StillLaws::still_tells))]
 fn still(log: &[u64], i: usize) -> bool
     requires { i < greatest_operations }
     ensures { result ≡ still_at log.now i }
 {
-    let answer = word_at(log, i, LOGGED_ANSWER);
-    if answer == ANSWER_BASE + ANSWER_FOUND {
-        return true;
-    }
-    if answer == ANSWER_BASE + ANSWER_NONE {
-        return true;
-    }
-    if answer == ANSWER_BASE + ANSWER_ABSENT {
-        return true;
-    }
-    if answer == ANSWER_BASE + ANSWER_CROWDED {
-        return true;
-    }
-    answer == ANSWER_BASE + ANSWER_OVERRUN
+    matches!(
+        word_at(log, i, LOGGED_ANSWER).checked_sub(ANSWER_BASE),
+        Some(ANSWER_FOUND | ANSWER_NONE | ANSWER_ABSENT | ANSWER_CROWDED | ANSWER_OVERRUN)
+    )
 }
 
 // Whether the words are the same.
 fn same(x: [u64; BALANCES], y: [u64; BALANCES]) -> bool
     ensures { result ≡ same_numbers x y }
 {
-    let mut k: usize = 0;
-    while k < BALANCES {
-        if x[k] != y[k] {
-            return false;
-        }
-        k += 1;
-    }
-    true
+    x == y
 }
 
 // Whether the operation at i, which came after the last one and left the balances `after`, could have come before it.
@@ -93,11 +73,7 @@ fn exchanged(
     }
     let between = sooner.balances;
     let later = replay(log, capacity, depth, between, last);
-    if !later.fits {
-        return false;
-    }
-    let other = later.balances;
-    same(after, other)
+    later.fits && same(after, later.balances)
 }
 
 // That no operation fits.
@@ -128,11 +104,8 @@ fn attempt(
     if !next.fits {
         return next;
     }
-    if i < last {
-        let after = next.balances;
-        if exchanged(log, capacity, depth, before, last, after, i) {
-            return unfit(balances);
-        }
+    if i < last && exchanged(log, capacity, depth, before, last, next.balances, i) {
+        return unfit(balances);
     }
     next
 }
@@ -145,11 +118,7 @@ fn is_open(log: &[u64], left: u64, limit: u64, i: usize) -> bool
     ensures tested { result ≡ eqb left 1 and leb (word_at log.now i logged_call) limit }
     ensures word { word_at log.now i logged_call ≤ greatest_word }
 {
-    let call = word_at(log, i, LOGGED_CALL);
-    if left != 1 {
-        return false;
-    }
-    call <= limit
+    left == 1 && word_at(log, i, LOGGED_CALL) <= limit
 }
 
 // An order of the operations left, as many as `remaining`, written at the start of `order` where there is one. The
@@ -177,9 +146,7 @@ pub fn search(
         return true;
     }
     let limit = least_end(log, left);
-    let mut untried = GREATEST_OPERATIONS;
-    while 0 < untried {
-        let i = GREATEST_OPERATIONS - untried;
+    for i in 0..GREATEST_OPERATIONS {
         if is_open(log, left[i], limit, i) {
             let next = attempt(log, capacity, depth, before, last, balances, i);
             if next.fits {
@@ -197,7 +164,6 @@ pub fn search(
                 }
             }
         }
-        untried -= 1;
     }
     false
 }

@@ -102,14 +102,12 @@ module _ (l : List ℕ) (s : Settings) (a q : ℕ) (t : Bool) (e : q ≡ record_
   while_done (suc k) h = sym (if_false _ l (tested ∙ h))
 
   pub while_turn :
-      (m : List ℕ) (k : ℕ) → 0 < k → t ≡ true → m ≡ split_at l s q → split_while_at m s a (k - 1) ≡ split_while_at l s a k
+      (m : List ℕ) (i n : ℕ) → i < n → t ≡ true → m ≡ split_at l s q → split_while_at m s a (n - (i + 1)) ≡ split_while_at l s a (n - i)
   unfolding split_while_at
-  while_turn m zero h b d = absurd (omega arith)
-  while_turn m (suc k) h b d =
-      let less : suc k - 1 ≡ k = omega arith in
-      rw (less, d, e) (sym (if_true _ l (tested ∙ b)))
+  while_turn m i n h b d =
+      let next : n - i ≡ suc (n - (i + 1)) = omega arith in
+      rw (next, d, e) (sym (if_true _ l (tested ∙ b)))
 
-pub while_end : (l : List ℕ) (s : Settings) (a k : ℕ) → k ≤ 0 → l ≡ split_while_at l s a k
+pub while_end : (l : List ℕ) (s : Settings) (a i n : ℕ) → n ≤ i → l ≡ split_while_at l s a (n - i)
 unfolding split_while_at
-while_end l s a zero h = refl
-while_end l s a (suc k) h = absurd (omega arith)
+while_end l s a i n h = let none : n - i ≡ 0 = omega arith in rw none

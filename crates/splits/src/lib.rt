@@ -79,14 +79,12 @@ pub fn split_while(words: &mut [u64], g: Settings, account: u64)
     requires { Whole words.old g }
     ensures { words.new ≡ split_while_at words.old g account g.depth }
 {
-    let mut f = g.depth;
-    while 0 < f {
+    for _ in 0..g.depth {
         let q = record_of(words, g, account);
         let depth = memory::get(words, q + RECORD_DEPTH);
         if !splittable(g, depth, memory::get(words, q + RECORD_COUNT)) {
             return;
         }
         split(words, g, q);
-        f -= 1;
     }
 }

@@ -21,20 +21,16 @@ pub fn store_state(words: &mut [u64], q: usize, b: usize, n: usize, s: BucketSta
     words[q + RECORD_APPLIED] = s.applied;
     let accounts = q + RECORD_ACCOUNTS;
     let totals = accounts + b;
-    let mut i: usize = 0;
-    while i < c {
+    for i in 0..c {
         words[accounts + i] = s.accounts[i];
         words[totals + i] = s.totals[i];
-        i += 1;
     }
     let settled = totals + b;
     let answers = settled + n;
     let posted = answers + n;
-    let mut j: usize = 0;
-    while j < n {
+    for j in 0..n {
         words[settled + j] = s.settled[j];
         words[answers + j] = s.answers[j];
         words[posted + j] = s.posted[j];
-        j += 1;
     }
 }

@@ -6,31 +6,10 @@ ghost use Rattle.sums.specs.Sums.{sum_of};
 
 use memory::{total_of, word_of};
 
-// The word of a sum within the 64-bit signed range, or that it lies outside.
-#[derive(Clone, Copy)]
-pub enum Sum {
-    Within(u64),
-    Outside,
-}
-
-const LEAST_TOTAL: i64 = -9223372036854775808;
-
-const GREATEST_TOTAL: i64 = 9223372036854775807;
-
-// The sum of what two words keep.
-pub fn sum_of(total: u64, amount: u64) -> Sum
+// The word of the sum of what two words keep, where it lies within the 64-bit signed range.
+pub fn sum_of(total: u64, amount: u64) -> Option<u64>
     ensures { result ≡ sum_of total amount }
 {
-    let x = total_of(total);
-    let v = total_of(amount);
-    if v < 0 {
-        if x < LEAST_TOTAL - v {
-            return Sum::Outside;
-        }
-        return Sum::Within(word_of(x + v));
-    }
-    if GREATEST_TOTAL - v < x {
-        return Sum::Outside;
-    }
-    Sum::Within(word_of(x + v))
+    let sum = total_of(total).checked_add(total_of(amount))?;
+    Some(word_of(sum))
 }

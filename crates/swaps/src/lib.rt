@@ -35,16 +35,16 @@ fn round(words: &mut [u64], g: Settings, w: usize, q: usize)
     }
     if toggle == flip_bit(applied, w) {
         own_round(words, g, w, q, toggle);
-        return;
+    } else {
+        let n = g.workers as usize;
+        let b = g.capacity as usize;
+        let s = record::load_state(words, q, b, n);
+        let depth = memory::get(words, q + RECORD_DEPTH);
+        let from = worker_at(g, w) + WORKER_SLOTS;
+        let to = from + SLOT_SIZE * n;
+        let t = rounds::round(s, &words[from..to], g, depth, toggle);
+        storing::store_state(words, q, b, n, t);
     }
-    let n = g.workers as usize;
-    let b = g.capacity as usize;
-    let s = record::load_state(words, q, b, n);
-    let depth = memory::get(words, q + RECORD_DEPTH);
-    let from = worker_at(g, w) + WORKER_SLOTS;
-    let to = from + SLOT_SIZE * n;
-    let t = rounds::round(s, &words[from..to], g, depth, toggle);
-    storing::store_state(words, q, b, n, t);
 }
 
 pub fn swap(words: &mut [u64], g: Settings, w: usize)

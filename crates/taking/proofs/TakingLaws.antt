@@ -5,7 +5,7 @@ use native.Mathlib.Nat.{two-pow-succ}
 use native.Mathlib.Numerals.{add-one}
 use native.Mathlib.Omega.{arith}
 use mathlib.Core.Path.{◌≡◌, refl, sym, ◌∙◌}
-use mathlib.Core.Bool.{Bool, true, false}
+use mathlib.Core.Bool.{Bool, true, false, not}
 use mathlib.Core.List.{List}
 use lib.Dec.{ltb, eqb}
 use borrow.Author.Tests.{eq-eqb, ne_eqb}
@@ -49,26 +49,31 @@ module _ (l m : List ℕ) (s : Settings) (p i a b q : ℕ) (t : Bool) (e : a ≡
 
 -- ---- the updates that are due
 
-module _ (l : List ℕ) (s : Settings) (p q i x : ℕ) (e : x ≡ word l (read_at p i + slot_kind)) where
-  pub due_empty : x ≡ kind_none → false ≡ due_at l s p q i
+-- there is an update, and it belongs to the bucket
+abbrev pub belongs : List ℕ → ℕ → ℕ → ℕ → Bool
+belongs l p q i =
+    not (eqb (word l (read_at p i + slot_kind)) kind_none)
+    and eqb (first_bits (word l (q + record_depth)) (word l (read_at p i + slot_account))) (word l (q + record_prefix))
+
+module _ (l : List ℕ) (p q i x : ℕ) (e : x ≡ word l (read_at p i + slot_kind)) where
+  pub belongs_none : x ≡ kind_none → not (eqb x kind_none) ≡ belongs l p q i
+  unfolding ◌and◌
+  belongs_none h = rw (e, eq-eqb (word l (read_at p i + slot_kind)) kind_none (sym e ∙ h))
+
+  pub belongs_here :
+      (x ≡ kind_none → ⊥) → (a d y o : ℕ) → d ≡ word l (q + record_depth) → a ≡ word l (read_at p i + slot_account) → y ≡ first_bits d a
+      → o ≡ word l (q + record_prefix) → eqb y o ≡ belongs l p q i
+  unfolding ◌and◌
+  belongs_here n a d y o f g h k = rw (ne_eqb (word l (read_at p i + slot_kind)) kind_none (λ z. n (e ∙ z)), h, k, f, g)
+
+module _ (l : List ℕ) (s : Settings) (p q i : ℕ) (v : Bool) (e : v ≡ belongs l p q i) where
+  pub due_apart : v ≡ false → v ≡ due_at l s p q i
   unfolding due_at ◌and◌
-  due_empty h = rw (eq-eqb (word l (read_at p i + slot_kind)) kind_none (sym e ∙ h))
+  due_apart h = rw (← e, h)
 
-  module _ (n : x ≡ kind_none → ⊥) (a d y o : ℕ) (f : a ≡ word l (read_at p i + slot_account)) (g : d ≡ word l (q + record_depth))
-      (h : y ≡ first_bits d a) (k : o ≡ word l (q + record_prefix)) where
-    announced : eqb (word l (read_at p i + slot_kind)) kind_none ≡ false
-    announced = ne_eqb _ kind_none (λ z. n (e ∙ z))
-
-    here : y ≡ first_bits (word l (q + record_depth)) (word l (read_at p i + slot_account))
-    here = rw (h, f, g)
-
-    pub due_apart : (y ≡ o → ⊥) → false ≡ due_at l s p q i
-    unfolding due_at ◌and◌
-    due_apart b = rw (announced, ne_eqb (first_bits _ _) (word l (q + record_prefix)) (λ z. b (here ∙ z ∙ sym k)))
-
-    pub due_here : (t u : ℕ) → y ≡ o → t ≡ settled_ticket l s q i → u ≡ word l (read_at p i + slot_ticket) → ltb t u ≡ due_at l s p q i
-    unfolding due_at ◌and◌
-    due_here t u b c m = rw (announced, eq-eqb (first_bits _ _) (word l (q + record_prefix)) (sym here ∙ b ∙ k), c, m)
+  pub due_here : v ≡ true → (t u : ℕ) → t ≡ settled_ticket l s q i → u ≡ word l (read_at p i + slot_ticket) → ltb t u ≡ due_at l s p q i
+  unfolding due_at ◌and◌
+  due_here h t u f g = rw (← e, h, f, g)
 
 -- the bits of the workers below i
 pub record Dues (l : List ℕ) (s : Settings) (p q b i : ℕ) : Type 0 where

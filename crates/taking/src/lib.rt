@@ -36,10 +36,9 @@ fn take(words: &mut [u64], g: Settings, w: usize, i: usize)
     split_while(words, g, slot_word(words, g, w, i, SLOT_ACCOUNT));
     let q = record_of(words, g, slot_word(words, g, w, i, SLOT_ACCOUNT));
     let depth = memory::get(words, q + RECORD_DEPTH);
-    if holds_back(g, depth, memory::get(words, q + RECORD_COUNT)) {
-        return;
+    if !holds_back(g, depth, memory::get(words, q + RECORD_COUNT)) {
+        carry(words, g, w, i, q);
     }
-    carry(words, g, w, i, q);
 }
 
 // Whether worker i's update, as worker w has read it, belongs to the bucket in the record at q and is unsettled there.
@@ -48,16 +47,12 @@ fn due(words: &[u64], g: Settings, w: usize, q: usize, i: usize) -> bool
         × ((w < g.workers) × ((i < g.workers) × (q + widest_record ≤ length words.now))) }
     ensures { result ≡ due_at words.now g (worker_at g.workers w) q i }
 {
-    if slot_word(words, g, w, i, SLOT_KIND) == KIND_NONE {
-        return false;
-    }
-    let depth = memory::get(words, q + RECORD_DEPTH);
-    if first_bits(depth, slot_word(words, g, w, i, SLOT_ACCOUNT))
-        != memory::get(words, q + RECORD_PREFIX)
-    {
-        return false;
-    }
-    settled_ticket(words, g, q, i) < slot_word(words, g, w, i, SLOT_TICKET)
+    slot_word(words, g, w, i, SLOT_KIND) != KIND_NONE
+        && first_bits(
+            memory::get(words, q + RECORD_DEPTH),
+            slot_word(words, g, w, i, SLOT_ACCOUNT),
+        ) == memory::get(words, q + RECORD_PREFIX)
+        && settled_ticket(words, g, q, i) < slot_word(words, g, w, i, SLOT_TICKET)
 }
 
 // The workers whose update is due there, as bits.
@@ -66,12 +61,10 @@ pub fn dues(words: &[u64], g: Settings, w: usize, q: usize) -> u64
     ensures { result ≡ dues_at words.now g (worker_at g.workers w) q g.workers }
 {
     let mut bits: u64 = 0;
-    let mut i: usize = 0;
-    while i < g.workers as usize {
+    for i in 0..g.workers as usize {
         if due(words, g, w, q, i) {
             bits += 1 << i;
         }
-        i += 1;
     }
     bits
 }
@@ -81,11 +74,9 @@ pub fn take_all(words: &mut [u64], g: Settings, w: usize, bits: u64)
     requires { Whole words.old g × (w < g.workers) }
     ensures { words.new ≡ taken_all words.old g (worker_at g.workers w) bits g.workers }
 {
-    let mut i: usize = 0;
-    while i < g.workers as usize {
+    for i in 0..g.workers as usize {
         if (bits >> i) % 2 == 1 {
             take(words, g, w, i);
         }
-        i += 1;
     }
 }

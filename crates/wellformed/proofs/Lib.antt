@@ -1,3 +1,1 @@
-pub mod All
-pub mod Fields
-pub mod Logs
+mod All

@@ -25,16 +25,10 @@ fn operation(log: &[u64], i: usize) -> bool
 {
     let at = i * OPERATION_WORDS;
     let kind = get_or(log, at + LOGGED_KIND);
-    if kind < KIND_INSERT {
-        return false;
-    }
-    if GREATEST_KIND < kind {
-        return false;
-    }
-    if ACCOUNTS <= get_or(log, at + LOGGED_ACCOUNT) {
-        return false;
-    }
-    get_or(log, at + LOGGED_CALL) < get_or(log, at + LOGGED_END)
+    KIND_INSERT <= kind
+        && kind <= GREATEST_KIND
+        && get_or(log, at + LOGGED_ACCOUNT) < ACCOUNTS
+        && get_or(log, at + LOGGED_CALL) < get_or(log, at + LOGGED_END)
 }
 
 // Whether the first n are operations.
@@ -42,14 +36,7 @@ fn operations(log: &[u64], n: usize) -> bool
     requires { n ≤ greatest_operations }
     ensures { result ≡ all n (λ i. is_operation (logged_at log.now i)) }
 {
-    let mut i: usize = 0;
-    while i < n {
-        if !operation(log, i) {
-            return false;
-        }
-        i += 1;
-    }
-    true
+    (0..n).all(|i| operation(log, i))
 }
 
 // ---- two operations
@@ -59,29 +46,14 @@ fn apart(call: u64, end: u64, called: u64, ended: u64) -> bool
     ensures { result ≡ not (eqb call called) and not (eqb call ended) and not (eqb end called)
         and not (eqb end ended) }
 {
-    if call == called {
-        return false;
-    }
-    if call == ended {
-        return false;
-    }
-    if end == called {
-        return false;
-    }
-    end != ended
+    call != called && call != ended && end != called && end != ended
 }
 
 // Whether two operations are not of one worker, or one of them ended before the other's call.
 fn in_turn(worker: u64, call: u64, end: u64, other: u64, called: u64, ended: u64) -> bool
     ensures { result ≡ when eqb worker other then (when ltb end called then true else ltb ended call) else true }
 {
-    if worker != other {
-        return true;
-    }
-    if end < called {
-        return true;
-    }
-    ended < call
+    worker != other || ended < call || end < called
 }
 
 // Whether the operations at places j and i are apart and in turn.
@@ -96,12 +68,9 @@ fn pair(log: &[u64], j: usize, i: usize) -> bool
     let end = get_or(log, first + LOGGED_END);
     let called = get_or(log, second + LOGGED_CALL);
     let ended = get_or(log, second + LOGGED_END);
-    if !apart(call, end, called, ended) {
-        return false;
-    }
     let worker = get_or(log, first + LOGGED_WORKER);
     let other = get_or(log, second + LOGGED_WORKER);
-    in_turn(worker, call, end, other, called, ended)
+    apart(call, end, called, ended) && in_turn(worker, call, end, other, called, ended)
 }
 
 // Whether the operation at place i makes such a pair with each of a lower place.
@@ -110,14 +79,7 @@ fn pairs(log: &[u64], i: usize) -> bool
     ensures { result ≡ all i (λ j. apart (logged_at log.now j) (logged_at log.now i)
         and in_turn (logged_at log.now j) (logged_at log.now i)) }
 {
-    let mut j: usize = 0;
-    while j < i {
-        if !pair(log, j, i) {
-            return false;
-        }
-        j += 1;
-    }
-    true
+    (0..i).all(|j| pair(log, j, i))
 }
 
 // Whether each of the first n operations does.
@@ -126,14 +88,7 @@ fn all_pairs(log: &[u64], n: usize) -> bool
     ensures { result ≡ all n (λ i. all i (λ j. apart (logged_at log.now j) (logged_at log.now i)
         and in_turn (logged_at log.now j) (logged_at log.now i))) }
 {
-    let mut i: usize = 0;
-    while i < n {
-        if !pairs(log, i) {
-            return false;
-        }
-        i += 1;
-    }
-    true
+    (0..n).all(|i| pairs(log, i))
 }
 
 // ---- logs
@@ -143,15 +98,9 @@ pub fn is_log(log: &[u64]) -> bool
     ensures { result ≡ are_log log.now }
 {
     let len = log.len();
-    if len % OPERATION_WORDS != 0 {
-        return false;
-    }
     let n = len / OPERATION_WORDS;
-    if GREATEST_OPERATIONS < n {
-        return false;
-    }
-    if !operations(log, n) {
-        return false;
-    }
-    all_pairs(log, n)
+    len % OPERATION_WORDS == 0
+        && n <= GREATEST_OPERATIONS
+        && operations(log, n)
+        && all_pairs(log, n)
 }

@@ -1,6 +1,7 @@
 -- `carry_own` settles the ticket as crowded where a new account finds its bucket full, and else does what the update does.
 -- Rests on the laws of an update carried out.
 use Prim.Native.Nat.{ℕ}
+use native.Mathlib.Omega.{arith}
 use mathlib.Core.Path.{◌≡◌, refl, sym, ◌∙◌, ap}
 use mathlib.Core.Logic.{◌⊎◌, inl, inr}
 use Rattle.interface.specs.Numbers.{kind_insert, kind_post}
@@ -27,15 +28,15 @@ room c k = room_at _ _ _ _ k (sym c.crowded.ensures ∙ c.if-crowded.false)
 
 pub put_own-requires : goal.put_own-requires
 put_own-requires c =
-    (found (goal.at.put_own-requires c).After-search_own-p, room (goal.at.put_own-requires c).Else-crowded (inl c.if-u-eq-KIND_INSERT.true))
+    (found (goal.at.put_own-requires c).After-search_own-p, room (goal.at.put_own-requires c).Else-crowded (inl c.in-1.is))
 
 pub post_own-requires : goal.post_own-requires
 post_own-requires c =
-    (found (goal.at.post_own-requires c).After-search_own-p, (room (goal.at.post_own-requires c).Else-crowded (inr c.if-u-eq-KIND_POST.true), c.if-u-eq-KIND_POST.true))
+    (found (goal.at.post_own-requires c).After-search_own-p, (room (goal.at.post_own-requires c).Else-crowded (inr c.in-4.is), c.in-4.is))
 
 pub delete_own-requires : goal.delete_own-requires
 delete_own-requires c =
-    (found (goal.at.delete_own-requires c).After-search_own-p, (c.if-u-eq-KIND_INSERT.false, c.if-u-eq-KIND_POST.false))
+    (found (goal.at.delete_own-requires c).After-search_own-p, ((λ e. omega arith), (λ e. omega arith)))
 
 -- whether the update is crowded, by the accounts of the record's state
 crowded_is :
@@ -65,22 +66,22 @@ returns-then-crowded c =
     (carry_crowded (bucket_at s.words.now s.g s.q) s.j _ s.u s.g c.search_own-p.ensures
     (crowded_is (goal.at.returns-then-crowded c).After-crowded ∙ c.if-crowded.true))
 
-pub returns-then-u-eq-KIND_INSERT : goal.returns-then-u-eq-KIND_INSERT
+pub returns-in-1 : goal.returns-in-1
 unfolding put_at own_at insert_answer
-returns-then-u-eq-KIND_INSERT c =
+returns-in-1 c =
     let s = c.args in
     c.put_own.ensures
     ∙ ap (record_as s.words.now s.g s.q s.toggle)
-    (change_insert _ s.j _ s.u _ _ c.if-u-eq-KIND_INSERT.true refl c.answer_number-answer.ensures ∙ changed_is (goal.at.returns-then-u-eq-KIND_INSERT c).Else-crowded)
+    (change_insert _ s.j _ s.u _ _ c.in-1.is refl c.answer_number-answer.ensures ∙ changed_is (goal.at.returns-in-1 c).Else-crowded)
 
-pub returns-then-u-eq-KIND_POST : goal.returns-then-u-eq-KIND_POST
+pub returns-in-4 : goal.returns-in-4
 unfolding changed_at own_at
-returns-then-u-eq-KIND_POST c =
+returns-in-4 c =
     let s = c.args in
-    c.post_own.ensures ∙ ap (record_as s.words.now s.g s.q s.toggle) (changed_is (goal.at.returns-then-u-eq-KIND_POST c).Else-crowded)
+    c.post_own.ensures ∙ ap (record_as s.words.now s.g s.q s.toggle) (changed_is (goal.at.returns-in-4 c).Else-crowded)
 
-pub returns : goal.returns
+pub returns-in_default : goal.returns-in_default
 unfolding changed_at own_at
-returns c =
+returns-in_default c =
     let s = c.args in
-    c.delete_own.ensures ∙ ap (record_as s.words.now s.g s.q s.toggle) (changed_is (goal.at.returns c).Else-crowded)
+    c.delete_own.ensures ∙ ap (record_as s.words.now s.g s.q s.toggle) (changed_is (goal.at.returns-in_default c).Else-crowded)

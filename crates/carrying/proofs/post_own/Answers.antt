@@ -27,18 +27,18 @@ sum_is c =
     let amount = c.args.u.total in
     ap (λ (v : ℕ). sum_of v amount) (sym c.total_own.ensures) ∙ sym c.sum_of.ensures
 
-pub returns-in-Within : goal.returns-in-Within
+pub returns-in-Some : goal.returns-in-Some
 unfolding put_at changed_at
-returns-in-Within c =
+returns-in-Some c =
     let s = c.args in
     c.put_own.ensures
     ∙ ap (record_as s.words.now s.g s.q s.toggle)
-    (change_posted _ s.j s.p s.u c.requires.1.1 _ _ (sum_is (goal.at.returns-in-Within c).After-sum_of ∙ c.in-Within.is) refl)
+    (change_posted _ s.j s.p s.u c.requires.1.1 _ _ (sum_is (goal.at.returns-in-Some c).After-sum_of ∙ c.in-Some.is) refl)
 
-pub returns-in-Outside : goal.returns-in-Outside
+pub returns-in-None : goal.returns-in-None
 unfolding changed_at
-returns-in-Outside c =
+returns-in-None c =
     let s = c.args in
     c.settle_own.ensures
     ∙ ap (record_as s.words.now s.g s.q s.toggle)
-    (change_overrun _ s.j s.p s.u c.requires.1.1 (sum_is (goal.at.returns-in-Outside c).After-sum_of ∙ c.in-Outside.is))
+    (change_overrun _ s.j s.p s.u c.requires.1.1 (sum_is (goal.at.returns-in-None c).After-sum_of ∙ c.in-None.is))

@@ -6,5 +6,5 @@ use Rattle.directory.proofs.nothing.Goals as goal
 pub returns-then-worker_word-eq0 : goal.returns-then-worker_word-eq0
 returns-then-worker_word-eq0 c = nothing_marked _ _ _ _ c.worker_word.ensures c.if-worker_word-eq0.true
 
-pub returns : goal.returns
-returns c = nothing_short _ _ _ _ c.worker_word.ensures _ c.if-worker_word-eq0.false c.needed.ensures
+pub returns-else-worker_word-eq0 : goal.returns-else-worker_word-eq0
+returns-else-worker_word-eq0 c = nothing_short _ _ _ _ c.worker_word.ensures _ c.if-worker_word-eq0.false c.needed.ensures

@@ -1,5 +1,4 @@
 -- `resolve` resolves the marked buckets.
-use Prim.Native.Nat.{◌-◌}
 use native.Mathlib.Omega.{arith}
 use mathlib.Core.Path.{◌≡◌, refl, sym, ◌∙◌, ap}
 use lib.ListN.{length}
@@ -16,11 +15,11 @@ use Rattle.directory.proofs.resolve.Goals.{At-loop-j}
 
 -- what the turns have left of the words holds every record
 whole : (c : At-loop-j) → Whole c.loop-j.words c.args.g
-whole c = whole_kept (sym c.loop-j.invariant.1.0) c.requires.0
+whole c = whole_kept (sym c.loop-j.invariant.0) c.requires.0
 
 pub loop-j-init : goal.loop-j-init
 unfolding resolved_at
-loop-j-init c = (search rules, (refl, refl))
+loop-j-init c = (refl, refl)
 
 pub worker_word-requires : goal.worker_word-requires
 worker_word-requires c =
@@ -48,27 +47,20 @@ take_all-requires c =
 pub loop-j-preserved : goal.loop-j-preserved
 loop-j-preserved c =
     let bits = c.worker_word.ensures in
-    (elim c.if-worker_word-j-eq1.branch [
+    elim c.if-worker_word-j-eq1.branch [
       | then-worker_word-j-eq1 w ↦ (
-        search rules,
-        (
-          ap length w.words-is ∙ search rules,
-          w.words-is ∙ resolved_more _ _ _ _ _ _ c.loop-j.invariant.1.1 bits _ _ _ _ w.if-worker_word-j-eq1.true w.slot_word.ensures w.record_of-q.ensures
-              w.dues-bits.ensures w.take_all.ensures,
-        ),
+        ap length w.words-is ∙ search rules,
+        w.words-is ∙ resolved_more _ _ _ _ _ _ c.loop-j.invariant.1 bits _ _ _ _ w.if-worker_word-j-eq1.true w.slot_word.ensures w.record_of-q.ensures
+            w.dues-bits.ensures w.take_all.ensures,
       )
       | else-worker_word-j-eq1 w ↦ (
-        search rules,
-        (
-          ap length w.words-is ∙ c.loop-j.invariant.1.0,
-          w.words-is
-              ∙ resolved_same _ _ _ _ _ _ c.loop-j.invariant.1.1 bits w.if-worker_word-j-eq1.false,
-        ),
+        ap length w.words-is ∙ c.loop-j.invariant.0,
+        w.words-is ∙ resolved_same _ _ _ _ _ _ c.loop-j.invariant.1 bits w.if-worker_word-j-eq1.false,
       )
-    ])
+    ]
 
 pub returns : goal.returns
 returns c =
     let args = c.args in
     let all : c.loop-j.j ≡ args.g.workers = omega arith in
-    c.loop-j.invariant.1.1 ∙ ap (resolved_at args.words.now args.g (worker_at args.g.workers args.w)) all
+    c.loop-j.invariant.1 ∙ ap (resolved_at args.words.now args.g (worker_at args.g.workers args.w)) all

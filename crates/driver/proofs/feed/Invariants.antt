@@ -1,6 +1,5 @@
--- `feed`: the loop's invariant is that feeding the bytes left comes to feeding all; the measure is how many are left.
+-- `feed`: the loop's invariant is that feeding the bytes left comes to feeding all.
 -- Rests on the laws of feeding and on the contracts of what is called.
-use Prim.Native.Nat.{◌≤◌, ◌-◌}
 use mathlib.Core.Path.{◌≡◌}
 use lib.ListN.{length, drop}
 use Rattle.driver.specs.Feeding.{Feeding, fed}
@@ -8,8 +7,7 @@ use Rattle.driver.proofs.feed.Given as goal
 
 abbrev pub invariant-loop-i : goal.invariant-loop-i
 invariant-loop-i l =
-    (l.i ≤ length l.input)
-    × (((length l.words ≡ length l.initial.words) × ((length l.accounts ≡ length l.initial.accounts)
+    ((length l.words ≡ length l.initial.words) × ((length l.accounts ≡ length l.initial.accounts)
     × ((length l.totals ≡ length l.initial.totals) × (length l.out ≡ length l.initial.out))))
     × (◌≡◌ {A = Feeding} (fed (record {
       state = record {
@@ -30,7 +28,4 @@ invariant-loop-i l =
       };
       reader = l.initial.reader;
       taken = 0;
-    }) l.input)))
-
-abbrev pub decreases-loop-i : goal.decreases-loop-i
-decreases-loop-i l = length l.input - l.i
+    }) l.input))

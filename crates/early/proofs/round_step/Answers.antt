@@ -21,55 +21,55 @@ pub read_state-requires : goal.read_state-requires
 read_state-requires c =
     rw c.settings_of.ensures (c.requires.0, c.requires.1.0)
 
-pub returns-then-j-lt1 : goal.returns-then-j-lt1
+pub returns-in-0 : goal.returns-in-0
 unfolding update_at
-returns-then-j-lt1 c =
+returns-in-0 c =
     let at = early_round _ _ _ c.requires.1.1.0 c.requires.1.1.1
-    (rw c.settings_of-n.ensures at c.reduce-j.ensures) in
-    at_phase _ _ _ _ _ _ _ read_state (at ∙ bucket_state _ _ c.if-j-lt1.true)
+    (rw c.settings_of-n.ensures at c.reduce.ensures) in
+    at_phase _ _ _ _ _ _ _ read_state (at ∙ bucket_state _ _ (omega (arith, c.in-0.is)))
     (ap (λ (l : List ℕ). (l, Ok Stepped.Moved)) (rw c.settings_of.ensures at c.read_state.ensures))
 
 pub read_toggle-requires : goal.read_toggle-requires
 read_toggle-requires c =
-    rw c.settings_of-then-j-lt2.ensures (c.requires.0, c.requires.1.0)
+    rw c.settings_of-in-1.ensures (c.requires.0, c.requires.1.0)
 
-pub returns-then-j-lt2 : goal.returns-then-j-lt2
+pub returns-in-1 : goal.returns-in-1
 unfolding update_at
-returns-then-j-lt2 c =
+returns-in-1 c =
     let at = early_round _ _ _ c.requires.1.1.0 c.requires.1.1.1
-    (rw c.settings_of-n.ensures at c.reduce-j.ensures) in
-    at_phase _ _ _ _ _ _ _ read_toggle (at ∙ bucket_toggle _ _ c.if-j-lt1.false c.if-j-lt2.true)
-    (ap (λ (l : List ℕ). (l, Ok Stepped.Moved)) (rw c.settings_of-then-j-lt2.ensures at c.read_toggle.ensures))
+    (rw c.settings_of-n.ensures at c.reduce.ensures) in
+    at_phase _ _ _ _ _ _ _ read_toggle (at ∙ bucket_toggle _ _ (omega (arith, c.in-1.is)) (omega (arith, c.in-1.is)))
+    (ap (λ (l : List ℕ). (l, Ok Stepped.Moved)) (rw c.settings_of-in-1.ensures at c.read_toggle.ensures))
 
-pub overflow_add-n-2 : goal.overflow_add-n-2
-overflow_add-n-2 c =
+pub overflow_add-n-in_default-1 : goal.overflow_add-n-in_default-1
+overflow_add-n-in_default-1 c =
     omega (arith, c.requires.0.workers, ap (λ (s : Settings). s.workers) c.settings_of-n.ensures)
 
 pub read_slot-requires : goal.read_slot-requires
 read_slot-requires c =
-    rw c.settings_of-then-j-n.ensures (
+    rw c.settings_of-in_default.ensures (
       c.requires.0,
       (c.requires.1.0, omega (arith, ap (λ (s : Settings). s.workers) c.settings_of-n.ensures)),
     )
 
-pub returns-then-j-n : goal.returns-then-j-n
+pub returns-in_default : goal.returns-in_default
 unfolding update_at
-returns-then-j-n c =
+returns-in_default c =
     let at = early_round _ _ _ c.requires.1.1.0 c.requires.1.1.1
-    (rw c.settings_of-n.ensures at c.reduce-j.ensures) in
+    (rw c.settings_of-n.ensures at c.reduce.ensures) in
     at_phase _ _ _ _ _ _ _ (read_slot _)
-    (at ∙ bucket_slot _ _ c.if-j-lt2.false (rw c.settings_of-n.ensures at c.if-j-n.true))
-    (ap (λ (l : List ℕ). (l, Ok Stepped.Moved)) (rw c.settings_of-then-j-n.ensures at c.read_slot.ensures))
+    (at ∙ bucket_slot _ _ (omega arith) (rw c.settings_of-n.ensures at c.if-j-n.true))
+    (ap (λ (l : List ℕ). (l, Ok Stepped.Moved)) (rw c.settings_of-in_default.ensures at c.read_slot.ensures))
 
 pub swap-requires : goal.swap-requires
 swap-requires c =
-    rw c.settings_of-2.ensures (c.requires.0, c.requires.1.0)
+    rw c.settings_of-in_default-2.ensures (c.requires.0, c.requires.1.0)
 
-pub returns : goal.returns
+pub returns-in_default-2 : goal.returns-in_default-2
 unfolding update_at
-returns c =
-    let reduced = rw c.settings_of-n.ensures at c.reduce-j.ensures in
+returns-in_default-2 c =
+    let reduced = rw c.settings_of-n.ensures at c.reduce.ensures in
     let at = early_round _ _ _ c.requires.1.1.0 c.requires.1.1.1 reduced in
     at_phase _ _ _ _ _ _ _ swap_state
     (at ∙ bucket_swap _ _ (rw c.settings_of-n.ensures at c.if-j-n.false) (reduced_below _ _ _ reduced (omega arith)))
-    (ap (λ (l : List ℕ). (l, Ok Stepped.Moved)) (rw c.settings_of-2.ensures at c.swap.ensures))
+    (ap (λ (l : List ℕ). (l, Ok Stepped.Moved)) (rw c.settings_of-in_default-2.ensures at c.swap.ensures))

@@ -14,29 +14,25 @@ size-c-requires c = (c.requires.0, entry_inside _ _ c.requires.0 c.entry_record-
 pub loop-i-init : goal.loop-i-init
 unfolding rows_in
 loop-i-init c =
-    (looked _ _ _ c.requires.0 c.entry_record-q.ensures c.size-c.ensures, (search rules, (search rules, refl)))
+    record { looked = looked _ _ _ c.requires.0 c.entry_record-q.ensures c.size-c.ensures; few = search rules; count = refl }
 
 pub loop-i-preserved : goal.loop-i-preserved
 loop-i-preserved c =
     let s = c.args in
     let l = c.loop-i in
     let q = c.entry_record-q.result in
-    let same = same_bits s.words.now s.g q l.i _ _ c.get.ensures c.first_bits.ensures in (
-      l.invariant.0,
-      (
-        search rules,
-        (
-          elim c.if-first_bits-e.branch [ then-first_bits-e w ↦ omega arith | else-first_bits-e w ↦ omega arith ],
-          elim c.if-first_bits-e.branch [
-            | then-first_bits-e w ↦
-                omega (arith, counted_more s.words.now s.g s.e q l.i (sym same ∙ w.if-first_bits-e.true))
-            | else-first_bits-e w ↦
-                w.k-is ∙ l.invariant.1.1.1 ∙ ap length
-                (sym (rows_same s.words.now s.g s.e q l.i (λ h. w.if-first_bits-e.false (same ∙ h))))
-          ],
-        ),
-      ),
-    )
+    let same = same_bits s.words.now s.g q l.i _ _ c.get.ensures c.first_bits.ensures in
+    record {
+      looked = l.invariant.looked;
+      few = elim c.if-first_bits-e.branch [ then-first_bits-e w ↦ omega arith | else-first_bits-e w ↦ omega arith ];
+      count = elim c.if-first_bits-e.branch [
+        | then-first_bits-e w ↦
+            omega (arith, counted_more s.words.now s.g s.e q l.i (sym same ∙ w.if-first_bits-e.true))
+        | else-first_bits-e w ↦
+            w.k-is ∙ l.invariant.count ∙ ap length
+            (sym (rows_same s.words.now s.g s.e q l.i (λ h. w.if-first_bits-e.false (same ∙ h))))
+      ];
+    }
 
 pub returns : goal.returns
-returns c = let l = c.loop-i in counted_end l.i l.k l.invariant.0 l.invariant.1.1.1 l.invariant.1.0 c.loop-i-test.false
+returns c = let l = c.loop-i in counted_end l.i l.k l.invariant.looked l.invariant.count l.auto.i-end c.loop-i-test.false

@@ -15,7 +15,10 @@ size-c-requires c = (c.requires.0, entry_inside _ _ c.requires.0 c.entry_record-
 
 pub loop-i-init : goal.loop-i-init
 loop-i-init c =
-    (looked _ _ _ c.requires.0 c.entry_record-q.ensures c.size-c.ensures, (search rules, written_start _ _ _ _ _ _ _))
+    record {
+      looked = looked _ _ _ c.requires.0 c.entry_record-q.ensures c.size-c.ensures;
+      written = written_start _ _ _ _ _ _ _;
+    }
 
 -- there is a place for one row more in each list
 room :
@@ -28,8 +31,8 @@ room c =
     c.first_bits.ensures in
     let hit = sym bits ∙ c.if-first_bits-e.true in
     let test = c.loop-i-test.true in (
-      written_room _ _ _ _ _ _ _ _ _ _ _ l.invariant.1.1 _ _ l.invariant.0 hit test c.requires.1.1.0,
-      written_room _ _ _ _ _ _ _ _ _ _ _ l.invariant.1.1 _ _ l.invariant.0 hit test c.requires.1.1.1,
+      written_room _ _ _ _ _ _ _ _ _ _ _ l.invariant.written _ _ l.invariant.looked hit test c.requires.1.1.0,
+      written_room _ _ _ _ _ _ _ _ _ _ _ l.invariant.written _ _ l.invariant.looked hit test c.requires.1.1.1,
     )
 
 pub offset_bounds-accounts-at : goal.offset_bounds-accounts-at
@@ -62,24 +65,22 @@ loop-i-preserved c =
     let get = c.get-a.ensures in
     let same = same_bits s.words.now s.g q l.i _ _ get c.first_bits.ensures in
     let test = c.loop-i-test.true in
-    let written = l.invariant.1.1 in (
-      l.invariant.0,
-      (
-        search rules,
-        elim c.if-first_bits-e.branch [
-          | then-first_bits-e w ↦
-              let hit = sym same ∙ w.if-first_bits-e.true in
-              rw (w.accounts-is, w.totals-is, w.at-is)
-              (written_more _ _ _ _ _ _ _ _ _ _ _ written _ _ hit (ap (λ (a : ℕ). a % 4_294_967_296) get)
-              (total_kept _ _ _ w.total_of.ensures (search rules) w.get.ensures)
-              (written_room _ _ _ _ _ _ _ _ _ _ _ written _ _ l.invariant.0 hit test c.requires.1.1.0)
-              (written_room _ _ _ _ _ _ _ _ _ _ _ written _ _ l.invariant.0 hit test c.requires.1.1.1))
-          | else-first_bits-e w ↦
-              rw (w.accounts-is, w.totals-is, w.at-is)
-              (written_same _ _ _ _ _ _ _ _ _ _ _ written (λ h. w.if-first_bits-e.false (same ∙ h)))
-        ],
-      ),
-    )
+    let written = l.invariant.written in
+    record {
+      looked = l.invariant.looked;
+      written = elim c.if-first_bits-e.branch [
+        | then-first_bits-e w ↦
+            let hit = sym same ∙ w.if-first_bits-e.true in
+            rw (w.accounts-is, w.totals-is, w.at-is)
+            (written_more _ _ _ _ _ _ _ _ _ _ _ written _ _ hit (ap (λ (a : ℕ). a % 4_294_967_296) get)
+            (total_kept _ _ _ w.total_of.ensures (search rules) w.get.ensures)
+            (written_room _ _ _ _ _ _ _ _ _ _ _ written _ _ l.invariant.looked hit test c.requires.1.1.0)
+            (written_room _ _ _ _ _ _ _ _ _ _ _ written _ _ l.invariant.looked hit test c.requires.1.1.1))
+        | else-first_bits-e w ↦
+            rw (w.accounts-is, w.totals-is, w.at-is)
+            (written_same _ _ _ _ _ _ _ _ _ _ _ written (λ h. w.if-first_bits-e.false (same ∙ h)))
+      ];
+    }
 
 pub returns : goal.returns
-returns c = let l = c.loop-i in written_end _ _ _ _ _ _ _ _ _ _ _ l.invariant.1.1 _ l.invariant.0 l.invariant.1.0 c.loop-i-test.false
+returns c = let l = c.loop-i in written_end _ _ _ _ _ _ _ _ _ _ _ l.invariant.written _ l.invariant.looked l.auto.i-end c.loop-i-test.false

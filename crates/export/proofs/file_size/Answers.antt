@@ -15,7 +15,7 @@ use Rattle.export.proofs.file_size.Goals as goal
 
 pub loop-i-init : goal.loop-i-init
 unfolding csv_rows rows_at
-loop-i-init c = (search rules, (refl, search rules))
+loop-i-init c = record { size = refl; small = search rules }
 
 pub overflow_add-size : goal.overflow_add-size
 overflow_add-size c = omega (arith, c.row_size-size.ensures.1)
@@ -28,9 +28,9 @@ loop-i-preserved c =
     let fits : SFits w64 (get_or t i (pos 0)) = search rules in
     let e = c.row_size-size.ensures.0 ∙ ap (λ (z : ℤ). length (csv_row (get_or a i 0) z)) (to_z-of_z fits) in
     let n = lines_size a t i in
-    (search rules, (omega arith, omega (arith, c.row_size-size.ensures.1)))
+    record { size = omega arith; small = omega (arith, c.row_size-size.ensures.1) }
 
 pub returns : goal.returns
 returns c =
     let l = c.loop-i in
-    rw (le_antisymm l.invariant.0 c.loop-i-test.false) at l.invariant.1.0 ∙ sym (file-size _)
+    rw (le_antisymm l.auto.i-end c.loop-i-test.false) at l.invariant.size ∙ sym (file-size _)

@@ -1,6 +1,6 @@
--- `file_size` adds the rows' sizes. The loop's invariant: the size of the file of the first i rows, which is small; the measure: the rows
--- left. Rests on the laws of files.
-use Prim.Native.Nat.{◌+◌, ◌*◌, ◌-◌, ◌≤◌}
+-- `file_size` adds the rows' sizes. The loop's invariant: the size of the file of the first i rows, which is small. Rests on the laws of
+-- files.
+use Prim.Native.Nat.{◌+◌, ◌*◌, ◌≤◌}
 use mathlib.Core.Path.{◌≡◌}
 use lib.ListN.{length}
 use Rattle.csv_file.specs.Csv.{header_size, longest_row}
@@ -8,8 +8,7 @@ use Rattle.export.proofs.Files.{lines}
 use Rattle.export.proofs.file_size.Given as goal
 
 abbrev pub invariant-loop-i : goal.invariant-loop-i
-invariant-loop-i l =
-    (l.i ≤ l.k) × ((l.size ≡ header_size + length (lines l.accounts l.totals l.i)) × (l.size ≤ header_size + longest_row * l.i))
-
-abbrev pub decreases-loop-i : goal.decreases-loop-i
-decreases-loop-i l = l.k - l.i
+invariant-loop-i l = record {
+  size : l.size ≡ header_size + length (lines l.accounts l.totals l.i);
+  small : l.size ≤ header_size + longest_row * l.i;
+}

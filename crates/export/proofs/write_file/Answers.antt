@@ -25,7 +25,7 @@ write_header-requires c = let h = room_for (goal.at.write_header-requires c).Sta
 
 pub loop-i-init : goal.loop-i-init
 unfolding csv_rows rows_at
-loop-i-init c = (search rules, (refl, (refl, sym (overlay_nil _ _))))
+loop-i-init c = (refl, sym (overlay_nil _ _))
 
 pub write_row-at-requires : goal.write_row-at-requires
 write_row-at-requires c =
@@ -39,22 +39,14 @@ pub loop-i-preserved : goal.loop-i-preserved
 loop-i-preserved c =
     let h = room_for (goal.at.loop-i-preserved c).Start in
     let l = c.loop-i in
-    let fits : SFits w64 (get_or c.args.totals.now l.i (pos 0)) = search rules in (
-      search rules,
-      (
-        c.write_row-at.auto.out ∙ l.invariant.1.0,
-        line_behind _ _ _ _ _ _ _ l.i _ (to_z-of_z fits)
-            (omega (arith, c.write_header.auto.out)) l.invariant.1.1 c.write_row-at.ensures,
-      ),
-    )
-
-pub shape_of-out : goal.shape_of-out
-shape_of-out c = c.loop-i.invariant.1.0 ∙ c.write_header.auto.out
+    let fits : SFits w64 (get_or c.args.totals.now l.i (pos 0)) = search rules in
+    line_behind _ _ _ _ _ _ _ l.i _ (to_z-of_z fits)
+    (omega (arith, c.write_header.auto.out)) l.invariant c.write_row-at.ensures
 
 pub returns : goal.returns
 returns c =
     let l = c.loop-i in
-    let e = le_antisymm l.invariant.0 c.loop-i-test.false in (
-      file_written _ _ _ _ c.write_header.ensures (rw e at l.invariant.1.1.1),
-      rw e at l.invariant.1.1.0 ∙ sym (file-size _),
+    let e = le_antisymm l.auto.i-end c.loop-i-test.false in (
+      file_written _ _ _ _ c.write_header.ensures (rw e at l.invariant.1),
+      rw e at l.invariant.0 ∙ sym (file-size _),
     )

@@ -1,6 +1,5 @@
--- `write_file` writes the rows one by one. The loop's invariant: the output is as long as at first, with the first i rows behind the
--- header; the measure: the rows left. Rests on the laws of files.
-use Prim.Native.Nat.{◌+◌, ◌-◌, ◌≤◌}
+-- `write_file` writes the rows one by one. The loop's invariant: the first i rows stand behind the header. Rests on the laws of files.
+use Prim.Native.Nat.{◌+◌}
 use mathlib.Core.Path.{◌≡◌}
 use lib.ListN.{length}
 use Rattle.lists.specs.Parts.{overlay}
@@ -10,8 +9,4 @@ use Rattle.export.proofs.write_file.Given as goal
 
 abbrev pub invariant-loop-i : goal.invariant-loop-i
 invariant-loop-i l =
-    (l.i ≤ l.k) × ((length l.out ≡ length l.initial.out)
-    × ((l.at ≡ header_size + length (lines l.accounts l.totals l.i)) × (l.out ≡ overlay l.initial.out header_size (lines l.accounts l.totals l.i))))
-
-abbrev pub decreases-loop-i : goal.decreases-loop-i
-decreases-loop-i l = l.k - l.i
+    (l.at ≡ header_size + length (lines l.accounts l.totals l.i)) × (l.out ≡ overlay l.initial.out header_size (lines l.accounts l.totals l.i))

@@ -1,20 +1,17 @@
--- `all-left` sets the first n places.
-use native.Mathlib.Nat.{le_antisymm}
+-- `all_left` fills the first n places.
+use Prim.Native.Nat.{ℕ}
 use native.Mathlib.Omega.{arith}
-use mathlib.Core.Path.{refl, ◌∙◌, ap}
-use lib.ListN.{set}
-use borrow.Author.Rules.{rules}
+use mathlib.Core.Path.{◌≡◌, ap, ◌∙◌}
+use lib.ListN.{replicate}
+use lib.Seq.{length-take-le}
+use Rattle.std.proofs.lemmas.List.{drop-replicate}
 use Rattle.judging.specs.Places.{all_left}
-use Rattle.judging.proofs.AllLeft.{left_more}
 use Rattle.judging.proofs.all_left.Goals as goal
 
-pub loop-i-init : goal.loop-i-init
-unfolding all_left
-loop-i-init c = (search rules, refl)
-
-pub loop-i-preserved : goal.loop-i-preserved
-loop-i-preserved c =
-    (search rules, ap (λ x. set x c.loop-i.i 1) c.loop-i.invariant.1 ∙ left_more c.loop-i.i (omega arith))
-
 pub returns : goal.returns
-returns c = c.loop-i.invariant.1 ∙ ap all_left (le_antisymm c.loop-i.invariant.0 c.loop-i-test.false)
+unfolding all_left
+returns c =
+    let n = c.args.n in
+    let e : c.fill.new.self ≡ replicate n 1 =
+    c.fill.ensures.after (λ y h. h) ∙ ap (λ (k : ℕ). replicate k 1) (length-take-le n (replicate 12 0) (omega arith)) in
+    rw (e, drop-replicate {X = ℕ} n 12 0)

@@ -1,32 +1,30 @@
--- `memory::fill` writes one word again and again.
-use Prim.Native.Nat.{ℕ, ◌-◌}
+-- `memory::fill` writes one word again and again: the library's fill, as an overlay.
+-- Rests on the library's law of a part of a slice that is written.
+use Prim.Native.Nat.{ℕ, ◌+◌, ◌-◌}
 use mathlib.Core.Path.{◌≡◌, refl, sym, ◌∙◌, ap}
-use native.Mathlib.Nat.{sub_self}
+use mathlib.Core.List.{List, ◌++◌}
 use native.Mathlib.Omega.{arith}
-use lib.ListN.{replicate}
-use Rattle.lists.specs.Parts.{overlay}
-use Rattle.lists.proofs.PartLaws.{overlay_nil}
-use Rattle.memory.proofs.Runs.{fill_more}
-use borrow.Author.Rules.{rules}
+use lib.ListN.{length, take, drop, replicate, length-replicate}
+use Rattle.std.proofs.Common.{take_all}
+use Rattle.std.proofs.lemmas.Slice.{put_mid-paste}
+use Rattle.lists.specs.Parts.{part, overlay}
+use Rattle.lists.proofs.PartLaws.{overlay_nil, length_part}
 use Rattle.memory.proofs.fill.Goals as goal
 
-pub loop-i-init : goal.loop-i-init
-loop-i-init c = (search rules, (search rules, (refl, rw sub_self (sym (overlay_nil _ _)))))
+pub returns-then-from-to : goal.returns-then-from-to
+unfolding overlay part
+returns-then-from-to c =
+    let a = c.args in
+    let w = a.words.now in
+    let k = a.to - a.from in
+    let run : List ℕ = replicate k a.v in
+    let n : length run ≡ k = length-replicate k a.v in
+    let filled = c.fill.ensures.after (λ y e. e) ∙ ap (λ (m : ℕ). replicate m a.v) (length_part w a.from k (omega arith)) in
+    put_mid-paste a.from k w _ run k filled refl (sym n)
+    ∙ ap (λ (r : List ℕ). take a.from w ++ r ++ drop (a.from + k) w) (take_all k run (omega arith))
+    ∙ ap (λ (m : ℕ). take a.from w ++ run ++ drop (a.from + m) w) (sym n)
 
-pub loop-i-preserved : goal.loop-i-preserved
-loop-i-preserved c = (
-  search rules,
-  (
-    omega arith,
-    (
-      search rules,
-      fill_more _ _ _ _ _ c.loop-i.invariant.1.1.1 c.loop-i.invariant.0
-          (omega arith),
-    ),
-  ),
-)
-
-pub returns : goal.returns
-returns c =
-    let e : c.loop-i.i - c.args.from ≡ c.args.to - c.args.from = omega arith in
-    c.loop-i.invariant.1.1.1 ∙ ap (λ (j : ℕ). overlay c.args.words.now c.args.from (replicate j c.args.v)) e
+pub returns-else-from-to : goal.returns-else-from-to
+returns-else-from-to c =
+    let none : c.args.to - c.args.from ≡ 0 = omega arith in
+    rw none (sym (overlay_nil c.args.words.now c.args.from))

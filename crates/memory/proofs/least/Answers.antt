@@ -1,14 +1,13 @@
--- `memory::least` is the definition `least`, by its one test.
--- Rests on the definition.
-use borrow.Author.Tests.{lt-ltb, le-ltb}
-use Rattle.machine.specs.Choice.{when◌then◌else◌}
-use Rattle.memory.specs.Words.{least}
+-- `memory::least` is the definition `least`, by the library's lesser of two.
+-- Rests on its laws.
+use native.Mathlib.Decide.{dec_lt}
+use native.Mathlib.Omega.{arith}
+use mathlib.Core.Path.{◌≡◌, sym, ◌∙◌}
+use Rattle.memory.proofs.Lesser.{least_same, least_large}
 use Rattle.memory.proofs.least.Goals as goal
 
-pub returns-then-count-capacity : goal.returns-then-count-capacity
-unfolding least when◌then◌else◌
-returns-then-count-capacity c = simp (lt-ltb _ _ c.if-count-capacity.true)
-
-pub returns-else-count-capacity : goal.returns-else-count-capacity
-unfolding least when◌then◌else◌
-returns-else-count-capacity c = simp (le-ltb _ _ c.if-count-capacity.false)
+pub returns : goal.returns
+returns c = elim (dec_lt c.args.count c.args.capacity) [
+  | yes h ↦ let e : c.min.result ≡ c.args.count = omega arith in e ∙ sym (least_same _ _ (omega arith))
+  | no h ↦ let e : c.min.result ≡ c.args.capacity = omega arith in e ∙ least_large _ _ (omega arith)
+]

@@ -1,9 +1,8 @@
--- `header` lays the first five words, one behind the other.
--- Rests on the law of the header.
-use Rattle.opening.proofs.FreshWords.{header_laid}
+-- `header` lays the first five words.
+-- Rests on the laws of runs.
+use mathlib.Core.Path.{sym}
+use Rattle.lists.proofs.PartLaws.{overlay_first}
 use Rattle.opening.proofs.header.Goals as goal
 
 pub returns : goal.returns
-returns c =
-    header_laid _ _ _ _ _ _ _ _ c.requires c.put.ensures c.put-2.ensures c.put-3.ensures
-    c.put-4.ensures c.put-5.ensures
+returns c = rw c.copy_from_slice.ensures.after (sym (overlay_first _ _))

@@ -1,5 +1,5 @@
--- `put_rows`: the loop's invariant is that putting the rows left comes to putting all; the measure is how many are left.
-use mathlib.Core.Path.{refl, ◌∙◌, ap}
+-- `put_rows`: the loop's invariant is that putting the rows left comes to putting all.
+use mathlib.Core.Path.{◌∙◌, ap}
 use lib.IntN.{ℤ, pos}
 use lib.ListN.{get_or}
 use mir.Val.{SFits}
@@ -12,7 +12,7 @@ use Rattle.outputs.proofs.Outputs.{rows_start, rows_end, rows_next}
 use Rattle.outputs.proofs.put_rows.Goals as goal
 
 pub loop-i-init : goal.loop-i-init
-loop-i-init c = (search rules, (refl, rows_start _ _ _ _))
+loop-i-init c = rows_start _ _ _ _
 
 pub loop-i-preserved : goal.loop-i-preserved
 loop-i-preserved c =
@@ -20,15 +20,8 @@ loop-i-preserved c =
     let o : Output = record { bytes = c.loop-i.out; used = c.loop-i.used } in
     let row = printed_row (get_or a.accounts.now c.loop-i.i 0) in
     let fits : SFits w64 (get_or a.totals.now c.loop-i.i (pos 0)) = search rules in
-    let e = c.put_row-used.ensures ∙ ap (λ (z : ℤ). emitted o (row z)) (to_z-of_z fits) in (
-      search rules,
-      (
-        search rules,
-        rows_next a.accounts.now a.totals.now o _ c.loop-i.i a.count
-            c.loop-i-test.true e
-            ∙ c.loop-i.invariant.1.1,
-      ),
-    )
+    let e = c.put_row-used.ensures ∙ ap (λ (z : ℤ). emitted o (row z)) (to_z-of_z fits) in
+    rows_next a.accounts.now a.totals.now o _ c.loop-i.i a.count c.loop-i-test.true e ∙ c.loop-i.invariant
 
 pub returns : goal.returns
-returns c = rows_end _ _ _ _ _ c.loop-i-test.false ∙ c.loop-i.invariant.1.1
+returns c = rows_end _ _ _ _ _ c.loop-i-test.false ∙ c.loop-i.invariant

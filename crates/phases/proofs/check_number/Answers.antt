@@ -17,5 +17,5 @@ returns-then-k-n-3 c = let s = c.args in sym (from_second s.n s.k (omega arith) 
 pub returns-then-k-n-4 : goal.returns-then-k-n-4
 returns-then-k-n-4 c = let s = c.args in sym (from_third s.n s.k (omega arith) c.if-k-n-4.true)
 
-pub returns : goal.returns
-returns c = let s = c.args in sym (from_fourth s.n s.k (omega arith))
+pub returns-else-k-n-4 : goal.returns-else-k-n-4
+returns-else-k-n-4 c = let s = c.args in sym (from_fourth s.n s.k (omega arith))

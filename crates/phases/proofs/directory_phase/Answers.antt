@@ -7,36 +7,36 @@ use Rattle.phases.specs.Phases.{planned}
 use Rattle.phases.proofs.Plans.{reduced_below, directory_copy, directory_slot, directory_state, directory_swap, directory-round}
 use Rattle.phases.proofs.directory_phase.Goals as goal
 
-pub returns-then-i-lt1 : goal.returns-then-i-lt1
+pub returns-in-0 : goal.returns-in-0
 unfolding planned
-returns-then-i-lt1 c =
+returns-in-0 c =
     let n = c.args.n in
-    let i = c.reduce-i.result in
-    sym (directory-round n c.args.r i c.reduce-i.ensures ∙ directory_copy n i c.if-i-lt1.true)
+    let i = c.reduce.result in
+    sym (directory-round n c.args.r i c.reduce.ensures ∙ directory_copy n i (omega (arith, c.in-0.is)))
 
-pub returns-then-i-n : goal.returns-then-i-n
+pub returns-in_default : goal.returns-in_default
 unfolding planned
-returns-then-i-n c =
+returns-in_default c =
     let args = c.args in
-    let reduce = c.reduce-i in
+    let reduce = c.reduce in
     let n = args.n in
     let i = reduce.result in
     sym (directory-round n args.r i reduce.ensures ∙ directory_slot n i (omega arith) c.if-i-n.true)
 
-pub returns-then-i-n-2 : goal.returns-then-i-n-2
+pub returns-in_default-2 : goal.returns-in_default-2
 unfolding planned
-returns-then-i-n-2 c =
+returns-in_default-2 c =
     let args = c.args in
-    let reduce = c.reduce-i in
+    let reduce = c.reduce in
     let n = args.n in
     let i = reduce.result in
     sym (directory-round n args.r i reduce.ensures ∙ directory_state n i (omega arith) c.if-i-n-2.true)
 
-pub returns : goal.returns
+pub returns-in_default-3 : goal.returns-in_default-3
 unfolding planned
-returns c =
+returns-in_default-3 c =
     let n = c.args.n in
     let r = c.args.r in
-    let i = c.reduce-i.result in
-    let k = reduced_below (2 * n + 2) r i c.reduce-i.ensures (omega arith) in
-    sym (directory-round n r i c.reduce-i.ensures ∙ directory_swap n i (omega arith) k)
+    let i = c.reduce.result in
+    let k = reduced_below (2 * n + 2) r i c.reduce.ensures (omega arith) in
+    sym (directory-round n r i c.reduce.ensures ∙ directory_swap n i (omega arith) k)

@@ -38,8 +38,8 @@ returns-then-r-n-5 c =
     let s = c.args in
     sym (pass_look_again s.n s.r c.if-r-n-4.false c.if-r-n-5.true)
 
-pub returns : goal.returns
+pub returns-else-r-n-5 : goal.returns-else-r-n-5
 unfolding planned
-returns c =
+returns-else-r-n-5 c =
     let s = c.args in
     sym (pass_end s.n s.r c.if-r-n-5.false)

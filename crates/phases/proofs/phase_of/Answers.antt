@@ -6,11 +6,11 @@ use Rattle.phases.specs.Phases.{planned}
 use Rattle.phases.proofs.Plans.{plan_announce, plan_pass}
 use Rattle.phases.proofs.phase_of.Goals as goal
 
-pub returns-then-k-lt1 : goal.returns-then-k-lt1
+pub returns-in-0 : goal.returns-in-0
 unfolding planned
-returns-then-k-lt1 c = sym (plan_announce c.args.n c.args.k c.if-k-lt1.true)
+returns-in-0 c = sym (plan_announce c.args.n c.args.k (omega (arith, c.in-0.is)))
 
-pub returns : goal.returns
-returns c =
+pub returns-in_default : goal.returns-in_default
+returns-in_default c =
     let s = c.args in
     c.pass_phase.ensures ∙ sym (plan_pass s.n s.k c.reduce.result (omega arith) c.reduce.ensures)

@@ -1,34 +1,13 @@
--- `copy`: the first i bytes are copied.
-use Prim.Native.Nat.{ℕ, ◌+◌}
-use mathlib.Core.Path.{◌≡◌, refl, ◌∙◌, ap}
-use mathlib.Core.List.{List}
-use native.Mathlib.Omega.{arith}
-use native.Mathlib.Numerals.{add-one}
-use lib.ListN.{length, get_or, set, length-set}
-use lib.Seq.{paste, paste-zero, paste-suc}
-use borrow.Author.Rules.{rules}
-use Rattle.printers.proofs.Written.{overlay_paste}
+-- `copy`: the part in the middle, with what lies before it and after it.
+-- Rests on the laws that it cites and on the contracts of what is called.
+use Rattle.std.proofs.Common.{◌≡◌, ◌+◌, ◌-◌, length, append_assoc, drop-drop, arith}
+use Rattle.lists.specs.Parts.{overlay}
 use Rattle.printers.proofs.copy.Goals as goal
 
-pub loop-i-init : goal.loop-i-init
-loop-i-init c = (search rules, (refl, paste-zero c.args.out.now c.args.at c.args.word.now))
-
-pub loop-i-preserved : goal.loop-i-preserved
-loop-i-preserved c =
-    let at = c.args.at in
-    let i = c.loop-i.i in
-    let w = c.args.word.now in (
-      search rules,
-      (
-        length-set c.loop-i.out (at + i) (get_or w i 0) ∙ c.loop-i.invariant.1.0,
-        ap (λ (o : List ℕ). set o (at + i) (get_or w i 0))
-            c.loop-i.invariant.1.1 ∙ paste-suc c.args.out.now at w i 0 (omega arith) (omega arith) ∙ rw add-one,
-      ),
-    )
-
 pub returns : goal.returns
+unfolding overlay
 returns c =
-    let e : c.loop-i.i ≡ length c.args.word.now = omega arith in
-    c.loop-i.invariant.1.1
-    ∙ ap (paste c.args.out.now c.args.at c.args.word.now) e
-    ∙ overlay_paste c.args.out.now c.args.at c.args.word.now
+    let at = c.args.at in
+    let n = length c.args.word.now in
+    let e : at + (at + n - at) ≡ at + n = omega arith in
+    rw (c.copy_from_slice.ensures.after, drop-drop, e, append_assoc)

@@ -8,12 +8,8 @@ use Rattle.rebate.specs.declared.Band.{Band}
 use Rattle.rebate.specs.Bands.{yearly, band_at}
 use Rattle.rebate.specs.Rebate.{whole_rate, due_by, rounded}
 use Rattle.rebate.proofs.Dues.{inside_most, rate_most, due_added, cents_most, parts_most}
-use borrow.Author.Rules.{rules}
 use Rattle.rebate.proofs.on_amount.Goals as goal
 use Rattle.rebate.proofs.on_amount.Goals.{After-band_at-rate}
-
-pub loop-i-init : goal.loop-i-init
-loop-i-init c = (search rules, (search rules, (search rules, omega arith)))
 
 -- one turn: its part, its rate, and what they come to
 module _ (c : After-band_at-rate) where
@@ -53,16 +49,12 @@ overflow_add-parts c = let n = c.loop-i.invariant in omega (arith, parts c)
 
 pub loop-i-preserved : goal.loop-i-preserved
 loop-i-preserved c =
-    let l = c.loop-i in (
-      omega arith,
-      (
-        omega (arith, cents c),
-        (
-          omega (arith, parts c),
-          rw add-one (due_added yearly.bands (i c) _ _ _ _ _ _ (omega arith) c.inside-part.ensures (rate_is c) l.invariant.1.1.1),
-        ),
-      ),
-    )
+    let l = c.loop-i in
+    record {
+      cents = omega (arith, cents c);
+      parts = omega (arith, parts c);
+      due = rw add-one (due_added yearly.bands (i c) _ _ _ _ _ _ (omega arith) c.inside-part.ensures (rate_is c) l.invariant.due);
+    }
 
 pub overflow_add-result : goal.overflow_add-result
 overflow_add-result c = let n = c.loop-i.invariant in omega arith
@@ -75,5 +67,5 @@ unfolding due_by rounded
 returns c =
     let l = c.loop-i in
     let e : l.i ≡ 4 = omega arith in
-    let h = rw e at l.invariant.1.1.1 in
+    let h = rw e at l.invariant.due in
     omega arith

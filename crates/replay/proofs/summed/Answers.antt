@@ -4,17 +4,17 @@ use Rattle.replay.proofs.Words.{word_fits}
 use Rattle.replay.proofs.Outcomes.{post_sum, post_overrun}
 use Rattle.replay.proofs.summed.Goals as goal
 
-pub returns-in-Within : goal.returns-in-Within
-returns-in-Within c =
+pub returns-in-Some : goal.returns-in-Some
+returns-in-Some c =
     let s = c.args in
     (rw (c.word_at-answer.ensures, c.word_at-logged.ensures) at c.balance_if.ensures)
     ∙ sym (post_sum s.log.now s.i c.requires.1 s.total _
-    (rw c.word_at.ensures at (sym c.sum_of.ensures ∙ c.in-Within.is))
+    (rw c.word_at.ensures at (sym c.sum_of.ensures ∙ c.in-Some.is))
     (word_fits c.word_at-logged.ensures c.word_at-logged.type_inv))
 
-pub returns-in-Outside : goal.returns-in-Outside
-returns-in-Outside c =
+pub returns-in-None : goal.returns-in-None
+returns-in-None c =
     let s = c.args in
     (rw c.word_at-answer.ensures at c.unchanged_if.ensures)
     ∙ sym (post_overrun s.log.now s.i c.requires.1 s.total
-    (rw c.word_at.ensures at (sym c.sum_of.ensures ∙ c.in-Outside.is)))
+    (rw c.word_at.ensures at (sym c.sum_of.ensures ∙ c.in-None.is)))

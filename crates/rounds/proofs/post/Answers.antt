@@ -6,17 +6,17 @@ use Rattle.sums.specs.Sums.{sum_of}
 use Rattle.rounds.proofs.Laws.{post_within, post_outside}
 use Rattle.rounds.proofs.post.Goals as goal
 
-pub returns-in-Within : goal.returns-in-Within
-returns-in-Within c =
+pub returns-in-Some : goal.returns-in-Some
+returns-in-Some c =
     let s = c.args in
     c.settle.ensures
     ∙ post_within s.state s.j s.p s.u _ _
-    (sym (c.sum_of.ensures ∙ ap (λ (k : ℕ). sum_of k s.u.total) c.total.ensures) ∙ c.in-Within.is)
+    (sym (c.sum_of.ensures ∙ ap (λ (k : ℕ). sum_of k s.u.total) c.total.ensures) ∙ c.in-Some.is)
     c.put.ensures
 
-pub returns-in-Outside : goal.returns-in-Outside
-returns-in-Outside c =
+pub returns-in-None : goal.returns-in-None
+returns-in-None c =
     let s = c.args in
-    c.settle-in-Outside.ensures
+    c.settle-in-None.ensures
     ∙ post_outside s.state s.j s.p s.u
-    (sym (c.sum_of.ensures ∙ ap (λ (k : ℕ). sum_of k s.u.total) c.total.ensures) ∙ c.in-Outside.is)
+    (sym (c.sum_of.ensures ∙ ap (λ (k : ℕ). sum_of k s.u.total) c.total.ensures) ∙ c.in-None.is)

@@ -8,18 +8,17 @@ use Rattle.entries.specs.Entries.{rows_of}
 use Rattle.rows.specs.Rows.{rows_from, unsorted}
 use Rattle.lists.proofs.PartLaws.{overlay_nil}
 use Rattle.rows.proofs.RowLaws.{span_is, entries_more, counted_entry, entry_room, written_behind}
-use borrow.Author.Rules.{rules}
 use Rattle.rows.proofs.write.Goals as goal
 
 pub loop-e-init : goal.loop-e-init
 unfolding rows_from
-loop-e-init c =
-    (span_is _ c.requires.0.depth, (search rules, (refl, (refl, (refl, (sym (overlay_nil _ _), sym (overlay_nil _ _)))))))
+loop-e-init c = record { next = refl; accounts = sym (overlay_nil _ _); totals = sym (overlay_nil _ _) }
 
 pub write_in-k-requires : goal.write_in-k-requires
 write_in-k-requires c =
     let s = c.args in
     let l = c.loop-e in
+    let n = span_is _ c.requires.0.depth in
     let h : l.e < 2 ^ s.g.depth = omega arith in
     let a = entry_room s.words.now s.g l.e _ h c.requires.1.0 in
     let t = entry_room s.words.now s.g l.e _ h c.requires.1.1 in
@@ -33,30 +32,16 @@ loop-e-preserved c =
     let m = counted_entry s.words.now s.g l.e in
     let h = c.write_in-k.ensures in
     let before = rows_from s.words.now s.g 0 l.e in
-    let here = rows_of s.words.now s.g l.e in (
-      l.invariant.0,
-      (
-        omega arith,
-        (
-          omega (arith, h.0),
-          (
-            search rules,
-            (
-              search rules,
-              (
-                written_behind (λ (x : ℕ × ℤ). x.0) _ _ _ _ before here _ l.invariant.1.1.1.1.1.0 l.invariant.1.1.0 h.1.0 more,
-                written_behind (λ (x : ℕ × ℤ). x.1) _ _ _ _ before here _ l.invariant.1.1.1.1.1.1 l.invariant.1.1.0 h.1.1 more,
-              ),
-            ),
-          ),
-        ),
-      ),
-    )
+    let here = rows_of s.words.now s.g l.e in
+    record {
+      next = omega (arith, h.0);
+      accounts = written_behind (λ (x : ℕ × ℤ). x.0) _ _ _ _ before here _ l.invariant.accounts l.invariant.next h.1.0 more;
+      totals = written_behind (λ (x : ℕ × ℤ). x.1) _ _ _ _ before here _ l.invariant.totals l.invariant.next h.1.1 more;
+    }
 
 pub returns : goal.returns
 unfolding unsorted
 returns c =
-    let s = c.args in
     let l = c.loop-e in
-    let e = le_antisymm l.invariant.1.0 c.loop-e-test.false ∙ l.invariant.0 in
-    (rw e at l.invariant.1.1.1.1.1.0, rw e at l.invariant.1.1.1.1.1.1)
+    let e = le_antisymm l.auto.e-end c.loop-e-test.false ∙ span_is _ c.requires.0.depth in
+    (rw e at l.invariant.accounts, rw e at l.invariant.totals)

@@ -2,6 +2,7 @@
 -- Rests on nothing but the contracts of `full` and `creates`.
 use mathlib.Core.Path.{sym, ◌∙◌}
 use Rattle.machine.specs.Choice.{◌and◌}
+use Rattle.machine.proofs.laws.Base.{and_left_false}
 use Rattle.rules.specs.Rules.{crowded_by}
 use Rattle.rules.proofs.crowded.Goals as goal
 
@@ -9,6 +10,6 @@ pub returns-then-full : goal.returns-then-full
 unfolding crowded_by ◌and◌
 returns-then-full c = rw (sym c.full.ensures ∙ c.if-full.true) c.creates.ensures
 
-pub returns : goal.returns
-unfolding crowded_by ◌and◌
-returns c = rw (sym c.full.ensures ∙ c.if-full.false)
+pub returns-else-full : goal.returns-else-full
+unfolding crowded_by
+returns-else-full c = c.if-full.false ∙ sym (and_left_false _ (sym c.full.ensures ∙ c.if-full.false))

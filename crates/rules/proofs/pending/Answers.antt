@@ -1,24 +1,40 @@
 -- `pending` answers what `pending_by` says: where the two bits are the same it is false, and else the tickets decide.
 -- Rests on the laws of pending updates; a bit past the 64th is 0.
-use Prim.Native.Nat.{◌<◌, ◌^◌}
+use Prim.Native.Nat.{ℕ, ◌≤◌, ◌<◌, ◌^◌}
 use native.Mathlib.Omega.{arith}
-use mathlib.Core.Path.{sym, ◌∙◌}
-use Rattle.rules.specs.Rules.{bit}
-use Rattle.rules.proofs.Laws.{bit_past, pending_same, pending_differs}
+use mathlib.Core.Path.{◌≡◌, sym, ◌∙◌, ap}
+use mathlib.Core.Bool.{not, false}
+use lib.Dec.{eqb}
+use borrow.Author.Tests.{eq-eqb, le-ltb}
+use Rattle.machine.specs.Choice.{◌and◌}
+use Rattle.machine.proofs.laws.Base.{and_left_false}
+use Rattle.rules.specs.Rules.{bit, pending_by}
+use Rattle.rules.proofs.Laws.{bit_past}
 use Rattle.rules.proofs.pending.Goals as goal
+use Rattle.rules.proofs.pending.Goals.{then-j-lt64, else-j-lt64}
 
-pub returns-then-j-ge64 : goal.returns-then-j-ge64
-returns-then-j-ge64 c =
-    let s = c.args in
-    let toggle : s.toggle < 2 ^ 64 = omega arith in
-    let applied : s.applied < 2 ^ 64 = omega arith in
-    sym (pending_same _ _ _ _ _
-    (bit_past s.toggle s.j toggle c.if-j-ge64.true ∙ sym (bit_past s.applied s.j applied c.if-j-ge64.true)))
+-- past the last bit no two words differ
+alike : (x y j : ℕ) → x < 2 ^ 64 → y < 2 ^ 64 → 64 ≤ j → not (eqb (bit x j) (bit y j)) ≡ false
+alike x y j h k m = ap not (eq-eqb _ _ (bit_past x j h m ∙ sym (bit_past y j k m)))
 
 pub returns-then-toggle-j : goal.returns-then-toggle-j
-unfolding bit
-returns-then-toggle-j c = sym (pending_same _ _ _ _ _ c.if-toggle-j.true)
+unfolding bit pending_by ◌and◌
+returns-then-toggle-j c =
+    let s = c.args in
+    let test : c.if-j-lt64.value ≡ not (eqb (bit s.toggle s.j) (bit s.applied s.j)) =
+    elim c.if-j-lt64.branch [
+      | then-j-lt64 w ↦ w.value-is
+      | else-j-lt64 w ↦ w.value-is ∙ le-ltb _ _ w.if-j-lt64.false ∙ sym (alike s.toggle s.applied s.j (omega arith) (omega arith) (omega arith))
+    ] in
+    rw (sym test ∙ c.if-toggle-j.true)
 
-pub returns : goal.returns
-unfolding bit
-returns c = sym (pending_differs _ _ _ _ _ c.if-toggle-j.false)
+pub returns-else-toggle-j : goal.returns-else-toggle-j
+unfolding bit pending_by
+returns-else-toggle-j c =
+    let s = c.args in
+    let test : c.if-j-lt64.value ≡ not (eqb (bit s.toggle s.j) (bit s.applied s.j)) =
+    elim c.if-j-lt64.branch [
+      | then-j-lt64 w ↦ w.value-is
+      | else-j-lt64 w ↦ w.value-is ∙ le-ltb _ _ w.if-j-lt64.false ∙ sym (alike s.toggle s.applied s.j (omega arith) (omega arith) (omega arith))
+    ] in
+    c.if-toggle-j.false ∙ sym (and_left_false _ (sym test ∙ c.if-toggle-j.false))

@@ -4,8 +4,8 @@ use native.Mathlib.Omega.{arith}
 use mathlib.Core.Path.{sym, ◌∙◌}
 use Rattle.layout.proofs.Positions.{placed}
 use Rattle.layout.proofs.Checks.{fits_of, fits_read, strange_first, stranger_next}
-use Rattle.runs.proofs.RunLaws.{run_none, run_goes}
 use Rattle.memory.proofs.Lesser.{least_min}
+use Rattle.runs.proofs.RunLaws.{run_none, run_goes}
 use Rattle.runs.specs.Runs.{run_words}
 use Rattle.runs.proofs.run.Goals as goal
 
@@ -45,7 +45,7 @@ returns-then-get-eq-KIND_NONE c =
 pub run_in-requires : goal.run_in-requires
 run_in-requires c = (
   fits_of _ (sym c.strange_words.ensures ∙ c.if-strange_words.false),
-  (rw c.settings_of-g.ensures at c.if-g-worker.false, omega (arith, c.min.ensures)),
+  (rw c.settings_of-g.ensures at c.if-g-worker.false, omega arith),
 )
 
 pub returns : goal.returns

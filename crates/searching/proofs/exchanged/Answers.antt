@@ -12,15 +12,16 @@ returns-then-not-sooner c =
     exchange_unfit _ _ _ _ _ _ _ _ _ c.word_at.ensures c.word_at-2.ensures c.if-word_at.false
     c.replay-sooner.result c.replay-sooner.ensures (not-true _ c.if-not-sooner.true)
 
-pub returns-then-not-later : goal.returns-then-not-later
-returns-then-not-later c =
-    exchange_unfit_later _ _ _ _ _ _ _ _ _ c.word_at.ensures c.word_at-2.ensures c.if-word_at.false
-    c.replay-sooner.result c.replay-sooner.ensures (not-false _ c.if-not-sooner.false) c.replay-later.result
-    c.replay-later.ensures (not-true _ c.if-not-later.true)
-
-pub returns : goal.returns
-returns c =
+pub returns-then-later : goal.returns-then-later
+returns-then-later c =
     c.same.ensures
     ∙ exchange_same _ _ _ _ _ _ _ _ _ c.word_at.ensures c.word_at-2.ensures c.if-word_at.false
     c.replay-sooner.result c.replay-sooner.ensures (not-false _ c.if-not-sooner.false) c.replay-later.result
-    c.replay-later.ensures (not-false _ c.if-not-later.false)
+    c.replay-later.ensures c.if-later.true
+
+pub returns-else-later : goal.returns-else-later
+returns-else-later c =
+    c.if-later.false
+    ∙ exchange_unfit_later _ _ _ _ _ _ _ _ _ c.word_at.ensures c.word_at-2.ensures c.if-word_at.false
+    c.replay-sooner.result c.replay-sooner.ensures (not-false _ c.if-not-sooner.false) c.replay-later.result
+    c.replay-later.ensures c.if-later.false

@@ -1,25 +1,25 @@
--- `same` compares word by word.
-use mathlib.Core.Path.{refl, sym, ◌∙◌}
-use native.Mathlib.Omega.{arith}
-use borrow.Author.Rules.{rules}
-use Rattle.logs.proofs.SameLaws.{same_differ, same_next, same_end}
+-- `same` is the definition: the library's comparison is the same, word by word.
+use Prim.Native.Nat.{ℕ}
+use mathlib.Core.Path.{◌≡◌, refl, ◌∙◌}
+use mathlib.Core.Bool.{Bool, true, false, ◌&&◌}
+use mathlib.Core.List.{List, [], ◌∷◌}
+use lib.Dec.{eqb}
+use Rattle.std.specs.Cmp.Lexicographic.{pointwise}
+use Rattle.machine.specs.Choice.{◌and◌}
+use Rattle.logs.specs.Same.{same_numbers}
 use Rattle.searching.proofs.same.Goals as goal
 
-pub loop-k-init : goal.loop-k-init
-loop-k-init c = (search rules, refl)
+both : (s t : Bool) → (s && t) ≡ s and t
+unfolding ◌and◌
+both true t = refl
+both false t = refl
 
-pub returns-then-x-k : goal.returns-then-x-k
-returns-then-x-k c =
-    sym
-    (c.loop-k.invariant.1
-    ∙ same_differ c.args.x c.args.y c.loop-k.k (omega arith) (omega arith) c.if-x-k.true)
-
-pub loop-k-preserved : goal.loop-k-preserved
-loop-k-preserved c = (
-  search rules,
-  c.loop-k.invariant.1 ∙ same_next c.args.x c.args.y c.loop-k.k (omega arith) (omega arith) c.if-x-k.false,
-)
+by_word : (x y : List ℕ) → pointwise eqb x y ≡ same_numbers x y
+unfolding same_numbers
+by_word [] [] = refl
+by_word [] (b ∷ y) = refl
+by_word (a ∷ x) [] = refl
+by_word (a ∷ x) (b ∷ y) = rw (by_word x y) (both (eqb a b) (same_numbers x y))
 
 pub returns : goal.returns
-returns c =
-    sym (c.loop-k.invariant.1 ∙ same_end c.args.x c.args.y c.loop-k.k (omega arith) (omega arith))
+returns c = c.eq.ensures ∙ by_word c.args.x c.args.y

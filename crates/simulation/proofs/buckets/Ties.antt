@@ -7,7 +7,7 @@ use mathlib.Core.Path.{◌≡◌, refl, ap, ap₂, sym, ◌∙◌, subst}
 use mathlib.Core.Logic.{◌≢◌}
 use mathlib.Core.Bool.{Bool, true, false, not, xor}
 use mathlib.Core.List.{List}
-use Rattle.std.specs.Prelude.{None}
+use Rattle.std.specs.Prelude.{None, Some}
 use lib.Dec.{ltb, leb, eqb}
 use lib.IntN.{ℤ}
 use mir.Syntax.{w64}
@@ -34,7 +34,6 @@ use Rattle.rules.specs.declared.Descriptor.{Descriptor}
 use Rattle.arrays.specs.declared.Position.{Position}
 use Rattle.arrays.specs.declared.Position.TheVariants.{At, Before}
 use Rattle.bucket.specs.State.{array_size, size_of, search_of, total_in, put_of, remove_of, settle_of}
-use Rattle.sums.specs.declared.Sum.TheVariants.{Within, Outside}
 use Rattle.sums.specs.Sums.{added, sum_of}
 use Rattle.sums.proofs.Ranges.{fits_total}
 use Rattle.rounds.specs.Rounds.{posted_of, post_of, changed_of, carry_of, help_of, helped_of, with_applied, round_of}
@@ -218,7 +217,7 @@ module _ (s : Settings) (narrow : s.capacity ≤ array_size) (x : BucketState) (
       -- a post, by whether its sum is a total
       posts :
           (b : Bool) → is_total z ≡ b → full_by s x.count and creates (post a (signed v)) (items_of x) ≡ false
-          → Means (posted_of x j p u (when b then Within (of_z w64 z) else Outside))
+          → Means (posted_of x j p u (when b then Some (of_z w64 z) else None))
           (with_body y (carry_out s j (post a (signed v)) t y.body)) n
       posts true e free =
           let f = fits_total z e in

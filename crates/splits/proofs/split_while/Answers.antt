@@ -1,5 +1,5 @@
 -- `split_while` splits an account's bucket while it is full.
-use Prim.Native.Nat.{◌+◌, ◌≤◌}
+use Prim.Native.Nat.{◌+◌, ◌-◌, ◌≤◌}
 use native.Mathlib.Omega.{arith}
 use mathlib.Core.Path.{◌≡◌, refl, sym, ◌∙◌}
 use lib.ListN.{length}
@@ -13,28 +13,28 @@ use Rattle.spares.proofs.PoolLaws.{whole_kept}
 use Rattle.layout.proofs.Positions.{record_inside}
 use Rattle.splits.proofs.Splitting.{splittable_depth, while_done, while_turn, while_end}
 use Rattle.splits.proofs.split_while.Goals as goal
-use Rattle.splits.proofs.split_while.Goals.{After-record_of-q, After-splittable, At-loop-f}
+use Rattle.splits.proofs.split_while.Goals.{After-record_of-q, After-splittable, At-loop}
 
 -- what the turns have left of the words holds every record, and the account's
-whole : (c : At-loop-f) → Whole c.loop-f.words c.args.g
-whole c = whole_kept (sym c.loop-f.invariant.1.0) c.requires
+whole : (c : At-loop) → Whole c.loop.words c.args.g
+whole c = whole_kept (sym c.loop.invariant.0) c.requires
 
-inside : (c : After-record_of-q) → c.record_of-q.result + widest_record ≤ length c.loop-f.words
-inside c = rw c.record_of-q.ensures (record_inside (whole (goal.at.After-record_of-q c).At-loop-f).fits _)
+inside : (c : After-record_of-q) → c.record_of-q.result + widest_record ≤ length c.loop.words
+inside c = rw c.record_of-q.ensures (record_inside (whole (goal.at.After-record_of-q c).At-loop).fits _)
 
 -- whether it is to be split
 tested :
     (c : After-splittable)
     → c.splittable.result
-    ≡ splittable_at c.loop-f.words c.args.g
+    ≡ splittable_at c.loop.words c.args.g
     c.record_of-q.result
 tested c = both_read (splittable_by _) c.splittable.ensures c.get-depth.ensures c.get.ensures
 
-pub loop-f-init : goal.loop-f-init
-loop-f-init c = (search rules, (refl, refl))
+pub loop-init : goal.loop-init
+loop-init c = let all : c.args.g.depth - 0 ≡ c.args.g.depth = omega arith in (refl, rw all)
 
 pub record_of-q-requires : goal.record_of-q-requires
-record_of-q-requires c = (whole (goal.at.record_of-q-requires c).At-loop-f).fits
+record_of-q-requires c = (whole (goal.at.record_of-q-requires c).At-loop).fits
 
 pub overflow_add-q : goal.overflow_add-q
 overflow_add-q c = omega (arith, inside c)
@@ -42,8 +42,8 @@ overflow_add-q c = omega (arith, inside c)
 pub get-depth-requires : goal.get-depth-requires
 get-depth-requires c = omega (arith, inside c)
 
-pub overflow_add-q-in-loop-f : goal.overflow_add-q-in-loop-f
-overflow_add-q-in-loop-f c = omega (arith, inside (goal.at.overflow_add-q-in-loop-f c).After-record_of-q)
+pub overflow_add-q-in-loop : goal.overflow_add-q-in-loop
+overflow_add-q-in-loop c = omega (arith, inside (goal.at.overflow_add-q-in-loop c).After-record_of-q)
 
 pub get-requires : goal.get-requires
 get-requires c = omega (arith, inside (goal.at.get-requires c).After-record_of-q)
@@ -51,23 +51,20 @@ get-requires c = omega (arith, inside (goal.at.get-requires c).After-record_of-q
 pub returns-then-not-splittable : goal.returns-then-not-splittable
 returns-then-not-splittable c =
     while_done _ _ _ _ _ c.record_of-q.ensures (tested (goal.at.returns-then-not-splittable c).After-splittable) _ c.if-not-splittable.true
-    ∙ c.loop-f.invariant.1.1
+    ∙ c.loop.invariant.1
 
 pub split-requires : goal.split-requires
 split-requires c =
     let yes = sym (tested (goal.at.split-requires c).After-splittable) ∙ c.if-not-splittable.false in
-    (whole (goal.at.split-requires c).At-loop-f, (splittable_depth c.loop-f.words c.args.g c.record_of-q.result yes, inside (goal.at.split-requires c).After-record_of-q))
+    (whole (goal.at.split-requires c).At-loop, (splittable_depth c.loop.words c.args.g c.record_of-q.result yes, inside (goal.at.split-requires c).After-record_of-q))
 
-pub loop-f-preserved : goal.loop-f-preserved
-loop-f-preserved c = (
+pub loop-preserved : goal.loop-preserved
+loop-preserved c = (
   search rules,
-  (
-    search rules,
-    while_turn _ _ _ _ _ c.record_of-q.ensures (tested (goal.at.loop-f-preserved c).After-splittable) _ _ c.loop-f-test.true c.if-not-splittable.false
-        c.split.ensures
-        ∙ c.loop-f.invariant.1.1,
-  ),
+  while_turn _ _ _ _ _ c.record_of-q.ensures (tested (goal.at.loop-preserved c).After-splittable) _ _ _ c.loop-test.true c.if-not-splittable.false
+      c.split.ensures
+      ∙ c.loop.invariant.1,
 )
 
 pub returns : goal.returns
-returns c = while_end _ _ _ _ c.loop-f-test.false ∙ c.loop-f.invariant.1.1
+returns c = while_end _ _ _ _ _ c.loop-test.false ∙ c.loop.invariant.1

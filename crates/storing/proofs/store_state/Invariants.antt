@@ -1,6 +1,6 @@
--- `store_state` stores two arrays at a time, then three. The loops' invariants: the items passed are stored; the measures: the items left.
+-- `store_state` stores two arrays at a time, then three. The loops' invariants: the items passed are stored.
 -- Rests on the laws of one item more, of the whole state, and of the addresses.
-use Prim.Native.Nat.{◌+◌, ◌≤◌, ◌-◌}
+use Prim.Native.Nat.{◌+◌, ◌≤◌}
 use mathlib.Core.Path.{◌≡◌}
 use lib.ListN.{length}
 use Rattle.fields.specs.Fields.{widest_record}
@@ -9,16 +9,10 @@ use Rattle.storing.proofs.store_state.Given as goal
 
 abbrev pub invariant-loop-i : goal.invariant-loop-i
 invariant-loop-i l =
-    (l.i ≤ l.c) × ((l.c ≤ l.b) × ((l.q + widest_record ≤ length l.words)
-    × (l.words ≡ stored (stored l.initial.words l.accounts l.s.accounts l.i) l.totals l.s.totals l.i)))
-
-abbrev pub decreases-loop-i : goal.decreases-loop-i
-decreases-loop-i l = l.c - l.i
+    (l.c ≤ l.b) × (l.q + widest_record ≤ length l.words)
+    × (l.words ≡ stored (stored l.initial.words l.accounts l.s.accounts l.i) l.totals l.s.totals l.i)
 
 abbrev pub invariant-loop-j : goal.invariant-loop-j
 invariant-loop-j l =
-    (l.j ≤ l.n) × ((l.q + widest_record ≤ length l.words)
-    × (l.words ≡ stored (stored (stored l.initial.words l.settled l.s.settled l.j) l.answers l.s.answers l.j) l.posted l.s.posted l.j))
-
-abbrev pub decreases-loop-j : goal.decreases-loop-j
-decreases-loop-j l = l.n - l.j
+    (l.q + widest_record ≤ length l.words)
+    × (l.words ≡ stored (stored (stored l.initial.words l.settled l.s.settled l.j) l.answers l.s.answers l.j) l.posted l.s.posted l.j)

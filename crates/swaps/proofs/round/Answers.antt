@@ -49,8 +49,8 @@ store_state-requires c =
     let known = c.requires in
     (known.1.1, (known.0.capacity, known.0.workers))
 
-pub returns : goal.returns
-returns c =
+pub returns-else-toggle-flip_bit : goal.returns-else-toggle-flip_bit
+returns-else-toggle-flip_bit c =
     let args = c.args in
     let l = args.words.now in
     let slots = part_taken l _ _ (slot_size * args.g.workers) (ap (λ (p : ℕ). p + worker_slots) c.worker_at-from.ensures) in

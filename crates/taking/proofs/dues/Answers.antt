@@ -1,8 +1,6 @@
 -- `dues` gives the workers whose update is due, as bits.
-use Prim.Native.Nat.{◌-◌}
 use native.Mathlib.Omega.{arith}
 use mathlib.Core.Path.{◌≡◌, ◌∙◌, ap}
-use borrow.Author.Rules.{rules}
 use Rattle.fields.specs.Regions.{worker_at}
 use Rattle.taking.specs.Taking.{dues_at}
 use lib.Pow.{pow_mono}
@@ -12,7 +10,7 @@ use Rattle.taking.proofs.dues.Goals as goal
 use Rattle.taking.proofs.dues.Goals.{else-due, then-due}
 
 pub loop-i-init : goal.loop-i-init
-loop-i-init c = (search rules, dues_start _ _ _ _)
+loop-i-init c = dues_start _ _ _ _
 
 pub due-requires : goal.due-requires
 due-requires c =
@@ -24,18 +22,19 @@ overflow_shl-bits c = omega (arith, c.requires.0.workers)
 pub overflow_add-bits : goal.overflow_add-bits
 overflow_add-bits c =
     let few = c.requires.0.workers in
-    omega (arith, c.loop-i.invariant.1.small, pow_mono {i = c.loop-i.i} {j = 15} (omega arith))
+    omega (arith, c.loop-i.invariant.small, pow_mono {i = c.loop-i.i} {j = 15} (omega arith))
 
 pub loop-i-preserved : goal.loop-i-preserved
 loop-i-preserved c =
     let few = c.requires.0.workers in
-    let more = c.due.ensures in (
-      search rules,
-      (elim c.if-due.branch [ then-due w ↦ dues_more _ _ _ _ _ _ _ c.loop-i.invariant.1 more _ _ w.if-due.true (shift_one c.loop-i.i (omega arith)) w.bits-is | else-due w ↦ dues_same _ _ _ _ _ _ _ c.loop-i.invariant.1 more _ w.if-due.false w.bits-is ]),
-    )
+    let more = c.due.ensures in
+    elim c.if-due.branch [
+      | then-due w ↦ dues_more _ _ _ _ _ _ _ c.loop-i.invariant more _ _ w.if-due.true (shift_one c.loop-i.i (omega arith)) w.bits-is
+      | else-due w ↦ dues_same _ _ _ _ _ _ _ c.loop-i.invariant more _ w.if-due.false w.bits-is
+    ]
 
 pub returns : goal.returns
 returns c =
     let args = c.args in
     let all : c.loop-i.i ≡ args.g.workers = omega arith in
-    c.loop-i.invariant.1.bits ∙ ap (dues_at args.words.now args.g (worker_at args.g.workers args.w) args.q) all
+    c.loop-i.invariant.bits ∙ ap (dues_at args.words.now args.g (worker_at args.g.workers args.w) args.q) all

@@ -44,21 +44,21 @@ overflow_add-q-2 c = let h = inside (goal.at.overflow_add-q-2 c).After-record_of
 pub get-requires : goal.get-requires
 get-requires c = let h = inside (goal.at.get-requires c).After-record_of-q in omega arith
 
-pub returns-then-holds_back : goal.returns-then-holds_back
-returns-then-holds_back c =
+pub returns-else-not-holds_back : goal.returns-else-not-holds_back
+returns-else-not-holds_back c =
     let args = c.args in
     taken_back _ _ args.g (worker_at args.g.workers args.w) args.i _ _ _ _ c.slot_word.ensures
     c.split_while.ensures
-    c.slot_word-2.ensures c.record_of-q.ensures (tested (goal.at.returns-then-holds_back c).After-holds_back) c.if-holds_back.true
+    c.slot_word-2.ensures c.record_of-q.ensures (tested (goal.at.returns-else-not-holds_back c).After-holds_back) c.if-not-holds_back.false
 
 pub carry-requires : goal.carry-requires
 carry-requires c =
     let known = c.requires.1 in
     let h = inside (goal.at.carry-requires c).After-record_of-q in (h.0, (known.0, (known.1, h.1)))
 
-pub returns : goal.returns
-returns c =
+pub returns-then-not-holds_back : goal.returns-then-not-holds_back
+returns-then-not-holds_back c =
     let args = c.args in
     taken_carried _ _ args.g (worker_at args.g.workers args.w) args.i _ _ _ _ c.slot_word.ensures
     c.split_while.ensures
-    c.slot_word-2.ensures c.record_of-q.ensures (tested (goal.at.returns c).After-holds_back) _ c.if-holds_back.false c.carry.ensures
+    c.slot_word-2.ensures c.record_of-q.ensures (tested (goal.at.returns-then-not-holds_back c).After-holds_back) _ c.if-not-holds_back.true c.carry.ensures

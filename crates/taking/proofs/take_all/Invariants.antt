@@ -1,6 +1,5 @@
--- `take_all` takes the updates of some workers. The loop's invariant: as many words, and those of the workers passed are taken; the
--- measure: the workers left. Rests on the turn for one worker more.
-use Prim.Native.Nat.{◌-◌, ◌≤◌}
+-- `take_all` takes the updates of some workers. The loop's invariant: as many words, and those of the workers passed are taken.
+-- Rests on the turn for one worker more.
 use mathlib.Core.Path.{◌≡◌}
 use lib.ListN.{length}
 use Rattle.fields.specs.Regions.{worker_at}
@@ -9,7 +8,4 @@ use Rattle.taking.proofs.take_all.Given as goal
 
 abbrev pub invariant-loop-i : goal.invariant-loop-i
 invariant-loop-i l =
-    (l.i ≤ l.g.workers) × ((length l.words ≡ length l.initial.words) × (l.words ≡ taken_all l.initial.words l.g (worker_at l.g.workers l.w) l.bits l.i))
-
-abbrev pub decreases-loop-i : goal.decreases-loop-i
-decreases-loop-i l = l.g.workers - l.i
+    (length l.words ≡ length l.initial.words) × (l.words ≡ taken_all l.initial.words l.g (worker_at l.g.workers l.w) l.bits l.i)

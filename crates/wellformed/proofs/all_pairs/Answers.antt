@@ -1,19 +1,12 @@
--- `all_pairs` tries the operations in turn.
-use mathlib.Core.Path.{sym, ap}
-use mathlib.Core.Bool.{not}
-use Rattle.wellformed.proofs.All.{passed_none, passed_more, passed_all, passed_not}
+-- `all_pairs` tries the operations in turn. Rests on the law of `all`.
+use Rattle.std.proofs.Common.{rules}
+use Rattle.machine.specs.Choice.{◌and◌}
+use Rattle.logs.specs.Log.{all, apart, in_turn, logged_at}
+use Rattle.wellformed.proofs.All.{all_below}
 use Rattle.wellformed.proofs.all_pairs.Goals as goal
 
-pub loop-i-init : goal.loop-i-init
-loop-i-init c = passed_none _ _
-
-pub returns-then-not-pairs : goal.returns-then-not-pairs
-returns-then-not-pairs c =
-    sym (passed_not _ _ _ c.loop-i-test.true c.pairs.ensures (ap not c.if-not-pairs.true))
-
-pub loop-i-preserved : goal.loop-i-preserved
-loop-i-preserved c =
-    passed_more _ _ _ c.loop-i-test.true c.loop-i.invariant c.pairs.ensures (ap not c.if-not-pairs.false)
-
 pub returns : goal.returns
-returns c = sym (passed_all _ _ _ c.loop-i-test.false c.loop-i.invariant)
+returns c =
+    let l = c.args.log.now in
+    all_below _ _ _ _ (λ i. all i (λ j. apart (logged_at l j) (logged_at l i) and in_turn (logged_at l j) (logged_at l i)))
+    c.all.ensures.ran (λ x b q k. search rules)

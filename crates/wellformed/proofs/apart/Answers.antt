@@ -1,22 +1,22 @@
--- `apart` compares the positions one by one: a case for each `return`.
--- Rests on the laws of tests.
-use borrow.Author.Tests.{eq-eqb, ne_eqb}
+-- `apart` compares the positions one by one.
+use native.Mathlib.Omega.{arith}
+use Rattle.std.proofs.lemmas.Bool.Decides.{nat_tests}
 use Rattle.machine.specs.Choice.{◌and◌}
 use Rattle.wellformed.proofs.apart.Goals as goal
-
-pub returns-then-call-called : goal.returns-then-call-called
-unfolding ◌and◌
-returns-then-call-called c = rw (eq-eqb _ _ c.if-call-called.true)
-
-pub returns-then-call-ended : goal.returns-then-call-ended
-unfolding ◌and◌
-returns-then-call-ended c = rw (ne_eqb _ _ c.if-call-called.false, eq-eqb _ _ c.if-call-ended.true)
+use Rattle.wellformed.proofs.apart.Goals.{then-call-called, else-call-called, then-call-ended, else-call-ended}
 
 pub returns-then-end-called : goal.returns-then-end-called
 unfolding ◌and◌
-returns-then-end-called c = rw (ne_eqb _ _ c.if-call-called.false, ne_eqb _ _ c.if-call-ended.false, eq-eqb _ _ c.if-end-called.true)
+returns-then-end-called c =
+    elim c.if-call-ended.branch [
+      | then-call-ended w ↦ elim c.if-call-called.branch [ then-call-called v ↦ grind (arith, nat_tests) | else-call-called v ↦ grind (arith, nat_tests) ]
+      | else-call-ended w ↦ grind (arith, nat_tests)
+    ]
 
-pub returns : goal.returns
+pub returns-else-end-called : goal.returns-else-end-called
 unfolding ◌and◌
-returns c =
-    rw (ne_eqb _ _ c.if-call-called.false, ne_eqb _ _ c.if-call-ended.false, ne_eqb _ _ c.if-end-called.false)
+returns-else-end-called c =
+    elim c.if-call-ended.branch [
+      | then-call-ended w ↦ elim c.if-call-called.branch [ then-call-called v ↦ grind (arith, nat_tests) | else-call-called v ↦ grind (arith, nat_tests) ]
+      | else-call-ended w ↦ grind (arith, nat_tests)
+    ]

@@ -1,21 +1,32 @@
--- `is_log` tests the count of words, then the operations, then the pairs: a case for each `return`.
--- Rests on the laws of a log's tests.
+-- `is_log` tests the count of words, then the operations, then the pairs.
 use native.Mathlib.Omega.{arith}
-use mathlib.Core.Path.{sym, ◌∙◌, ap}
-use mathlib.Core.Bool.{not}
-use Rattle.wellformed.proofs.Logs.{not_whole, too_many, no_operation, by_pairs}
+use Rattle.std.proofs.lemmas.Bool.Decides.{nat_tests}
+use Rattle.machine.specs.Choice.{◌and◌}
+use Rattle.logs.specs.Log.{are_log, is_log, log_of, count_of}
 use Rattle.wellformed.proofs.is_log.Goals as goal
+use Rattle.wellformed.proofs.is_log.Goals.{then-len-eq0, else-len-eq0, then-n-le-GREATEST_OPERATIONS, else-n-le-GREATEST_OPERATIONS}
 
-pub returns-then-len-ne0 : goal.returns-then-len-ne0
-returns-then-len-ne0 c = sym (not_whole _ c.if-len-ne0.true)
+pub returns-then-operations : goal.returns-then-operations
+unfolding ◌and◌ are_log is_log log_of count_of
+returns-then-operations c =
+    elim c.if-n-le-GREATEST_OPERATIONS.branch [
+      | then-n-le-GREATEST_OPERATIONS w ↦ elim c.if-len-eq0.branch [
+        | then-len-eq0 v ↦ grind (arith, nat_tests, w.operations.ensures, c.all_pairs.ensures)
+        | else-len-eq0 v ↦ grind (arith, nat_tests)
+      ]
+      | else-n-le-GREATEST_OPERATIONS w ↦ grind (arith, nat_tests)
+    ]
 
-pub returns-then-n-gt-GREATEST_OPERATIONS : goal.returns-then-n-gt-GREATEST_OPERATIONS
-returns-then-n-gt-GREATEST_OPERATIONS c = sym (too_many _ (omega arith))
-
-pub returns-then-not-operations : goal.returns-then-not-operations
-returns-then-not-operations c = sym (no_operation _ c.operations.ensures (ap not c.if-not-operations.true))
-
-pub returns : goal.returns
-returns c =
-    c.all_pairs.ensures
-    ∙ sym (by_pairs _ c.operations.ensures c.if-len-ne0.false (omega arith) (ap not c.if-not-operations.false))
+pub returns-else-operations : goal.returns-else-operations
+unfolding ◌and◌ are_log is_log log_of count_of
+returns-else-operations c =
+    elim c.if-n-le-GREATEST_OPERATIONS.branch [
+      | then-n-le-GREATEST_OPERATIONS w ↦ elim c.if-len-eq0.branch [
+        | then-len-eq0 v ↦ grind (arith, nat_tests, w.operations.ensures)
+        | else-len-eq0 v ↦ grind (arith, nat_tests)
+      ]
+      | else-n-le-GREATEST_OPERATIONS w ↦ elim c.if-len-eq0.branch [
+        | then-len-eq0 v ↦ grind (arith, nat_tests)
+        | else-len-eq0 v ↦ grind (arith, nat_tests)
+      ]
+    ]

@@ -1,23 +1,32 @@
--- `operation` tests what `is_operation` tests, in its order: a case for each `return`.
--- Rests on the laws of one operation's tests.
+-- `operation` tests what `is_operation` tests, in its order.
 use native.Mathlib.Omega.{arith}
-use mathlib.Core.Path.{sym}
-use Rattle.logs.specs.Log.{logged_at, word_at}
-use Rattle.wellformed.proofs.Fields.{kind_low, kind_high, account_wide, by_end}
+use Rattle.std.proofs.lemmas.Bool.Decides.{nat_tests}
+use Rattle.machine.specs.Choice.{◌and◌}
+use Rattle.logs.specs.Log.{logged_at, word_at, is_operation}
 use Rattle.wellformed.proofs.operation.Goals as goal
+use Rattle.wellformed.proofs.operation.Goals.{then-kind-ge-KIND_INSERT, else-kind-ge-KIND_INSERT, then-kind-le-GREATEST_KIND, else-kind-le-GREATEST_KIND}
 
-pub returns-then-kind-lt-KIND_INSERT : goal.returns-then-kind-lt-KIND_INSERT
-unfolding logged_at word_at
-returns-then-kind-lt-KIND_INSERT c = sym (kind_low _ (omega arith))
+pub returns-then-get_or-lt-ACCOUNTS : goal.returns-then-get_or-lt-ACCOUNTS
+unfolding ◌and◌ logged_at word_at is_operation
+returns-then-get_or-lt-ACCOUNTS c =
+    elim c.if-kind-le-GREATEST_KIND.branch [
+      | then-kind-le-GREATEST_KIND w ↦ elim c.if-kind-ge-KIND_INSERT.branch [
+        | then-kind-ge-KIND_INSERT v ↦ grind (arith, nat_tests)
+        | else-kind-ge-KIND_INSERT v ↦ grind (arith, nat_tests)
+      ]
+      | else-kind-le-GREATEST_KIND w ↦ grind (arith, nat_tests)
+    ]
 
-pub returns-then-kind-gt-GREATEST_KIND : goal.returns-then-kind-gt-GREATEST_KIND
-unfolding logged_at word_at
-returns-then-kind-gt-GREATEST_KIND c = sym (kind_high _ (omega arith))
-
-pub returns-then-get_or-ge-ACCOUNTS : goal.returns-then-get_or-ge-ACCOUNTS
-unfolding logged_at word_at
-returns-then-get_or-ge-ACCOUNTS c = sym (account_wide _ (omega arith))
-
-pub returns : goal.returns
-unfolding logged_at word_at
-returns c = rw (c.get_or-2.ensures, c.get_or-3.ensures) (sym (by_end _ (omega arith) (omega arith) (omega arith)))
+pub returns-else-get_or-lt-ACCOUNTS : goal.returns-else-get_or-lt-ACCOUNTS
+unfolding ◌and◌ logged_at word_at is_operation
+returns-else-get_or-lt-ACCOUNTS c =
+    elim c.if-kind-le-GREATEST_KIND.branch [
+      | then-kind-le-GREATEST_KIND w ↦ elim c.if-kind-ge-KIND_INSERT.branch [
+        | then-kind-ge-KIND_INSERT v ↦ grind (arith, nat_tests)
+        | else-kind-ge-KIND_INSERT v ↦ grind (arith, nat_tests)
+      ]
+      | else-kind-le-GREATEST_KIND w ↦ elim c.if-kind-ge-KIND_INSERT.branch [
+        | then-kind-ge-KIND_INSERT v ↦ grind (arith, nat_tests)
+        | else-kind-ge-KIND_INSERT v ↦ grind (arith, nat_tests)
+      ]
+    ]

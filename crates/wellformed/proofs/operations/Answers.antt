@@ -1,19 +1,8 @@
--- `operations` tries the operations in turn.
-use mathlib.Core.Path.{sym, ap}
-use mathlib.Core.Bool.{not}
-use Rattle.wellformed.proofs.All.{passed_none, passed_more, passed_all, passed_not}
+-- `operations` tries the operations in turn. Rests on the law of `all`.
+use Rattle.std.proofs.Common.{rules}
+use Rattle.logs.specs.Log.{is_operation, logged_at}
+use Rattle.wellformed.proofs.All.{all_below}
 use Rattle.wellformed.proofs.operations.Goals as goal
 
-pub loop-i-init : goal.loop-i-init
-loop-i-init c = passed_none _ _
-
-pub returns-then-not-operation : goal.returns-then-not-operation
-returns-then-not-operation c =
-    sym (passed_not _ _ _ c.loop-i-test.true c.operation.ensures (ap not c.if-not-operation.true))
-
-pub loop-i-preserved : goal.loop-i-preserved
-loop-i-preserved c =
-    passed_more _ _ _ c.loop-i-test.true c.loop-i.invariant c.operation.ensures (ap not c.if-not-operation.false)
-
 pub returns : goal.returns
-returns c = sym (passed_all _ _ _ c.loop-i-test.false c.loop-i.invariant)
+returns c = all_below _ _ _ _ (λ i. is_operation (logged_at c.args.log.now i)) c.all.ensures.ran (λ x b q k. search rules)

@@ -8,29 +8,24 @@ use Rattle.arrays.specs.declared.Position.{Position}
 use Rattle.bucket.specs.State.{array_size, put_of}
 use Rattle.bucket.proofs.Laws.{put_new, put_none, put_past}
 use Rattle.bucket.proofs.BucketState.put.Goals as goal
+use Rattle.bucket.proofs.BucketState.put.Goals.{in-At+then-here-lt-ARRAY_SIZE, in-At+else-here-lt-ARRAY_SIZE, in-Before+then-n-lt-ARRAY_SIZE, in-Before+else-n-lt-ARRAY_SIZE}
 
-pub returns-then-here-lt-ARRAY_SIZE : goal.returns-then-here-lt-ARRAY_SIZE
+pub returns : goal.returns
 unfolding put_of
-returns-then-here-lt-ARRAY_SIZE c =
-    let s = c.args in
-    ap (λ (p : Position). put_of s.self p s.account s.total) (sym c.in-At.is)
-
-pub returns-else-here-lt-ARRAY_SIZE : goal.returns-else-here-lt-ARRAY_SIZE
-returns-else-here-lt-ARRAY_SIZE c =
+returns c =
     let s = c.args in
     let long : length s.self.totals ≡ array_size = search rules in
-    put_past s.self s.account s.total c.in-At.here (omega arith)
-    ∙ ap (λ (p : Position). put_of s.self p s.account s.total) (sym c.in-At.is)
-
-pub returns-then-n-lt-ARRAY_SIZE : goal.returns-then-n-lt-ARRAY_SIZE
-returns-then-n-lt-ARRAY_SIZE c =
-    let s = c.args in
-    put_new s.self _ c.in-Before.next c.size-n.ensures s.account s.total _ _ c.if-n-lt-ARRAY_SIZE.true
-    c.raise.ensures c.raise-then-n-lt-ARRAY_SIZE.ensures
-    ∙ ap (λ (p : Position). put_of s.self p s.account s.total) (sym c.in-Before.is)
-
-pub returns-else-n-lt-ARRAY_SIZE : goal.returns-else-n-lt-ARRAY_SIZE
-returns-else-n-lt-ARRAY_SIZE c =
-    let s = c.args in
-    put_none s.self _ c.in-Before.next c.size-n.ensures s.account s.total c.if-n-lt-ARRAY_SIZE.false
-    ∙ ap (λ (p : Position). put_of s.self p s.account s.total) (sym c.in-Before.is)
+    elim c.match-p.branch [
+      | in-At+then-here-lt-ARRAY_SIZE w ↦ rw (w.accounts-is, w.totals-is, w.count-is)
+          (ap (λ (p : Position). put_of s.self p s.account s.total) (sym w.in-At.is))
+      | in-At+else-here-lt-ARRAY_SIZE w ↦ rw (w.accounts-is, w.totals-is, w.count-is)
+          (put_past s.self s.account s.total w.in-At.here (omega arith)
+          ∙ ap (λ (p : Position). put_of s.self p s.account s.total) (sym w.in-At.is))
+      | in-Before+then-n-lt-ARRAY_SIZE w ↦ rw (w.accounts-is, w.totals-is, w.count-is)
+          (put_new s.self _ w.in-Before.next w.size-n.ensures s.account s.total _ _ w.if-n-lt-ARRAY_SIZE.true
+          w.raise.ensures w.raise-then-n-lt-ARRAY_SIZE.ensures
+          ∙ ap (λ (p : Position). put_of s.self p s.account s.total) (sym w.in-Before.is))
+      | in-Before+else-n-lt-ARRAY_SIZE w ↦ rw (w.accounts-is, w.totals-is, w.count-is)
+          (put_none s.self _ w.in-Before.next w.size-n.ensures s.account s.total w.if-n-lt-ARRAY_SIZE.false
+          ∙ ap (λ (p : Position). put_of s.self p s.account s.total) (sym w.in-Before.is))
+    ]

@@ -6,20 +6,13 @@ use Rattle.bucket.specs.State.{remove_of}
 use Rattle.bucket.proofs.Laws.{removed_at}
 use Rattle.bucket.proofs.BucketState.remove.Goals as goal
 
-pub returns-then-n-gt0 : goal.returns-then-n-gt0
-returns-then-n-gt0 c =
+pub returns : goal.returns
+returns c =
     let s = c.args in
     removed_at s.self _ c.in-At.i c.size-n.ensures _ _ _
-    c.lower.ensures c.lower-in-At.ensures (omega arith)
+    c.lower.ensures c.lower-2.ensures (omega arith)
     ∙ ap (remove_of s.self) (sym c.in-At.is)
 
-pub returns-else-n-gt0 : goal.returns-else-n-gt0
-returns-else-n-gt0 c =
-    let s = c.args in
-    removed_at s.self _ c.in-At.i c.size-n.ensures _ _ _
-    c.lower.ensures c.lower-in-At.ensures (omega arith)
-    ∙ ap (remove_of s.self) (sym c.in-At.is)
-
-pub returns-in-Before : goal.returns-in-Before
+pub returns-in_default : goal.returns-in_default
 unfolding remove_of
-returns-in-Before c = ap (remove_of c.args.self) (sym c.in-Before.is)
+returns-in_default c = ap (remove_of c.args.self) (sym c.in_default.is)

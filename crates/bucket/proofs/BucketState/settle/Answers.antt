@@ -8,13 +8,13 @@ use borrow.Author.Rules.{rules}
 use Rattle.bucket.specs.State.{array_size, settle_of}
 use Rattle.bucket.proofs.BucketState.settle.Goals as goal
 
-pub returns-then-j-lt-ARRAY_SIZE : goal.returns-then-j-lt-ARRAY_SIZE
+pub returns : goal.returns
 unfolding settle_of
-returns-then-j-lt-ARRAY_SIZE c = search rules
+returns c = search rules
 
-pub returns-else-j-lt-ARRAY_SIZE : goal.returns-else-j-lt-ARRAY_SIZE
+pub returns-then-j-ge-ARRAY_SIZE : goal.returns-then-j-ge-ARRAY_SIZE
 unfolding settle_of
-returns-else-j-lt-ARRAY_SIZE c =
+returns-then-j-ge-ARRAY_SIZE c =
     let s = c.args in
     let settled : length s.self.settled ≡ array_size = search rules in
     let answers : length s.self.answers ≡ array_size = search rules in

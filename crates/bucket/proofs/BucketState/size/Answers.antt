@@ -1,12 +1,16 @@
 -- `size` is the count, cut off at the size of an array, as `size_of` says.
 -- Rests on the two laws of the count.
-use mathlib.Core.Path.{sym}
-use borrow.Author.Rules.{rules}
+use native.Mathlib.Decide.{dec_le}
+use native.Mathlib.Omega.{arith}
+use mathlib.Core.Path.{◌≡◌, sym, ◌∙◌}
+use Rattle.bucket.specs.State.{array_size}
 use Rattle.bucket.proofs.Laws.{size_is, size_large}
 use Rattle.bucket.proofs.BucketState.size.Goals as goal
 
-pub returns-then-self : goal.returns-then-self
-returns-then-self c = sym (size_is _ (search rules))
-
-pub returns-else-self : goal.returns-else-self
-returns-else-self c = sym (size_large _ c.if-self.false)
+pub returns : goal.returns
+returns c =
+    let count = c.args.self.count in
+    elim (dec_le count array_size) [
+      | yes h ↦ let e : c.min.result ≡ count = omega arith in e ∙ sym (size_is _ h)
+      | no h ↦ let e : c.min.result ≡ array_size = omega arith in e ∙ sym (size_large _ (omega arith))
+    ]

@@ -1,25 +1,18 @@
 -- `total` reads the total that `total_in` reads, at any position; past the array there is none.
--- Rests on the arrays' size.
-use native.Mathlib.Omega.{arith}
+-- Rests on nothing.
 use mathlib.Core.Path.{◌≡◌, sym, ◌∙◌, ap}
-use lib.ListN.{length, get_or-eq_default}
+use lib.ListN.{get_or}
 use borrow.Author.Rules.{rules}
-use Rattle.bucket.specs.State.{array_size, total_in}
+use Rattle.bucket.specs.State.{total_in}
 use Rattle.bucket.proofs.BucketState.total.Goals as goal
 
-pub returns-then-i-lt-ARRAY_SIZE : goal.returns-then-i-lt-ARRAY_SIZE
+pub returns : goal.returns
 unfolding total_in
-returns-then-i-lt-ARRAY_SIZE c =
-    ap (total_in c.args.self) (sym c.in-At.is)
-
-pub returns-else-i-lt-ARRAY_SIZE : goal.returns-else-i-lt-ARRAY_SIZE
-unfolding total_in
-returns-else-i-lt-ARRAY_SIZE c =
+returns c =
     let s = c.args in
-    let long : length s.self.totals ≡ array_size = search rules in
-    sym (get_or-eq_default s.self.totals 0 (omega arith))
-    ∙ ap (total_in s.self) (sym c.in-At.is)
+    let read : c.unwrap_or.result ≡ get_or s.self.totals c.in-At.i 0 = search rules in
+    read ∙ ap (total_in s.self) (sym c.in-At.is)
 
-pub returns-in-Before : goal.returns-in-Before
+pub returns-in_default : goal.returns-in_default
 unfolding total_in
-returns-in-Before c = ap (total_in c.args.self) (sym c.in-Before.is)
+returns-in_default c = ap (total_in c.args.self) (sym c.in_default.is)

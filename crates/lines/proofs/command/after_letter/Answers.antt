@@ -3,27 +3,22 @@
 use Prim.Native.Nat.{ℕ, ◌+◌}
 use mathlib.Core.Path.{sym, ◌∙◌, ap}
 use mathlib.Core.List.{List, [], ◌∷◌}
-use native.Mathlib.Omega.{arith}
-use lib.Seq.{length-take-le}
 use Rattle.lines.specs.Grammar.{of_fields}
-use Rattle.lines.proofs.Splitting.{one-field, more_fields}
+use Rattle.lines.proofs.Splitting.{found, none_found, one-field, more_fields}
 use Rattle.numerals.proofs.Parts.{part_from}
 use Rattle.lines.proofs.command.after_letter.Goals as goal
 
-pub returns-then-rest-end : goal.returns-then-rest-end
+pub returns-in_err-end : goal.returns-in_err-end
 unfolding of_fields
-returns-then-rest-end c =
+returns-in_err-end c =
     let l = c.args.rest.now in
-    sym (ap (λ (fs : List (List ℕ)). of_fields ((c.args.letter ∷ []) ∷ fs))
-    (one-field l (rw (sym c.first_field-end.ensures) c.if-rest-end.true)))
-
-pub slice_bounds-after_field-end : goal.slice_bounds-after_field-end
-slice_bounds-after_field-end c = sym (length-take-le _ _ (omega arith))
+    c.from_residual.ensures
+    ∙ sym (ap (λ (fs : List (List ℕ)). of_fields ((c.args.letter ∷ []) ∷ fs)) (one-field l (none_found l c.in_err-end.ensures)))
 
 pub returns : goal.returns
 returns c =
     let l = c.args.rest.now in
-    let n = c.first_field-end.result in
+    let n = c.in_ok-end.end in
+    let f = found l n c.in_ok-end.ensures in
     c.after_field.ensures
-    ∙ rw (part_from l (n + 1)) (sym (ap (λ (fs : List (List ℕ)). of_fields ((c.args.letter ∷ []) ∷ fs))
-    (more_fields l n c.first_field-end.ensures c.if-rest-end.false)))
+    ∙ rw (part_from l (n + 1)) (sym (ap (λ (fs : List (List ℕ)). of_fields ((c.args.letter ∷ []) ∷ fs)) (more_fields l n f.0 f.1)))

@@ -1,49 +1,24 @@
 -- `read_field`: by the field's place.
--- Rests on the laws that it cites and on the contracts of what is called.
-use borrow.Author.Tests.{eq-eqb, ne_eqb}
+-- Rests on the contracts of what is called.
+use native.Mathlib.Omega.{arith}
+use Rattle.std.proofs.lemmas.Bool.Decides.{nat_tests}
 use Rattle.machine.specs.Choice.{when◌then◌else◌}
 use Rattle.commands.specs.Commands.{account_of}
-use Rattle.logs.specs.Log.{logged_account, logged_total, logged_answer, logged_answer_total}
 use Rattle.loglines.specs.Fields.{number64, field_word}
 use Rattle.loglines.proofs.field.read_field.Goals as goal
 
-pub returns-then-k-eq-LOGGED_ACCOUNT : goal.returns-then-k-eq-LOGGED_ACCOUNT
+pub returns-in-2 : goal.returns-in-2
 unfolding field_word account_of when◌then◌else◌
-returns-then-k-eq-LOGGED_ACCOUNT c = rw (eq-eqb _ logged_account c.if-k-eq-LOGGED_ACCOUNT.true) c.read_number.ensures
+returns-in-2 c = let e = c.in-2.is in let f = c.read_number.ensures in grind (arith, nat_tests)
 
-pub returns-then-k-eq-LOGGED_TOTAL : goal.returns-then-k-eq-LOGGED_TOTAL
+pub returns-in-3 : goal.returns-in-3
 unfolding field_word when◌then◌else◌
-returns-then-k-eq-LOGGED_TOTAL c =
-    rw (ne_eqb _ logged_account c.if-k-eq-LOGGED_ACCOUNT.false, eq-eqb _ logged_total c.if-k-eq-LOGGED_TOTAL.true) c.read_total.ensures
+returns-in-3 c = let e = c.in-3.is in let f = c.read_total.ensures in grind (arith, nat_tests)
 
-pub returns-then-k-eq-LOGGED_ANSWER : goal.returns-then-k-eq-LOGGED_ANSWER
+pub returns-in-4 : goal.returns-in-4
 unfolding field_word when◌then◌else◌
-returns-then-k-eq-LOGGED_ANSWER c =
-    rw (
-      ne_eqb _ logged_account c.if-k-eq-LOGGED_ACCOUNT.false,
-      ne_eqb _ logged_total c.if-k-eq-LOGGED_TOTAL.false,
-      eq-eqb _ logged_answer c.if-k-eq-LOGGED_ANSWER.true,
-    )
-    c.read_answer.ensures
+returns-in-4 c = let e = c.in-4.is in let f = c.read_answer.ensures in grind (arith, nat_tests)
 
-pub returns-then-k-eq-LOGGED_ANSWER_TOTAL : goal.returns-then-k-eq-LOGGED_ANSWER_TOTAL
-unfolding field_word when◌then◌else◌
-returns-then-k-eq-LOGGED_ANSWER_TOTAL c =
-    rw (
-      ne_eqb _ logged_account c.if-k-eq-LOGGED_ACCOUNT.false,
-      ne_eqb _ logged_total c.if-k-eq-LOGGED_TOTAL.false,
-      ne_eqb _ logged_answer c.if-k-eq-LOGGED_ANSWER.false,
-      eq-eqb _ logged_answer_total c.if-k-eq-LOGGED_ANSWER_TOTAL.true,
-    )
-    c.read_total-then-k-eq-LOGGED_ANSWER_TOTAL.ensures
-
-pub returns : goal.returns
+pub returns-in_default : goal.returns-in_default
 unfolding field_word number64 when◌then◌else◌
-returns c =
-    rw (
-      ne_eqb _ logged_account c.if-k-eq-LOGGED_ACCOUNT.false,
-      ne_eqb _ logged_total c.if-k-eq-LOGGED_TOTAL.false,
-      ne_eqb _ logged_answer c.if-k-eq-LOGGED_ANSWER.false,
-      ne_eqb _ logged_answer_total c.if-k-eq-LOGGED_ANSWER_TOTAL.false,
-    )
-    c.read_number-2.ensures
+returns-in_default c = let f = c.read_number-in_default.ensures in grind (arith, nat_tests)

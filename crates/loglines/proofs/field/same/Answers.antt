@@ -1,23 +1,25 @@
--- `same`: the bytes passed are the same.
-use mathlib.Core.Path.{refl, sym, ◌∙◌}
-use native.Mathlib.Omega.{arith}
-use borrow.Author.Rules.{rules}
-use Rattle.logs.proofs.SameLaws.{other_length, same_differ, same_next, same_end}
+-- `same` is the definition: the library's comparison is the same, byte by byte.
+use Prim.Native.Nat.{ℕ}
+use mathlib.Core.Path.{◌≡◌, refl, ◌∙◌}
+use mathlib.Core.Bool.{Bool, true, false, ◌&&◌}
+use mathlib.Core.List.{List, [], ◌∷◌}
+use lib.Dec.{eqb}
+use Rattle.std.specs.Cmp.Lexicographic.{pointwise}
+use Rattle.machine.specs.Choice.{◌and◌}
+use Rattle.logs.specs.Same.{same_numbers}
 use Rattle.loglines.proofs.field.same.Goals as goal
 
-pub returns-then-field-word : goal.returns-then-field-word
-returns-then-field-word c = sym (other_length _ _ c.if-field-word.true)
+both : (s t : Bool) → (s && t) ≡ s and t
+unfolding ◌and◌
+both true t = refl
+both false t = refl
 
-pub loop-i-init : goal.loop-i-init
-loop-i-init c = (search rules, refl)
-
-pub returns-then-field-i : goal.returns-then-field-i
-returns-then-field-i c =
-    sym (c.loop-i.invariant.1 ∙ same_differ _ _ c.loop-i.i (omega arith) (omega arith) c.if-field-i.true)
-
-pub loop-i-preserved : goal.loop-i-preserved
-loop-i-preserved c =
-    (search rules, c.loop-i.invariant.1 ∙ same_next _ _ c.loop-i.i (omega arith) (omega arith) c.if-field-i.false)
+by_byte : (x y : List ℕ) → pointwise eqb x y ≡ same_numbers x y
+unfolding same_numbers
+by_byte [] [] = refl
+by_byte [] (b ∷ y) = refl
+by_byte (a ∷ x) [] = refl
+by_byte (a ∷ x) (b ∷ y) = rw (by_byte x y) (both (eqb a b) (same_numbers x y))
 
 pub returns : goal.returns
-returns c = sym (c.loop-i.invariant.1 ∙ same_end _ _ c.loop-i.i (omega arith) (omega arith))
+returns c = c.eq.ensures ∙ by_byte _ _

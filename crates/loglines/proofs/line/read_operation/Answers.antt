@@ -14,7 +14,7 @@ use Rattle.loglines.proofs.LineLaws.{no_word_yet, too_few, next_unread, next_rea
 use Rattle.loglines.proofs.line.read_operation.Goals as goal
 
 pub loop-k-init : goal.loop-k-init
-loop-k-init c = (search rules, (search rules, (refl, no_word_yet _)))
+loop-k-init c = (search rules, (refl, no_word_yet _))
 
 pub returns-then-rest-end : goal.returns-then-rest-end
 unfolding row_of when◌then◌else◌
@@ -22,7 +22,7 @@ returns-then-rest-end c =
     let l = c.args.line.now in
     too_few _ _ _ c.loop-k-test.true
     (rw (part_from l c.loop-k.from) at (rw c.first_field-end.ensures at c.if-rest-end.true))
-    ∙ c.loop-k.invariant.1.1.1
+    ∙ c.loop-k.invariant.1.1
 
 pub slice_bounds-read_field-end : goal.slice_bounds-read_field-end
 slice_bounds-read_field-end c = sym (length-take-le _ _ (omega arith))
@@ -36,7 +36,7 @@ returns-in_default c =
     next_unread _ l from c.loop-k.k c.first_field-end.result (rw p at c.first_field-end.ensures)
     (rw p at c.if-rest-end.false)
     (number_none _ (sym c.in_default.is ∙ rw p at c.read_field.ensures))
-    ∙ c.loop-k.invariant.1.1.1
+    ∙ c.loop-k.invariant.1.1
 
 pub loop-k-preserved : goal.loop-k-preserved
 loop-k-preserved c =
@@ -50,14 +50,11 @@ loop-k-preserved c =
     let d = length-drop from l in (
       omega arith,
       (
-        omega arith,
-        (
-          length-set c.loop-k.words k w ∙ c.loop-k.invariant.1.1.0,
-          rw (add-one k, take-suc-set c.loop-k.words k w (omega arith), ← add-one k)
-              (next_read (take k c.loop-k.words) l from k n (rw p at c.first_field-end.ensures) h w
-              (number_some _ _ (sym c.in-Value.is ∙ rw p at c.read_field.ensures))
-              ∙ c.loop-k.invariant.1.1.1),
-        ),
+        length-set c.loop-k.words k w ∙ c.loop-k.invariant.1.0,
+        rw (add-one k, take-suc-set c.loop-k.words k w (omega arith), ← add-one k)
+            (next_read (take k c.loop-k.words) l from k n (rw p at c.first_field-end.ensures) h w
+            (number_some _ _ (sym c.in-Value.is ∙ rw p at c.read_field.ensures))
+            ∙ c.loop-k.invariant.1.1),
       ),
     )
 
@@ -65,4 +62,4 @@ pub returns : goal.returns
 returns c =
     let l = c.args.line.now in
     let e : c.loop-k.k ≡ 7 = omega arith in
-    c.last_field.ensures ∙ rw (part_from l c.loop-k.from) (rw e at c.loop-k.invariant.1.1.1)
+    c.last_field.ensures ∙ rw (part_from l c.loop-k.from) (rw e at c.loop-k.invariant.1.1)
