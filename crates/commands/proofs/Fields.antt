@@ -42,12 +42,12 @@ module _ {A : Type 0} (f : A → ℕ → Command) where
   of_pair_from (Some a) least None = refl
   of_pair_from (Some a) least (Some b) = tested (leb least b) a b
 
-second_read : (o p : Option ℕ) (a b : ℕ) → ◌≡◌ {A = Option (ℕ × ℕ)} (Some (a, b)) (option_zip o p) → p ≡ Some b
-second_read None p a b e = absurd (none-some _ (sym e))
-second_read (Some c) None a b e = absurd (none-some _ (sym e))
-second_read (Some c) (Some d) a b e = ap Some (sym (some_pair_parts a c b d e).1)
+pub both_read : (o p : Option ℕ) (a b : ℕ) → ◌≡◌ {A = Option (ℕ × ℕ)} (Some (a, b)) (option_zip o p) → (o ≡ Some a) × (p ≡ Some b)
+both_read None p a b e = absurd (none-some _ (sym e))
+both_read (Some c) None a b e = absurd (none-some _ (sym e))
+both_read (Some c) (Some d) a b e = let q = some_pair_parts a c b d e in (ap Some (sym q.0), ap Some (sym q.1))
 
 -- the second of two numbers read is within its limit
 pub second_limited : (o : Option ℕ) (most : ℕ) (p : Option ℕ) (a b : ℕ) → ◌≡◌ {A = Option (ℕ × ℕ)} (Some (a, b)) (option_zip o (up_to most p))
     → b ≤ most
-second_limited o most p a b e = limited most p b (second_read o (up_to most p) a b e)
+second_limited o most p a b e = limited most p b (both_read o (up_to most p) a b e).1
