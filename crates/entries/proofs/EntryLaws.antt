@@ -9,10 +9,13 @@ use mathlib.Core.Logic.{◌≢◌}
 use mathlib.Core.Bool.{Bool, true, false}
 use mathlib.Core.List.{List, [], ◌∷◌, ◌++◌, map, append-nil, map-append}
 use lib.Dec.{eqb}
-use lib.ListN.{length, set, length-append, length-map, length-set}
+use lib.ListN.{length, take, drop, get_or, set, length-append, length-map, length-set, length-drop}
 use lib.Pow.{pow_mono}
 use lib.IntN.{ℤ}
-use borrow.Author.Tests.{eq-eqb, ne_eqb}
+use borrow.Author.Tests.{eq-eqb, ne_eqb, eqb-true, eqb-false}
+use Rattle.std.specs.List.{count_by}
+use Rattle.std.proofs.lemmas.List.{get_or-drop}
+use Rattle.std.proofs.lemmas.List.Sums.{count_by_more_yes, count_by_more_no}
 use Rattle.interface.specs.declared.Settings.{Settings}
 use Rattle.fields.specs.Fields.{record_count, accounts_from, widest_record}
 use Rattle.machine.specs.Choice.{when◌then◌else◌}
@@ -67,6 +70,34 @@ module _ (l : List ℕ) (s : Settings) (e q : ℕ) where
   pub counted_more :
       (i : ℕ) → first_bits s.depth (word l (accounts_from q + i)) ≡ e → length (rows_in l s e q 0 (i + 1)) ≡ length (rows_in l s e q 0 i) + 1
   counted_more i h = ap length (rows_more i h) ∙ length-append (rows_in l s e q 0 i) (row_at l s q i ∷ [])
+
+  -- counted among the first c accounts
+  pub rows_counted :
+      (c : ℕ) → accounts_from q + c ≤ length l
+      → count_by (λ a. eqb (first_bits s.depth a) e) (take c (drop (accounts_from q) l)) ≡ length (rows_in l s e q 0 c)
+  unfolding rows_in
+  rows_counted zero h = refl
+  rows_counted (suc c) h =
+      by (eqb (first_bits s.depth (word l (accounts_from q + c))) e) refl (rows_counted c (omega arith))
+    where
+      there : get_or (drop (accounts_from q) l) c 0 ≡ word l (accounts_from q + c)
+      there = get_or-drop (accounts_from q) l c 0
+
+      inside : c < length (drop (accounts_from q) l)
+      inside = rw length-drop (omega arith)
+
+      by :
+          (t : Bool) → eqb (first_bits s.depth (word l (accounts_from q + c))) e ≡ t
+          → count_by (λ a. eqb (first_bits s.depth a) e) (take c (drop (accounts_from q) l)) ≡ length (rows_in l s e q 0 c)
+          → count_by (λ a. eqb (first_bits s.depth a) e) (take (suc c) (drop (accounts_from q) l)) ≡ length (rows_in l s e q 0 (suc c))
+      by true x ih =
+          let n = rw add-one at (count_by_more_yes (λ a. eqb (first_bits s.depth a) e) (drop (accounts_from q) l) c 0 inside (rw there x)) in
+          let m = rw add-one at (counted_more c (eqb-true _ _ x)) in
+          n ∙ ap (λ (k : ℕ). k + 1) ih ∙ sym m
+      by false x ih =
+          let n = rw add-one at (count_by_more_no (λ a. eqb (first_bits s.depth a) e) (drop (accounts_from q) l) c 0 inside (rw there x)) in
+          let m = rw add-one at (rows_same c (eqb-false _ _ x)) in
+          n ∙ ih ∙ sym (ap length m)
 
   -- no more rows than places, and more places give no fewer rows
   pub rows_limit : (i c : ℕ) → length (rows_in l s e q i c) ≤ c

@@ -2,7 +2,8 @@
 // counted and written.
 #![tactic(auto)]
 
-ghost use Rattle.std.specs.Prelude.{◌≡◌, ◌+◌, ◌^◌, ◌≤◌, ◌<◌, length};
+ghost use Rattle.std.specs.Prelude.{◌≡◌, ◌==◌, ◌+◌, ◌^◌, ◌≤◌, ◌<◌, length, count_by};
+ghost use Rattle.machine.specs.Sequential.{first_bits};
 ghost use Rattle.layout.specs.Shape.{Fits};
 ghost use Rattle.sorting.specs.RowLists.{RowsWritten};
 ghost use Rattle.entries.specs.Entries.{entry_record, rows_of};
@@ -28,13 +29,18 @@ pub fn count_in(words: &[u64], g: Settings, e: usize) -> usize
 {
     let q = entry_record(words, g, e);
     let c = size(words, g, q);
-    let mut k: usize = 0;
-    for i in 0..c {
-        if first_bits(g.depth, memory::get(words, q + RECORD_ACCOUNTS + i)) == e as u64 {
-            k += 1;
-        }
-    }
-    k
+    let from = q + RECORD_ACCOUNTS;
+    count_of(&words[from..from + c], g.depth, e as u64)
+}
+
+// How many accounts have these first bits.
+fn count_of(accounts: &[u64], depth: u64, bits: u64) -> usize
+    ensures { result ≡ count_by (λ a. first_bits depth a == bits) accounts.now }
+{
+    accounts
+        .iter()
+        .filter(|a| first_bits(depth, **a) == bits)
+        .count()
 }
 
 // The rows of entry e, written from position k on; the position after them.

@@ -131,12 +131,12 @@ other_called l w kind a v =
     other : List ℕ × Result ⊤ Refusal → Type 0
     other x = OtherReply (of_done x.1)
 
-other_last : (l : List ℕ) (k : ℕ) (x : Result Stepped Refusal) (later : List ℕ × Result Ran Refusal) → OtherReply (of_ran later.1)
+other_last : (l : List ℕ) (k : ℕ) (x : Stepped) (later : List ℕ × Result Ran Refusal) → OtherReply (of_ran later.1)
     → OtherReply (of_ran (or_else l (last_of k x) later).1)
 unfolding or_else last_of of_ran
-other_last l k (Ok Stepped.Moved) later h = h
-other_last l k (Ok (Stepped.Answered c)) later h = tt
-other_last l k (Err r) later h = tt
+other_last l k Stepped.Moved later h = h
+other_last l k (Stepped.Answered c) later h = tt
+other_last l k (Stepped.Refused r) later h = tt
 
 other_run : (f : ℕ) (l : List ℕ) (s : Settings) (w k : ℕ) → OtherReply (of_ran (run_in l s w k f).1)
 unfolding run_in of_ran

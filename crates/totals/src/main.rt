@@ -40,9 +40,9 @@ fn take(
     requires { longest ≤ length out.old }
 {
     let mut reader = reader;
-    let mut from: usize = 0;
-    while from < block.len() {
-        let fed = driver::feed(words, accounts, totals, out, reader, &block[from..]);
+    let mut rest = block;
+    while !rest.is_empty() {
+        let fed = driver::feed(words, accounts, totals, out, reader, rest);
         reader = fed.reader;
         let used = fed.used;
         if !write(rt, &out[..used]) {
@@ -51,7 +51,7 @@ fn take(
                 more: false,
             };
         }
-        from += fed.taken;
+        rest = &rest[fed.taken..];
     }
     Progress { reader, more: true }
 }

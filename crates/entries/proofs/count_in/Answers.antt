@@ -1,38 +1,40 @@
 -- `count_in` counts the rows of one entry.
-use native.Mathlib.Omega.{arith}
-use mathlib.Core.Path.{refl, sym, ◌∙◌, ap}
+use Prim.Native.Nat.{◌+◌, ◌-◌, ◌≤◌}
+use mathlib.Core.Path.{◌≡◌, ◌∙◌, ap}
 use lib.ListN.{length}
-use Rattle.entries.specs.Entries.{rows_in}
-use Rattle.entries.proofs.EntryLaws.{looked, entry_inside, same_bits, rows_same, counted_more, counted_end}
+use native.Mathlib.Omega.{arith}
 use borrow.Author.Rules.{rules}
+use Rattle.entries.proofs.EntryLaws.{Looked, looked, entry_inside, rows_counted}
 use Rattle.entries.proofs.count_in.Goals as goal
-use Rattle.entries.proofs.count_in.Goals.{then-first_bits-e, else-first_bits-e}
+use Rattle.entries.proofs.count_in.Goals.{After-size-c}
 
 pub size-c-requires : goal.size-c-requires
 size-c-requires c = (c.requires.0, entry_inside _ _ c.requires.0 c.entry_record-q.ensures)
 
-pub loop-i-init : goal.loop-i-init
-unfolding rows_in
-loop-i-init c =
-    record { looked = looked _ _ _ c.requires.0 c.entry_record-q.ensures c.size-c.ensures; few = search rules; count = refl }
+known : (c : After-size-c) → Looked c.args.words.now c.args.g c.args.e c.entry_record-q.result c.size-c.result
+known c = looked _ _ _ c.requires.0 c.entry_record-q.ensures c.size-c.ensures
 
-pub loop-i-preserved : goal.loop-i-preserved
-loop-i-preserved c =
-    let s = c.args in
-    let l = c.loop-i in
-    let q = c.entry_record-q.result in
-    let same = same_bits s.words.now s.g q l.i _ _ c.get.ensures c.first_bits.ensures in
-    record {
-      looked = l.invariant.looked;
-      few = elim c.if-first_bits-e.branch [ then-first_bits-e w ↦ omega arith | else-first_bits-e w ↦ omega arith ];
-      count = elim c.if-first_bits-e.branch [
-        | then-first_bits-e w ↦
-            omega (arith, counted_more s.words.now s.g s.e q l.i (sym same ∙ w.if-first_bits-e.true))
-        | else-first_bits-e w ↦
-            w.k-is ∙ l.invariant.count ∙ ap length
-            (sym (rows_same s.words.now s.g s.e q l.i (λ h. w.if-first_bits-e.false (same ∙ h))))
-      ];
-    }
+pub overflow_add-from : goal.overflow_add-from
+overflow_add-from c = let k = known (goal.at.overflow_add-from c).After-size-c in omega (arith, k.inside, c.well_formed)
+
+pub overflow_add-from-2 : goal.overflow_add-from-2
+overflow_add-from-2 c = let k = known (goal.at.overflow_add-from-2 c).After-size-c in omega (arith, k.inside, k.few, c.well_formed)
+
+pub offset_bounds-words-from : goal.offset_bounds-words-from
+offset_bounds-words-from c =
+    let k = known (goal.at.offset_bounds-words-from c).After-size-c in omega (arith, k.inside, k.few, c.well_formed)
+
+pub slice_bounds-count_of-end : goal.slice_bounds-count_of-end
+slice_bounds-count_of-end c =
+    let k = known (goal.at.slice_bounds-count_of-end c).After-size-c in
+    let h : c.entry_record-q.result + 6 + c.size-c.result ≤ length c.args.words.now = omega (arith, k.inside, k.few) in
+    search rules
 
 pub returns : goal.returns
-returns c = let l = c.loop-i in counted_end l.i l.k l.invariant.looked l.invariant.count l.auto.i-end c.loop-i-test.false
+returns c =
+    let s = c.args in
+    let q = c.entry_record-q.result in
+    let n = c.size-c.result in
+    let k = known (goal.at.returns c).After-size-c in
+    let e : q + 6 + n - (q + 6) ≡ n = omega arith in
+    rw e at c.count_of.ensures ∙ rows_counted s.words.now s.g s.e q n (omega (arith, k.inside, k.few)) ∙ ap length k.all
