@@ -12,7 +12,6 @@ use borrow.Author.Tests.{eqb-true}
 use Rattle.interface.specs.Numbers.{bytes, answer_word}
 use Rattle.interface.specs.declared.Answer.{Answer}
 use Rattle.interface.specs.declared.Answer.TheVariants.{Added, Replaced, Removed, Absent, Found, Posted, Crowded, Overrun}
-use Rattle.interface.specs.declared.Answer.TheVariants as Answer
 use Rattle.machine.proofs.laws.Base.{if_elim}
 use Rattle.numerals.proofs.NumeralLaws.{some_none, passed}
 use Rattle.commands.specs.Commands.{small_of, total_of}
