@@ -1,6 +1,6 @@
 -- No line is met with `refused 10`, whatever the words: only a listing could be, and its lists are long enough. Rests on the count of
 -- rows, and on what is printed.
-use Prim.Native.Nat.{ℕ, zero, suc, ◌+◌, ◌/◌, ◌%◌, ◌≤◌, ◌<◌}
+use Prim.Native.Nat.{ℕ, zero, suc, ◌/◌, ◌%◌, ◌≤◌, ◌<◌}
 use native.Mathlib.Omega.{arith}
 use native.Mathlib.Decide.{dec_lt}
 use mathlib.Core.Path.{◌≡◌, refl, ap, sym, ◌∙◌}
@@ -36,7 +36,7 @@ use Rattle.responses.specs.Answers.{is_list}
 use Rattle.texts.specs.Texts.{rows_text, listing_text, text_on, words_on, ended, reader_after, last_feed}
 use Rattle.lines.specs.Reading.{fresh}
 use Rattle.session.specs.Program.{NeverNarrowOn, NeverNarrow}
-use Rattle.std.specs.Prelude.{Result, Ok, Err, ⊤}
+use Rattle.std.specs.Prelude.{Option, Some, None, Result, Ok, Err, ⊤}
 
 -- ---- texts that are not `refused 10`
 
@@ -162,7 +162,6 @@ other_response l (Command.Lookup w a) = other_called l w kind_lookup a _
 other_response l (Command.Post w a v) = other_called l w kind_post a v
 other_response l (Command.Steps w k) = other_ran l w k
 other_response l Command.List = tt
-other_response l Command.Unread = tt
 
 -- ---- the listing
 
@@ -178,13 +177,14 @@ listing_another l =
     if_elim Another (strange l) _ _ (λ e. reply_another (Reply.Refused (number_of Refusal.Strange)) (omega arith))
     (λ e. rows_text_another _ (rows_few l e))
 
--- ---- every command, on any words
+-- ---- every line, on any words
 
-text_another : (l : List ℕ) (c : Command) → Another (text_on l 4_096 4_096 c)
+text_another : (l : List ℕ) (c : Option Command) → Another (text_on l 4_096 4_096 c)
 unfolding text_on
-text_another l c = if_elim Another (is_list c) _ _ (λ e. listing_another l) (λ e. reply_another _ (other_response l c))
+text_another l None = reply_another Reply.Unread tt
+text_another l (Some c) = if_elim Another (is_list c) _ _ (λ e. listing_another l) (λ e. reply_another _ (other_response l c))
 
-never_narrow_on : (cs : List Command) (l : List ℕ) → NeverNarrowOn l cs
+never_narrow_on : (cs : List (Option Command)) (l : List ℕ) → NeverNarrowOn l cs
 never_narrow_on [] l = tt
 never_narrow_on (c ∷ cs) l = (text_another l c, never_narrow_on cs (words_on l c))
 

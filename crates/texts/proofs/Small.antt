@@ -162,4 +162,7 @@ small_response l (Command.Lookup w a) = small_called _
 small_response l (Command.Post w a v) = small_called _
 small_response l (Command.Steps w k) = small_ran l w k
 small_response l Command.List = tt
-small_response l Command.Unread = tt
+
+pub small_unread : small_reply Reply.Unread
+unfolding small_reply
+small_unread = tt
