@@ -14,6 +14,7 @@ pub const ARRAY_SIZE: usize = Settings::GREATEST_CAPACITY as usize;
 // Accounts ascending with their totals, the first `count` of each; per worker the last settled ticket with its answer's
 // number and the total that it has, 0 where it has none; one applied bit per worker. A count above the arrays' size is
 // read as their size.
+// Kept as arrays with a count: document 01 names this form, a struct by value with these arrays.
 #[derive(Clone, Copy)]
 pub struct BucketState {
     pub accounts: [u64; ARRAY_SIZE],
