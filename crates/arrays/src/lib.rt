@@ -8,7 +8,7 @@ ghost use Rattle.interface.specs.Limits.{greatest_capacity};
 ghost use Rattle.arrays.specs.Arrays.{inserted_in, removed_from, scan};
 
 // Where an account stands among ascending accounts, or before which it belongs: document 02's place found, in a byte.
-// Kept beside `Result<u8, u8>` of a binary search: At and Before say what Ok and Err would not, and neither is an error.
+// Kept beside the `Result<u8, u8>` of a binary search: neither of the two is an error, as Ok and Err would have it.
 #[derive(Clone, Copy)]
 pub enum Position {
     At(u8),

@@ -25,8 +25,8 @@ fn write(rt: &(impl Print + Eprint), bytes: &[u8]) -> Option<()> {
 }
 
 impl Lent {
-    // Answers a block of input, a part at a time, so that the output always has room; the output of each part is written
-    // at once. The reader of the line that is not ended yet, or nothing where an output could not be written.
+    // Answers a block of input, a part at a time, so that the output always has room; each part's output is written at
+    // once. The reader of the line that is not ended yet, or nothing where an output could not be written.
     fn take(
         &mut self,
         rt: &(impl Print + Eprint),
