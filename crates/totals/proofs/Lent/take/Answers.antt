@@ -10,6 +10,7 @@ use lib.Dec.{eqb}
 use lib.ListN.{length, take, drop, length-drop}
 use lib.Seq.{length-take-le}
 use borrow.Author.Tests.{eqb-false}
+use Rattle.outputs.specs.Room.{longest}
 use Rattle.driver.proofs.Bounds.{used_after, most_after, first_after}
 use Rattle.totals.proofs.Lent.take.Given.{Over}
 use Rattle.totals.proofs.Lent.take.Goals as goal
@@ -28,17 +29,17 @@ shorter l t h k = rw (length-take-le (length l - t) (drop t l) (omega (arith, le
 
 -- a byte at least is taken, and none past the rest
 taken_in : (g : Over) → (c : After-feed-fed g) → (0 < c.feed-fed.result.taken) × (c.feed-fed.result.taken ≤ length c.loop-rest.rest.now)
+unfolding longest
 taken_in g c =
     let most = most_after _ _ _ c.feed-fed.ensures in
     let some : 0 < length c.loop-rest.rest.now = has_some _ (sym c.is_empty.ensures ∙ c.loop-rest-test.true) in
     (first_after _ _ _ c.feed-fed.ensures (omega arith) (omega arith), omega arith)
 
-pub slice_bounds-write-end : goal.slice_bounds-write-end
-slice_bounds-write-end g c = used_in g (goal.at.slice_bounds-write-end g c).After-feed-fed
+pub shared_ref_as_front-write : goal.shared_ref_as_front-write
+shared_ref_as_front-write g c = let h = used_in g (goal.at.shared_ref_as_front-write g c).After-feed-fed in omega arith
 
-pub slice_bounds-write-end-in-loop-rest : goal.slice_bounds-write-end-in-loop-rest
-slice_bounds-write-end-in-loop-rest g c =
-    sym (length-take-le _ _ (used_in g (goal.at.slice_bounds-write-end-in-loop-rest g c).After-feed-fed))
+pub slice_bounds-write-end : goal.slice_bounds-write-end
+slice_bounds-write-end g c = sym (length-take-le _ _ (used_in g (goal.at.slice_bounds-write-end g c).After-feed-fed))
 
 pub slice_bounds-rest-count : goal.slice_bounds-rest-count
 slice_bounds-rest-count g c = let h = taken_in g (goal.at.slice_bounds-rest-count g c).After-feed-fed in omega arith
