@@ -111,14 +111,15 @@ impl BucketState {
     pub fn settle(self, j: usize, ticket: u64, answer: u64, total: u64) -> BucketState
         ensures { result ≡ settle_of self j ticket answer total }
     {
+        if ARRAY_SIZE <= j {
+            return self;
+        }
         let mut settled = self.settled;
         let mut answers = self.answers;
         let mut posted = self.posted;
-        if j < ARRAY_SIZE {
-            settled[j] = ticket;
-            answers[j] = answer;
-            posted[j] = total;
-        }
+        settled[j] = ticket;
+        answers[j] = answer;
+        posted[j] = total;
         BucketState {
             settled,
             answers,

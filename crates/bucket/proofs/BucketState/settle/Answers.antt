@@ -7,23 +7,20 @@ use lib.Seq.{set_out}
 use borrow.Author.Rules.{rules}
 use Rattle.bucket.specs.State.{array_size, settle_of}
 use Rattle.bucket.proofs.BucketState.settle.Goals as goal
-use Rattle.bucket.proofs.BucketState.settle.Goals.{then-j-lt-ARRAY_SIZE, else-j-lt-ARRAY_SIZE}
 
 pub returns : goal.returns
 unfolding settle_of
-returns c =
+returns c = search rules
+
+pub returns-then-j-ge-ARRAY_SIZE : goal.returns-then-j-ge-ARRAY_SIZE
+unfolding settle_of
+returns-then-j-ge-ARRAY_SIZE c =
     let s = c.args in
     let settled : length s.self.settled ≡ array_size = search rules in
     let answers : length s.self.answers ≡ array_size = search rules in
     let posted : length s.self.posted ≡ array_size = search rules in
-    elim c.if-j-lt-ARRAY_SIZE.branch [
-      | then-j-lt-ARRAY_SIZE w ↦ rw (w.settled-is, w.answers-is, w.posted-is)
-      | else-j-lt-ARRAY_SIZE w ↦ rw (
-        w.settled-is,
-        w.answers-is,
-        w.posted-is,
-        set_out s.self.settled s.j s.ticket (omega arith),
-        set_out s.self.answers s.j s.answer (omega arith),
-        set_out s.self.posted s.j s.total (omega arith),
-      )
-    ]
+    rw (
+      set_out s.self.settled s.j s.ticket (omega arith),
+      set_out s.self.answers s.j s.answer (omega arith),
+      set_out s.self.posted s.j s.total (omega arith),
+    )
