@@ -26,7 +26,7 @@ pub struct BucketState {
     pub applied: u64,
 }
 
-// Kept: arrays change in locals, for `..self`: `mut self` copies all five, and a put takes 844 instructions, not 670.
+// Kept: arrays change in locals, for `..self`: `mut self` copies all five, and a put takes 844 instructions, not 675.
 impl BucketState {
     // How many accounts: at most as many as an array has items.
     pub fn size(self) -> usize
