@@ -1,7 +1,7 @@
 // One operation on a bucket record, by the proved library or by the same source compiled as Rust.
 use crate::same;
 
-extern "C" {
+unsafe extern "C" {
     fn leaf(
         p: *mut u64,
         len: usize,

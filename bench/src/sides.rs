@@ -51,7 +51,7 @@ pub trait Table {
     fn export(&self, out: &mut [u8]) -> usize;
 }
 
-extern "C" {
+unsafe extern "C" {
     fn totals_words_needed(workers: u64, capacity: u64, depth: u64) -> u64;
     fn totals_open(words: *mut u64, len: usize, workers: u64, capacity: u64, depth: u64) -> u64;
     fn totals_call(

@@ -51,8 +51,8 @@ call_words l w kind a v =
 -- ---- the end of an operation
 
 -- the operation of the worker at p ended, after k own steps before this one, at check c, 0 where it is no update
-unfoldable pub ended_at : List ℕ → ℕ → ℕ → ℕ → Answer → List ℕ × Result Stepped Refusal
+unfoldable pub ended_at : List ℕ → ℕ → ℕ → ℕ → Answer → List ℕ × Stepped
 ended_at l p k c a = (
   set (set l (p + worker_kind) kind_none) (p + worker_steps) 0,
-  Ok (Stepped.Answered (record { answer = a; steps = k + 1; check = c })),
+  Stepped.Answered (record { answer = a; steps = k + 1; check = c }),
 )

@@ -1,6 +1,6 @@
 // The calls of `table`, and the judgement of a log, as flat functions for C: an answer is a number, and what does not
-// fit into the number goes into a report, both by crate numbers. Each takes any words and any arguments; its contract is
-// an equality with a definition. Crate capi_c exports them to C.
+// fit into the number goes into a report, both by crate numbers. Each takes any words and any arguments; its contract
+// is an equality with a definition. Crate capi_c exports them to C.
 #![tactic(auto)]
 
 ghost use Rattle.std.specs.Prelude.{◌≡◌};

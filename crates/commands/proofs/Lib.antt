@@ -1,2 +1,3 @@
--- Laws of two numbers read together. They rest on the definitions of specs/.
-pub mod Pairs
+-- Laws of fields read together and of the letters. They rest on the definitions of specs/.
+pub mod Fields
+pub mod Letters

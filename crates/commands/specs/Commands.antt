@@ -3,11 +3,10 @@
 -- `P w account amount`, an amount being ranged and read like a total". Rests on specs/Numerals of crate numerals and
 -- the enum of commands.
 use Rattle.std.specs.Prelude.{ℕ, List, eqb, ℤ, Option, Some, None}
-use Rattle.interface.specs.Numbers.{kind_delete, kind_lookup, kind_post}
 use Rattle.machine.specs.Choice.{when◌then◌else◌}
 use Rattle.machine.specs.Script.{Line, O, I, D, L, P, S, T}
 use Rattle.commands.specs.declared.Command.{Command}
-use Rattle.commands.specs.declared.Command.TheVariants.{Open, Insert, Delete, Lookup, Post, Steps, List as Listing, Unread}
+use Rattle.commands.specs.declared.Command.TheVariants.{Open, Insert, Delete, Lookup, Post, Steps, List as Listing}
 use Rattle.numerals.specs.Numerals.{numeral, signed_numeral, up_to, from, in64}
 
 -- ---- what a field has to be
@@ -69,69 +68,60 @@ abbrev pub list_letter : ℕ
 list_letter = 84
 
 -- a command of two fields, or of three, each of which has to be read
-unfoldable pub with2 : {A B : Type 0} → (A → B → Command) → Option A → Option B → Command
-with2 f None b = Unread
-with2 f (Some a) None = Unread
-with2 f (Some a) (Some b) = f a b
+unfoldable pub with2 : {A B : Type 0} → (A → B → Command) → Option A → Option B → Option Command
+with2 f None b = None
+with2 f (Some a) None = None
+with2 f (Some a) (Some b) = Some (f a b)
 
-unfoldable pub with3 : {A B C : Type 0} → (A → B → C → Command) → Option A → Option B → Option C → Command
-with3 f None b c = Unread
-with3 f (Some a) None c = Unread
-with3 f (Some a) (Some b) None = Unread
-with3 f (Some a) (Some b) (Some c) = f a b c
+unfoldable pub with3 : {A B C : Type 0} → (A → B → C → Command) → Option A → Option B → Option C → Option Command
+with3 f None b c = None
+with3 f (Some a) None c = None
+with3 f (Some a) (Some b) None = None
+with3 f (Some a) (Some b) (Some c) = Some (f a b c)
 
 -- `T`
-unfoldable pub one_field : ℕ → Command
-one_field letter = when eqb letter list_letter then Listing else Unread
+unfoldable pub one_field : ℕ → Option Command
+one_field letter = when eqb letter list_letter then Some Listing else None
 
 -- `O n b M`, `I w account total`, `D w account`, `L w account`, `P w account amount`, `S w k`
-abbrev pub open_command : List ℕ → List ℕ → List ℕ → Command
+abbrev pub open_command : List ℕ → List ℕ → List ℕ → Option Command
 open_command x y z = with3 Open (small_of x) (small_of y) (small_of z)
 
-abbrev pub insert_command : List ℕ → List ℕ → List ℕ → Command
+abbrev pub insert_command : List ℕ → List ℕ → List ℕ → Option Command
 insert_command x y z = with3 Insert (small_of x) (account_of y) (total_of z)
 
-abbrev pub delete_command : List ℕ → List ℕ → Command
+abbrev pub delete_command : List ℕ → List ℕ → Option Command
 delete_command x y = with2 Delete (small_of x) (account_of y)
 
-abbrev pub lookup_command : List ℕ → List ℕ → Command
+abbrev pub lookup_command : List ℕ → List ℕ → Option Command
 lookup_command x y = with2 Lookup (small_of x) (account_of y)
 
-abbrev pub post_command : List ℕ → List ℕ → List ℕ → Command
+abbrev pub post_command : List ℕ → List ℕ → List ℕ → Option Command
 post_command x y z = with3 Post (small_of x) (account_of y) (amount_of z)
 
-abbrev pub steps_command : List ℕ → List ℕ → Command
+abbrev pub steps_command : List ℕ → List ℕ → Option Command
 steps_command x y = with2 Steps (small_of x) (steps_of y)
 
--- an operation by its kind; z counts for a post and an insert alone
-unfoldable pub operation_command : ℕ → List ℕ → List ℕ → List ℕ → Command
-operation_command kind x y z =
-    when eqb kind kind_delete then delete_command x y
-    else when eqb kind kind_lookup then lookup_command x y
-    else when eqb kind kind_post then post_command x y z
-    else insert_command x y z
-
-unfoldable pub three_fields : ℕ → List ℕ → List ℕ → Command
+unfoldable pub three_fields : ℕ → List ℕ → List ℕ → Option Command
 three_fields letter x y =
     when eqb letter delete_letter then delete_command x y
     else when eqb letter lookup_letter then lookup_command x y
     else when eqb letter steps_letter then steps_command x y
-    else Unread
+    else None
 
-unfoldable pub four_fields : ℕ → List ℕ → List ℕ → List ℕ → Command
+unfoldable pub four_fields : ℕ → List ℕ → List ℕ → List ℕ → Option Command
 four_fields letter x y z =
     when eqb letter open_letter then open_command x y z
     else when eqb letter insert_letter then insert_command x y z
     else when eqb letter post_letter then post_command x y z
-    else Unread
+    else None
 
--- the line of the machine's script that a command is; none for one that is unread
-unfoldable pub line_of : Command → Option Line
-line_of (Open n b M) = Some (O n b M)
-line_of (Insert w a t) = Some (I w a t)
-line_of (Delete w a) = Some (D w a)
-line_of (Lookup w a) = Some (L w a)
-line_of (Post w a v) = Some (P w a v)
-line_of (Steps w k) = Some (S w k)
-line_of Listing = Some T
-line_of Unread = None
+-- the line of the machine's script that a command is
+unfoldable pub line_of : Command → Line
+line_of (Open n b M) = O n b M
+line_of (Insert w a t) = I w a t
+line_of (Delete w a) = D w a
+line_of (Lookup w a) = L w a
+line_of (Post w a v) = P w a v
+line_of (Steps w k) = S w k
+line_of Listing = T

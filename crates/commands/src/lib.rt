@@ -3,13 +3,13 @@
 #![tactic(auto)]
 
 ghost use Rattle.std.specs.Prelude.{◌≡◌};
-ghost use Rattle.numerals.specs.Numerals.{numeral, up_to, as_pair};
-ghost use Rattle.commands.specs.Commands.{three_fields, four_fields, open_command, operation_command, steps_command, small_of};
+ghost use Rattle.std.specs.Option.{option_zip};
+ghost use Rattle.numerals.specs.Numerals.{numeral, up_to};
+ghost use Rattle.commands.specs.Commands.{three_fields, four_fields, open_command, insert_command, delete_command, lookup_command, post_command, steps_command, small_of, account_of};
 
-use interface::{KIND_DELETE, KIND_INSERT, KIND_LOOKUP, KIND_POST};
-use numerals::{Number, Pair, Signed, read_number, read_signed};
+use numerals::{read_number, read_signed};
 
-// What a line asks for. Unread is a line that is none of the others.
+// What a line asks for.
 #[derive(Clone, Copy)]
 pub enum Command {
     // n, b, M
@@ -25,7 +25,6 @@ pub enum Command {
     // w, k
     Steps(u64, u64),
     List,
-    Unread,
 }
 
 // The limits of specs/Commands, by the same names: the greatest w, n, b and M; of accounts; of steps.
@@ -38,86 +37,92 @@ const LEAST_STEPS: u64 = 1;
 const GREATEST_STEPS: u64 = 9999;
 
 // The command of a letter and two fields.
-pub fn three_fields(letter: u8, x: &[u8], y: &[u8]) -> Command
+#[tactic(auto, using(crate::proofs::Letters::letters_of_three))]
+pub fn three_fields(letter: u8, x: &[u8], y: &[u8]) -> Option<Command>
     ensures { result ≡ three_fields letter x.now y.now }
 {
     match letter {
-        b'D' => operation(KIND_DELETE, x, y, b""),
-        b'L' => operation(KIND_LOOKUP, x, y, b""),
+        b'D' => delete(x, y),
+        b'L' => lookup(x, y),
         b'S' => steps(x, y),
-        _ => Command::Unread,
+        _ => None,
     }
 }
 
 // The command of a letter and three fields.
-pub fn four_fields(letter: u8, x: &[u8], y: &[u8], z: &[u8]) -> Command
+#[tactic(auto, using(crate::proofs::Letters::letters_of_four))]
+pub fn four_fields(letter: u8, x: &[u8], y: &[u8], z: &[u8]) -> Option<Command>
     ensures { result ≡ four_fields letter x.now y.now z.now }
 {
     match letter {
         b'O' => open(x, y, z),
-        b'I' => operation(KIND_INSERT, x, y, z),
-        b'P' => operation(KIND_POST, x, y, z),
-        _ => Command::Unread,
+        b'I' => insert(x, y, z),
+        b'P' => post(x, y, z),
+        _ => None,
     }
 }
 
-fn open(x: &[u8], y: &[u8], z: &[u8]) -> Command
+fn open(x: &[u8], y: &[u8], z: &[u8]) -> Option<Command>
     ensures { result ≡ open_command x.now y.now z.now }
 {
-    let Pair::Values(n, b) = read_pair(x, y, GREATEST_SMALL) else {
-        return Command::Unread;
-    };
-    let Number::Value(m) = read_number(z, GREATEST_SMALL) else {
-        return Command::Unread;
-    };
-    Command::Open(n, b, m)
+    let (n, b) = read_pair(x, y, GREATEST_SMALL)?;
+    let m = read_number(z, GREATEST_SMALL)?;
+    Some(Command::Open(n, b, m))
 }
 
-// A delete, a lookup, a post or, for any other kind, an insert; z is the amount of a post or the total of an insert and
-// is else not read.
-fn operation(kind: u64, x: &[u8], y: &[u8], z: &[u8]) -> Command
-    ensures { result ≡ operation_command kind x.now y.now z.now }
+fn insert(x: &[u8], y: &[u8], z: &[u8]) -> Option<Command>
+    ensures { result ≡ insert_command x.now y.now z.now }
 {
-    let Pair::Values(w, account) = read_pair(x, y, GREATEST_ACCOUNT) else {
-        return Command::Unread;
-    };
-    let account = account as u32;
-    if kind == KIND_DELETE {
-        return Command::Delete(w, account);
-    }
-    if kind == KIND_LOOKUP {
-        return Command::Lookup(w, account);
-    }
-    let Signed::Value(total) = read_signed(z) else {
-        return Command::Unread;
-    };
-    if kind == KIND_POST {
-        return Command::Post(w, account, total);
-    }
-    Command::Insert(w, account, total)
+    let (w, account) = worker_and_account(x, y)?;
+    let total = read_signed(z)?;
+    Some(Command::Insert(w, account, total))
 }
 
-fn steps(x: &[u8], y: &[u8]) -> Command
+fn delete(x: &[u8], y: &[u8]) -> Option<Command>
+    ensures { result ≡ delete_command x.now y.now }
+{
+    let (w, account) = worker_and_account(x, y)?;
+    Some(Command::Delete(w, account))
+}
+
+fn lookup(x: &[u8], y: &[u8]) -> Option<Command>
+    ensures { result ≡ lookup_command x.now y.now }
+{
+    let (w, account) = worker_and_account(x, y)?;
+    Some(Command::Lookup(w, account))
+}
+
+fn post(x: &[u8], y: &[u8], z: &[u8]) -> Option<Command>
+    ensures { result ≡ post_command x.now y.now z.now }
+{
+    let (w, account) = worker_and_account(x, y)?;
+    let amount = read_signed(z)?;
+    Some(Command::Post(w, account, amount))
+}
+
+fn steps(x: &[u8], y: &[u8]) -> Option<Command>
     ensures { result ≡ steps_command x.now y.now }
 {
-    let Pair::Values(w, k) = read_pair(x, y, GREATEST_STEPS) else {
-        return Command::Unread;
-    };
+    let (w, k) = read_pair(x, y, GREATEST_STEPS)?;
     if k < LEAST_STEPS {
-        return Command::Unread;
+        return None;
     }
-    Command::Steps(w, k)
+    Some(Command::Steps(w, k))
+}
+
+// A worker and an account.
+fn worker_and_account(x: &[u8], y: &[u8]) -> Option<(u64, u32)>
+    ensures { result ≡ option_zip (small_of x.now) (account_of y.now) }
+{
+    let (w, account) = read_pair(x, y, GREATEST_ACCOUNT)?;
+    Some((w, account as u32))
 }
 
 // The first number of a command and the one after it, which is at most `most`.
-pub fn read_pair(x: &[u8], y: &[u8], most: u64) -> Pair
-    ensures { result ≡ as_pair (small_of x.now) (up_to most (numeral y.now)) }
+pub fn read_pair(x: &[u8], y: &[u8], most: u64) -> Option<(u64, u64)>
+    ensures { result ≡ option_zip (small_of x.now) (up_to most (numeral y.now)) }
 {
-    let Number::Value(first) = read_number(x, GREATEST_SMALL) else {
-        return Pair::Nothing;
-    };
-    let Number::Value(second) = read_number(y, most) else {
-        return Pair::Nothing;
-    };
-    Pair::Values(first, second)
+    let first = read_number(x, GREATEST_SMALL)?;
+    let second = read_number(y, most)?;
+    Some((first, second))
 }

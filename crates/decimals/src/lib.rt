@@ -7,6 +7,7 @@ ghost use Rattle.decimals.specs.Decimals.{digits, digit_count, most_digits};
 ghost use Rattle.decimals.specs.Signs.{sign_of, decimal_text};
 
 // A number to be written in decimal: its sign and its size.
+// Kept: the sign is no flag that says whether the size counts; both always do.
 #[derive(Clone, Copy)]
 pub struct Decimal {
     pub minus: bool,

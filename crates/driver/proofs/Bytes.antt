@@ -3,6 +3,7 @@ use Prim.Native.Nat.{ℕ, zero, suc, ◌+◌, ◌≤◌, ◌<◌}
 use mathlib.Core.Path.{◌≡◌}
 use mathlib.Core.Bool.{Bool, true, false}
 use mathlib.Core.List.{List, [], ◌∷◌}
+use Rattle.std.specs.Prelude.{Option}
 use native.Mathlib.Numerals.{add-one}
 use native.Mathlib.Omega.{arith}
 use lib.IntN.{ℤ}
@@ -26,7 +27,7 @@ same_feeding i e f g h k m = rw (e, f, g, h, k, m)
 
 -- the next byte, by what it is
 module _ (f : Feeding) (b : ℕ) where
-  pub took_line : (s : DriverState) (c : Command) (r : Reader) → b ≡ 10 → c ≡ command_in f.reader → s ≡ answered f.state c → r ≡ fresh
+  pub took_line : (s : DriverState) (c : Option Command) (r : Reader) → b ≡ 10 → c ≡ command_in f.reader → s ≡ answered f.state c → r ≡ fresh
       → ◌≡◌ {A = Feeding} (record { state = s; reader = r; taken = f.taken + 1 }) (took f b)
   unfolding took when◌then◌else◌
   took_line s c r e g h k = rw (eq-eqb b 10 e, h, g, k)

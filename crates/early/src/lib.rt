@@ -4,7 +4,7 @@
 // (docs/DECISIONS.md, 42).
 #![tactic(auto)]
 
-ghost use Rattle.std.specs.Prelude.{Ok, ◌≡◌, ◌+◌, ◌*◌, ◌≤◌, ◌<◌};
+ghost use Rattle.std.specs.Prelude.{◌≡◌, ◌+◌, ◌*◌, ◌≤◌, ◌<◌};
 ghost use Rattle.interface.specs.declared.Stepped.{Stepped};
 ghost use Rattle.layout.specs.Shape.{settings_of, Fits};
 ghost use Rattle.updates.specs.Updates.{update_step};
@@ -17,7 +17,7 @@ use phases::reduce;
 fn round_step(words: &mut [u64], x: u64, w: usize, k: usize)
     requires { Fits words.old (settings_of x)
         × ((w < (settings_of x).workers) × ((3 ≤ k) × (k < 2 * (settings_of x).workers + 9))) }
-    ensures { (words.new, Ok Stepped.Moved) ≡ update_step words.old (settings_of x) w k }
+    ensures { (words.new, Stepped.Moved) ≡ update_step words.old (settings_of x) w k }
 {
     let n = settings_of(x).workers as usize;
     match reduce(k - 3, n + 3) {
@@ -32,7 +32,7 @@ fn round_step(words: &mut [u64], x: u64, w: usize, k: usize)
 pub fn early_step(words: &mut [u64], x: u64, w: usize, k: usize)
     requires { Fits words.old (settings_of x)
         × ((w < (settings_of x).workers) × (k < 2 * (settings_of x).workers + 9)) }
-    ensures { (words.new, Ok Stepped.Moved) ≡ update_step words.old (settings_of x) w k }
+    ensures { (words.new, Stepped.Moved) ≡ update_step words.old (settings_of x) w k }
 {
     match k {
         0 => engine::announce(words, settings_of(x), w),

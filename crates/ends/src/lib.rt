@@ -23,6 +23,7 @@ pub fn completed(answer: Answer, k: u64, check: u64) -> Completion
     }
 }
 
+// Kept beside `TryFrom`: any number is one, as the definition has it.
 // The answer that a stored number is, with the word of a total that counts for posted alone.
 pub fn answer_of(number: u64, total: u64) -> Answer
     ensures { result ≡ answer_of number total }

@@ -5,13 +5,6 @@
 use loglines::{Feeding, begin, conclude, feed};
 use std::io::{Read, Stdin};
 
-// What is held of the input so far, and whether there may be more of it.
-#[derive(Clone, Copy)]
-struct Progress {
-    feeding: Feeding,
-    more: bool,
-}
-
 // Prints what answers the whole input.
 fn end(rt: &(impl Print + Eprint), feeding: Feeding) {
     let mut out = [0u8; 512];
@@ -21,32 +14,24 @@ fn end(rt: &(impl Print + Eprint), feeding: Feeding) {
     }
 }
 
-// Reads once, and takes what came.
+// Reads once, and takes what came; nothing at the end of the input, which is answered then, or where it could not be
+// read.
 fn turn(
     rt: &(impl Print + Eprint),
     mut stdin: Stdin,
     feeding: Feeding,
     block: &mut [u8],
-) -> Progress {
+) -> Option<Feeding> {
     match stdin.read(block) {
         Err(error) => {
             let _ = eprintln!(rt; "read: {error}");
-            Progress {
-                feeding,
-                more: false,
-            }
+            None
         }
         Ok(0) => {
             end(rt, feeding);
-            Progress {
-                feeding,
-                more: false,
-            }
+            None
         }
-        Ok(n) => Progress {
-            feeding: feed(feeding, &block[..n]),
-            more: true,
-        },
+        Ok(n) => Some(feed(feeding, &block[..n])),
     }
 }
 
@@ -56,10 +41,9 @@ fn main(rt: HostRuntime) {
     let mut block = [0u8; 65536];
     let mut feeding = begin();
     for _ in 0..u64::MAX {
-        let next = turn(&rt, rt.stdin(), feeding, &mut block);
-        if !next.more {
+        let Some(next) = turn(&rt, rt.stdin(), feeding, &mut block) else {
             return;
-        }
-        feeding = next.feeding;
+        };
+        feeding = next;
     }
 }

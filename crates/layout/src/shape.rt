@@ -11,7 +11,7 @@ use fields::{
 };
 use interface::Settings;
 
-// The settings that a first word keeps.
+// The settings that a first word keeps. Kept beside `From<u64>`: a word is no settings, it holds them and a mark.
 pub fn settings_of(x: u64) -> Settings
     ensures { result ≡ settings_of x }
 {

@@ -7,7 +7,7 @@ use bucket::BucketState;
 use fields::WIDEST_RECORD;
 use interface::Settings;
 
-// The operations that a number names.
+// The operations that a number names. Kept as numbers: C names them so (crate leaves_c).
 const SEARCH: u64 = 1;
 
 const PUT: u64 = 2;

@@ -16,7 +16,7 @@ use Rattle.machine.specs.Choice.{when◌then◌else◌}
 use Rattle.machine.proofs.laws.Base.{and_parts, if_elim}
 use Rattle.decimals.specs.Ascii.{space, minus_sign, zero_digit, nine_digit}
 use Rattle.commands.specs.declared.Command.{Command}
-use Rattle.commands.specs.declared.Command.TheVariants.{Open, Insert, Delete, Lookup, Post, Steps, Unread}
+use Rattle.commands.specs.declared.Command.TheVariants.{Open, Insert, Delete, Lookup, Post, Steps}
 use Rattle.numerals.specs.Numerals.{is_digit, digits_after, zero_then, numeral, plus, minus, signed_numeral, up_to, from, in64, greatest_total, least_total_size}
 use Rattle.commands.specs.Commands.{greatest_small, greatest_account, least_steps, greatest_steps, open_letter, insert_letter, delete_letter, lookup_letter, post_letter, steps_letter, small_of, account_of, total_of, steps_of, with2, with3, one_field, three_fields, four_fields}
 use Rattle.numerals.specs.Cut.{before, parts_at}
@@ -146,7 +146,7 @@ total-length (b ∷ f) z e = by (eqb b minus_sign) e
 
 -- where the fields are longer together than each may be, one of them is not read
 long2 : {A B : Type 0} (f : A → B → Command) (o : Option A) (p : Option B) (x y a b : ℕ)
-    → ((v : A) → o ≡ Some v → x ≤ a) → ((v : B) → p ≡ Some v → y ≤ b) → a + b < x + y → with2 f o p ≡ Unread
+    → ((v : A) → o ≡ Some v → x ≤ a) → ((v : B) → p ≡ Some v → y ≤ b) → a + b < x + y → with2 f o p ≡ None
 unfolding with2
 long2 f None p x y a b i j h = refl
 long2 f (Some u) None x y a b i j h = refl
@@ -154,21 +154,21 @@ long2 f (Some u) (Some v) x y a b i j h = let k = i u refl in let l = j v refl i
 
 long3 : {A B C : Type 0} (f : A → B → C → Command) (o : Option A) (p : Option B) (q : Option C) (x y z a b c : ℕ)
     → ((v : A) → o ≡ Some v → x ≤ a) → ((v : B) → p ≡ Some v → y ≤ b) → ((v : C) → q ≡ Some v → z ≤ c) → a + b + c < x + y + z → with3 f o
-    p q ≡ Unread
+    p q ≡ None
 unfolding with3
 long3 f None p q x y z a b c i j k h = refl
 long3 f (Some u) None q x y z a b c i j k h = refl
 long3 f (Some u) (Some v) None x y z a b c i j k h = refl
 long3 f (Some u) (Some v) (Some w) x y z a b c i j k h = let l = i u refl in let m = j v refl in let n = k w refl in absurd (omega arith)
 
--- a choice between commands that are all unread
-none_of : (t : Bool) {x y : Command} → x ≡ Unread → y ≡ Unread → when t then x else y ≡ Unread
-none_of t {x} {y} e f = if_elim (λ c. c ≡ Unread) t x y (λ _. e) (λ _. f)
+-- a choice between what are all no commands
+none_of : (t : Bool) {x y : Option Command} → x ≡ None → y ≡ None → when t then x else y ≡ None
+none_of t {x} {y} e f = if_elim (λ c. c ≡ None) t x y (λ _. e) (λ _. f)
 
-long_three : (letter : ℕ) (x y : List ℕ) → small_length + account_length < length x + length y → three_fields letter x y ≡ Unread
+long_three : (letter : ℕ) (x y : List ℕ) → small_length + account_length < length x + length y → three_fields letter x y ≡ None
 unfolding three_fields
 long_three letter x y h =
-    let keyed : (f : ℕ → ℕ → Command) → with2 f (small_of x) (account_of y) ≡ Unread = λ f. long2 f (small_of x) (account_of y) (length x)
+    let keyed : (f : ℕ → ℕ → Command) → with2 f (small_of x) (account_of y) ≡ None = λ f. long2 f (small_of x) (account_of y) (length x)
     (length y) small_length account_length (small-length x) (account-length y) h in
     none_of (eqb letter delete_letter) (keyed Delete)
     (none_of (eqb letter lookup_letter) (keyed Lookup)
@@ -177,10 +177,10 @@ long_three letter x y h =
     refl))
 
 long_four : (letter : ℕ) (x y z : List ℕ) → small_length + account_length + total_length < length x + length y + length z
-    → four_fields letter x y z ≡ Unread
+    → four_fields letter x y z ≡ None
 unfolding four_fields
 long_four letter x y z h =
-    let totalled : (f : ℕ → ℕ → ℤ → Command) → with3 f (small_of x) (account_of y) (total_of z) ≡ Unread = λ f. long3 f (small_of x)
+    let totalled : (f : ℕ → ℕ → ℤ → Command) → with3 f (small_of x) (account_of y) (total_of z) ≡ None = λ f. long3 f (small_of x)
     (account_of y) (total_of z) (length x) (length y) (length z) small_length account_length total_length (small-length x) (account-length y)
     (total-length z) h in
     none_of (eqb letter open_letter)
@@ -207,7 +207,7 @@ span_of [] = omega arith
 span_of (b ∷ bs) = span_step (eqb b space) b (length bs) (fields_of bs) (span_of bs)
 
 -- a first field of one byte, or none that counts
-long_fields : (fs : List (List ℕ)) → suc longest_line < span fs → of_fields fs ≡ Unread
+long_fields : (fs : List (List ℕ)) → suc longest_line < span fs → of_fields fs ≡ None
 unfolding of_fields letter_of one_field when◌then◌else◌ three_fields four_fields
 long_fields [] h = refl
 long_fields ([] ∷ []) h = refl
@@ -222,7 +222,7 @@ long_fields ((b ∷ []) ∷ x ∷ y ∷ z ∷ []) h = long_four b x y z (omega a
 long_fields ((b ∷ c ∷ f) ∷ x ∷ y ∷ z ∷ []) h = refl
 long_fields (f ∷ x ∷ y ∷ z ∷ g ∷ gs) h = refl
 
--- "so the bound loses nothing": a longer line is unread
-pub long_unread : (l : List ℕ) → longest_line < length l → command_of l ≡ Unread
+-- "so the bound loses nothing": a longer line means nothing
+pub long_nothing : (l : List ℕ) → longest_line < length l → command_of l ≡ None
 unfolding command_of
-long_unread l h = long_fields (fields_of l) (let e = span_of l in omega arith)
+long_nothing l h = long_fields (fields_of l) (let e = span_of l in omega arith)

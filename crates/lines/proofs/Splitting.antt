@@ -3,6 +3,7 @@ use Prim.Native.Nat.{ℕ, suc, ◌+◌, ◌≤◌, ◌<◌}
 use mathlib.Core.Path.{◌≡◌, refl, sym, ◌∙◌, ap}
 use mathlib.Core.Bool.{Bool, true, false, not, cond}
 use mathlib.Core.List.{List, [], ◌∷◌}
+use Rattle.std.specs.Prelude.{None}
 use native.Mathlib.Omega.{arith}
 use native.Mathlib.Numerals.{add-one}
 use lib.Dec.{eqb, ltb}
@@ -15,7 +16,6 @@ use Rattle.std.proofs.lemmas.List.Sums.{prefix_len-le-length}
 use Rattle.std.proofs.lemmas.List.Recursion.{is_position_or_len}
 use Rattle.machine.specs.Choice.{when◌then◌else◌}
 use Rattle.decimals.specs.Ascii.{space}
-use Rattle.commands.specs.declared.Command.TheVariants.{Unread}
 use Rattle.commands.specs.Commands.{one_field}
 use Rattle.numerals.specs.Cut.{before, parts_at}
 use Rattle.lines.specs.Grammar.{fields_of, first_field, letter_of, of_fields, command_of}
@@ -105,7 +105,7 @@ some_field [] = ([], [], refl)
 some_field (b ∷ bs) = begins b (eqb b space) (fields_of bs)
 
 -- five fields and more mean nothing
-pub too_many : (f x y z l : List ℕ) → Unread ≡ of_fields (f ∷ x ∷ y ∷ z ∷ fields_of l)
+pub too_many : (f x y z l : List ℕ) → None ≡ of_fields (f ∷ x ∷ y ∷ z ∷ fields_of l)
 unfolding of_fields
 too_many f x y z l = rw (some_field l).2
 

@@ -4,6 +4,7 @@ use Prim.Native.Nat.{ℕ, suc, ◌≤◌, ◌<◌}
 use mathlib.Core.Path.{◌≡◌, refl, sym, ◌∙◌, ap}
 use mathlib.Core.Bool.{Bool, true, false}
 use mathlib.Core.List.{List, [], ◌∷◌, ◌++◌, map}
+use Rattle.std.specs.Prelude.{None}
 use native.Mathlib.Omega.{arith}
 use native.Mathlib.Numerals.{add-one}
 use lib.Dec.{leb, ltb, eqb, eqb-suc-zero}
@@ -12,12 +13,11 @@ use lib.Seq.{take-suc-set}
 use borrow.Author.Tests.{le-leb, lt-ltb, le-ltb, leb-true, leb-false, ltb-true, ltb-false, ne_eqb}
 use Rattle.machine.specs.Choice.{when◌then◌else◌}
 use Rattle.decimals.specs.Ascii.{line_feed}
-use Rattle.commands.specs.declared.Command.TheVariants.{Unread}
 use Rattle.numerals.specs.Cut.{before, parts_at}
 use Rattle.lines.specs.declared.reader.Reader.{Reader}
 use Rattle.lines.specs.Grammar.{lines_of, command_of}
 use Rattle.lines.specs.Reading.{line_room, fresh, pushed, command_in, is_empty, commands_read}
-use Rattle.lines.proofs.Longest.{long_unread}
+use Rattle.lines.proofs.Longest.{long_nothing}
 
 -- ---- what a reader holds
 
@@ -95,7 +95,7 @@ module _ (r : Reader) (xs : List ℕ) (h : HoldsBytes r xs) where
   means = by (leb (length xs) line_room) refl
     where
       by : (t : Bool) → leb (length xs) line_room ≡ t
-          → when r.long then Unread else when leb r.len (length r.line) then command_of (take r.len r.line) else Unread ≡ command_of
+          → when r.long then None else when leb r.len (length r.line) then command_of (take r.len r.line) else None ≡ command_of
           xs
       by true e =
           let k = leb-true (length xs) line_room e in
@@ -103,7 +103,7 @@ module _ (r : Reader) (xs : List ℕ) (h : HoldsBytes r xs) where
           let n = s.len in
           let m = h.room in
           rw (s.long, le-leb r.len (length r.line) (omega arith), s.len, s.line)
-      by false e = let k = leb-false (length xs) line_room e in rw ((h.over k).long, long_unread xs (omega arith))
+      by false e = let k = leb-false (length xs) line_room e in rw ((h.over k).long, long_nothing xs (omega arith))
 
   pub empty_if : is_empty r ≡ eqb (length xs) 0
   unfolding is_empty

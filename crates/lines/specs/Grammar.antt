@@ -2,12 +2,11 @@
 -- `I w account total`, `D w account`, `L w account`, `S w k` .., `T` (listing). Fields stand one space apart, in
 -- decimal." 02, No. 1: "the line is `P w account amount`". Rests on the commands of a letter and fields, specs/Commands
 -- of crate commands.
-use Rattle.std.specs.Prelude.{ℕ, suc, List, [], ◌∷◌, eqb}
+use Rattle.std.specs.Prelude.{ℕ, suc, List, [], ◌∷◌, eqb, Option, None}
 use Rattle.machine.specs.Choice.{when◌then◌else◌}
 use Rattle.decimals.specs.Ascii.{line_feed, space}
 use Rattle.numerals.specs.Cut.{parts_at}
 use Rattle.commands.specs.declared.Command.{Command}
-use Rattle.commands.specs.declared.Command.TheVariants.{Unread}
 use Rattle.commands.specs.Commands.{one_field, three_fields, four_fields}
 
 -- ---- lines and fields
@@ -33,14 +32,14 @@ letter_of (b ∷ c ∷ bs) = 0
 
 -- ---- commands
 
-unfoldable pub of_fields : List (List ℕ) → Command
-of_fields [] = Unread
+unfoldable pub of_fields : List (List ℕ) → Option Command
+of_fields [] = None
 of_fields (f ∷ []) = one_field (letter_of f)
-of_fields (f ∷ x ∷ []) = Unread
+of_fields (f ∷ x ∷ []) = None
 of_fields (f ∷ x ∷ y ∷ []) = three_fields (letter_of f) x y
 of_fields (f ∷ x ∷ y ∷ z ∷ []) = four_fields (letter_of f) x y z
-of_fields (f ∷ x ∷ y ∷ z ∷ g ∷ gs) = Unread
+of_fields (f ∷ x ∷ y ∷ z ∷ g ∷ gs) = None
 
--- what a line means, from its bytes without the line feed; "Any other line .. gives `unread`"
-unfoldable pub command_of : List ℕ → Command
+-- what a line means, from its bytes without the line feed; nothing for "Any other line", which "gives `unread`"
+unfoldable pub command_of : List ℕ → Option Command
 command_of line = of_fields (fields_of line)

@@ -1,6 +1,7 @@
 -- What a whole input is met with: bytes in, bytes out. 01, The driver.
 -- Rests on specs/Grammar, on what is printed and on the machine's script.
 use Rattle.std.specs.Prelude.{ℕ, List, [], ◌∷◌, ◌++◌, Option, Some, None}
+use Rattle.std.specs.Option.{option_map}
 use Rattle.machine.specs.Script.{Line, Memory, zeros, Response, driver, response_to}
 use Rattle.commands.specs.Commands.{line_of}
 use Rattle.lines.specs.Grammar.{lines_of, command_of}
@@ -18,7 +19,7 @@ told x (Some l) = let y : Response = response_to driver x l in record { memory =
 
 unfoldable pub session_from : Memory → List (List ℕ) → List ℕ
 session_from x [] = []
-session_from x (l ∷ ls) = let y : Told = told x (line_of (command_of l)) in y.text ++ session_from y.memory ls
+session_from x (l ∷ ls) = let y : Told = told x (option_map line_of (command_of l)) in y.text ++ session_from y.memory ls
 
 -- "The program lends 8,192 words, all 0 at first"
 unfoldable pub session : List ℕ → List ℕ

@@ -6,34 +6,32 @@ ghost use Rattle.lines.specs.Grammar.{command_of, of_fields, fields_of, first_fi
 
 use commands::{Command, four_fields, three_fields};
 
-// What the line means, given without its line feed.
-pub fn parse(line: &[u8]) -> Command
+// What the line means, given without its line feed; nothing where it is no command.
+pub fn parse(line: &[u8]) -> Option<Command>
     ensures { result ≡ command_of line.now }
 {
     match first_space(line) {
         Some(end) => after_letter(letter(&line[..end]), &line[end + 1..]),
         None => {
             if letter(line) == b'T' {
-                Command::List
+                Some(Command::List)
             } else {
-                Command::Unread
+                None
             }
         }
     }
 }
 
 // The command of a letter and the fields after it.
-fn after_letter(letter: u8, rest: &[u8]) -> Command
+fn after_letter(letter: u8, rest: &[u8]) -> Option<Command>
     ensures { result ≡ of_fields ((letter ∷ []) ∷ fields_of rest.now) }
 {
-    match first_space(rest) {
-        Some(end) => after_field(letter, &rest[..end], &rest[end + 1..]),
-        None => Command::Unread,
-    }
+    let end = first_space(rest)?;
+    after_field(letter, &rest[..end], &rest[end + 1..])
 }
 
 // The command of a letter, a field and the fields after them.
-fn after_field(letter: u8, x: &[u8], rest: &[u8]) -> Command
+fn after_field(letter: u8, x: &[u8], rest: &[u8]) -> Option<Command>
     ensures { result ≡ of_fields ((letter ∷ []) ∷ x.now ∷ fields_of rest.now) }
 {
     match first_space(rest) {
@@ -43,11 +41,11 @@ fn after_field(letter: u8, x: &[u8], rest: &[u8]) -> Command
 }
 
 // The command of a letter, two fields and the fields after them, of which there may be one.
-fn after_fields(letter: u8, x: &[u8], y: &[u8], rest: &[u8]) -> Command
+fn after_fields(letter: u8, x: &[u8], y: &[u8], rest: &[u8]) -> Option<Command>
     ensures { result ≡ of_fields ((letter ∷ []) ∷ x.now ∷ y.now ∷ fields_of rest.now) }
 {
     match first_space(rest) {
-        Some(_) => Command::Unread,
+        Some(_) => None,
         None => four_fields(letter, x, y, rest),
     }
 }
@@ -66,11 +64,12 @@ fn first_space(bytes: &[u8]) -> Option<usize>
 }
 
 // The letter that a field is, or 0.
+#[tactic(auto, using(crate::proofs::Splitting::letter_one, crate::proofs::Splitting::letter_none))]
 fn letter(field: &[u8]) -> u8
     ensures { result ≡ letter_of field.now }
 {
     match field {
-        [byte] => *byte,
+        [letter] => *letter,
         _ => 0,
     }
 }

@@ -44,19 +44,13 @@ impl Reader {
     }
 
     // What the bytes so far mean as a line.
-    pub fn command(self) -> Command
+    pub fn command(self) -> Option<Command>
         ensures { result ≡ command_in self }
     {
         if self.long {
-            return Command::Unread;
+            return None;
         }
-        let line = self.line;
-        let len = self.len;
-        let kept = &line[..];
-        if kept.len() < len {
-            return Command::Unread;
-        }
-        parse(&kept[..len])
+        parse(self.line.get(..self.len)?)
     }
 
     // Whether no byte came since `new`.

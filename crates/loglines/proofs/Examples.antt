@@ -4,7 +4,7 @@ use mathlib.Core.List.{[], ◌∷◌}
 use Rattle.interface.specs.Numbers.{bytes, answer_word}
 use Rattle.machine.specs.Choice.{when◌then◌else◌, ◌and◌}
 use Rattle.decimals.specs.Decimals.{digit, digits, digit_count_up_to, digit_count, decimal}
-use Rattle.numerals.specs.Numerals.{is_digit, digits_after, zero_then, numeral, plus, minus, signed_numeral, up_to, in64, as_pair}
+use Rattle.numerals.specs.Numerals.{is_digit, digits_after, zero_then, numeral, plus, minus, signed_numeral, up_to, in64}
 use Rattle.numerals.specs.Cut.{before, parts_at}
 use Rattle.commands.specs.Commands.{small_of, account_of, total_of}
 use Rattle.lines.specs.Grammar.{lines_of, fields_of}
@@ -16,7 +16,7 @@ use Rattle.loglines.specs.Inputs.{unread, log, or_unread, read_operations, after
 use Rattle.loglines.specs.Texts.{order_text}
 
 unfoldable numbers : Unit {0}
-unfolding is_digit digits_after zero_then numeral plus minus signed_numeral up_to in64 as_pair small_of account_of total_of
+unfolding is_digit digits_after zero_then numeral plus minus signed_numeral up_to in64 small_of account_of total_of
 numbers = tt
 
 unfoldable fields : Unit {0}

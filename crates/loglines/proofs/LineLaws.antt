@@ -3,6 +3,7 @@ use Prim.Native.Nat.{ℕ, suc, ◌+◌, ◌≤◌, ◌<◌}
 use mathlib.Core.Path.{◌≡◌, refl, sym, ◌∙◌, ap}
 use mathlib.Core.List.{List, [], ◌∷◌, ◌++◌}
 use Rattle.std.specs.Prelude.{Option, Some, None}
+use Rattle.std.specs.Option.{option_zip}
 use native.Mathlib.Omega.{arith}
 use native.Mathlib.Nat.{zero-add}
 use native.Mathlib.Numerals.{add-one}
@@ -12,8 +13,6 @@ use lib.Seq.{append_snoc, drop-drop}
 use borrow.Author.Tests.{ne_eqb}
 use Rattle.machine.specs.Choice.{when◌then◌else◌}
 use Rattle.machine.proofs.laws.Base.{if_same}
-use Rattle.numerals.specs.Numerals.{as_pair}
-use Rattle.numerals.specs.declared.Pair.TheVariants.{Nothing}
 use Rattle.commands.specs.Commands.{small_of}
 use Rattle.lines.specs.Grammar.{fields_of, first_field}
 use Rattle.lines.proofs.Splitting.{one-field, more_fields, some_field}
@@ -22,19 +21,19 @@ use Rattle.loglines.specs.Lines.{settings_of, settings_line, word_then, each_wor
 
 -- ---- settings
 
-pub one_setting : (l : List ℕ) → length l ≤ first_field l → Nothing ≡ settings_line l
+pub one_setting : (l : List ℕ) → length l ≤ first_field l → None ≡ settings_line l
 unfolding settings_line settings_of
 one_setting l h = rw (one-field l h)
 
 module _ (l : List ℕ) (n : ℕ) (e : n ≡ first_field l) (h : n < length l) where
-  pub more_settings : first_field (drop (n + 1) l) < length (drop (n + 1) l) → Nothing ≡ settings_line l
+  pub more_settings : first_field (drop (n + 1) l) < length (drop (n + 1) l) → None ≡ settings_line l
   unfolding settings_line settings_of
   more_settings k =
       rw (more_fields l n e h, more_fields (drop (n + 1) l) (first_field (drop (n + 1) l)) refl k)
       (rw (some_field (drop (first_field (drop (n + 1) l) + 1) (drop (n + 1) l))).2)
 
   pub two_settings : length (drop (n + 1) l) ≤ first_field (drop (n + 1) l)
-      → as_pair (small_of (take n l)) (small_of (drop (n + 1) l)) ≡ settings_line l
+      → option_zip (small_of (take n l)) (small_of (drop (n + 1) l)) ≡ settings_line l
   unfolding settings_line settings_of
   two_settings k = rw (more_fields l n e h, one-field (drop (n + 1) l) k)
 

@@ -12,13 +12,10 @@ use borrow.Author.Tests.{eqb-true}
 use Rattle.interface.specs.Numbers.{bytes, answer_word}
 use Rattle.interface.specs.declared.Answer.{Answer}
 use Rattle.interface.specs.declared.Answer.TheVariants.{Added, Replaced, Removed, Absent, Found, Posted, Crowded, Overrun}
-use Rattle.interface.specs.declared.Answer.TheVariants as Answer
 use Rattle.machine.proofs.laws.Base.{if_elim}
-use Rattle.numerals.specs.declared.Pair.{Pair}
-use Rattle.numerals.specs.declared.Pair.TheVariants.{Values, Nothing}
 use Rattle.numerals.proofs.NumeralLaws.{some_none, passed}
 use Rattle.commands.specs.Commands.{small_of, total_of}
-use Rattle.commands.proofs.Pairs.{pair_some}
+use Rattle.commands.proofs.Fields.{both_read}
 use Rattle.lines.specs.Grammar.{fields_of}
 use Rattle.lines.proofs.Longest.{limited_length, small-length, account-length, total-length, span, span_of}
 use Rattle.logs.specs.Log.{operation_words, logged_account, logged_total, logged_answer, logged_answer_total, greatest_word}
@@ -112,21 +109,21 @@ no_operation l h = by (operation_in (fields_of l)) refl
 
 -- ---- settings
 
-settings_read : (fs : List (List ℕ)) (b M : ℕ) → settings_of fs ≡ Values b M → span fs ≤ suc longest_line
+settings_read : (fs : List (List ℕ)) (b M : ℕ) → settings_of fs ≡ Some (b, M) → span fs ≤ suc longest_line
 unfolding settings_of
 settings_read [] b M e = omega arith
-settings_read (x ∷ []) b M e = let z : ◌≡◌ {A = ℕ} 0 1 = cc in absurd (omega arith)
+settings_read (x ∷ []) b M e = absurd (some_none (sym e))
 settings_read (x ∷ y ∷ []) b M e =
-    let r = pair_some (small_of x) (small_of y) b M (sym e) in
+    let r = both_read (small_of x) (small_of y) b M (sym e) in
     let m = small-length x b r.0 in
     let n = small-length y M r.1 in
     omega arith
-settings_read (x ∷ y ∷ z ∷ fs) b M e = let z : ◌≡◌ {A = ℕ} 0 1 = cc in absurd (omega arith)
+settings_read (x ∷ y ∷ z ∷ fs) b M e = absurd (some_none (sym e))
 
-pub no_settings : (l : List ℕ) → longest_line < length l → settings_line l ≡ Nothing
+pub no_settings : (l : List ℕ) → longest_line < length l → settings_line l ≡ None
 unfolding settings_line
 no_settings l h = by (settings_of (fields_of l)) refl
   where
-    by : (o : Pair) → settings_of (fields_of l) ≡ o → o ≡ Nothing
-    by Nothing e = refl
-    by (Values b M) e = let n = settings_read (fields_of l) b M e in absurd (omega (arith, span_of l))
+    by : (o : Option (ℕ × ℕ)) → settings_of (fields_of l) ≡ o → o ≡ None
+    by None e = refl
+    by (Some (b, M)) e = let n = settings_read (fields_of l) b M e in absurd (omega (arith, span_of l))

@@ -14,8 +14,6 @@ use borrow.Author.Tests.{eq-eqb, ne_eqb, lt-ltb, le-ltb, leb-true, leb-false}
 use Rattle.machine.specs.Choice.{when◌then◌else◌}
 use Rattle.lists.specs.Parts.{overlay}
 use Rattle.lists.proofs.PartLaws.{length_overlay}
-use Rattle.numerals.specs.declared.Pair.{Pair}
-use Rattle.numerals.specs.declared.Pair.TheVariants.{Values, Nothing}
 use Rattle.logs.specs.Log.{operation_words, greatest_word}
 use Rattle.loglines.specs.declared.progress.Kept.{Kept}
 use Rattle.loglines.specs.declared.progress.Progress.{Progress}
@@ -187,7 +185,7 @@ lines_kept [] h = some_unread start 1 refl (omega arith)
 lines_kept (l ∷ ls) h =
     ap (λ (q : Progress). read_so_far (all_lines q ls)) (sym (first_line start l refl refl)) ∙ by (settings_line l)
   where
-    by : (o : Pair) → read_so_far (all_lines (with_settings start o) ls) ≡ kept_of (after_settings o ls)
-    by Nothing = bad_read (with_settings start Nothing) ls 0 refl refl
-    by (Values b M) =
-        operations_read (with_settings start (Values b M)) 0 [] ls (record { good = refl; lines = refl; keeps = keeps_none }) (omega arith)
+    by : (o : Option (ℕ × ℕ)) → read_so_far (all_lines (with_settings start o) ls) ≡ kept_of (after_settings o ls)
+    by None = bad_read (with_settings start None) ls 0 refl refl
+    by (Some (b, M)) =
+        operations_read (with_settings start (Some (b, M))) 0 [] ls (record { good = refl; lines = refl; keeps = keeps_none }) (omega arith)

@@ -4,7 +4,7 @@ use Prim.Native.Nat.{ℕ, ◌/◌, ◌≤◌, ◌<◌}
 use mathlib.Core.Path.{◌≡◌, refl, sym, ◌∙◌, ap}
 use mathlib.Core.Bool.{Bool, true, false, not}
 use mathlib.Core.List.{List, []}
-use Rattle.std.specs.Prelude.{Some, Ok}
+use Rattle.std.specs.Prelude.{Some, Ok, Err}
 use native.Mathlib.Omega.{arith}
 use lib.Dec.{leb}
 use lib.ListN.{length, take, replicate}
@@ -12,6 +12,7 @@ use lib.Seq.{length-take-le, take_all}
 use borrow.Author.Tests.{leb-true, leb-false}
 use Rattle.interface.specs.Limits.{least_workers, in_range}
 use Rattle.interface.specs.declared.Refusal.{Refusal}
+use Rattle.interface.specs.declared.Verdict.{Verdict}
 use Rattle.interface.specs.declared.Refusal.TheVariants.{Settings, BadLog}
 use Rattle.machine.specs.Choice.{when◌then◌else◌}
 use Rattle.machine.proofs.laws.Base.{if_ap}
@@ -43,7 +44,7 @@ accepted_few l b M before order e = few l (passes l b M (length before) (all_jud
 
 -- ---- the first 13 for all
 
-many_text : (l : List ℕ) (b M : ℕ) → greatest_operations < count_of l → input_text (log b M l) ≡ verdict_text (Refused (many_refusal b M)) []
+many_text : (l : List ℕ) (b M : ℕ) → greatest_operations < count_of l → input_text (log b M l) ≡ verdict_text (Err (many_refusal b M)) []
 unfolding input_text judged_text verdict_text
 many_text l b M h =
     ap (judged_text (count_of l)) (refused l b M (replicate greatest_operations 0) (many_refusal b M) (many_refused l b M _ h))

@@ -7,7 +7,6 @@ use Rattle.std.proofs.Common.{of_z}
 use Rattle.interface.specs.Numbers.{answer_word, answer_number}
 use Rattle.interface.specs.declared.Answer.{Answer}
 use Rattle.interface.specs.declared.Answer.TheVariants.{Added, Replaced, Removed, Absent, Found, Posted, Crowded, Overrun}
-use Rattle.interface.specs.declared.Answer.TheVariants as Answer
 use Rattle.machine.specs.Choice.{when◌then◌else◌}
 use Rattle.numerals.specs.Numerals.{numeral, up_to}
 use Rattle.commands.specs.Commands.{account_of, total_of}

@@ -2,8 +2,6 @@
 use Rattle.std.specs.Prelude.{ℕ, ◌+◌, true, false, List, [], ◌∷◌, leb, ltb, eqb, take, set, replicate, Option, Some, None}
 use Rattle.machine.specs.Choice.{when◌then◌else◌}
 use Rattle.lists.specs.Parts.{overlay}
-use Rattle.numerals.specs.declared.Pair.{Pair}
-use Rattle.numerals.specs.declared.Pair.TheVariants.{Values, Nothing}
 use Rattle.decimals.specs.Ascii.{line_feed}
 use Rattle.logs.specs.Log.{operation_words, greatest_word}
 use Rattle.loglines.specs.declared.progress.Line.{Line}
@@ -58,10 +56,10 @@ next_line n = when ltb n greatest_word then n + 1 else n
 unfoldable pub start : Progress
 start = record { lines = 0; bad = false; capacity = 0; depth = 0; kept = none_kept }
 
-unfoldable pub with_settings : Progress → Pair → Progress
-with_settings p Nothing =
+unfoldable pub with_settings : Progress → Option (ℕ × ℕ) → Progress
+with_settings p None =
     record { lines = 1; bad = true; capacity = p.capacity; depth = p.depth; kept = p.kept }
-with_settings p (Values b M) = record { lines = 1; bad = false; capacity = b; depth = M; kept = p.kept }
+with_settings p (Some (b, M)) = record { lines = 1; bad = false; capacity = b; depth = M; kept = p.kept }
 
 unfoldable pub with_operation : Progress → Option (List ℕ) → Progress
 with_operation p None =

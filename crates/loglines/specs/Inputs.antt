@@ -3,8 +3,6 @@
 -- specs/Texts and on crate logs' verdicts.
 use Rattle.std.specs.Prelude.{ℕ, suc, List, [], ◌∷◌, ◌++◌, take, replicate, Option, Some, None, Result}
 use Rattle.interface.specs.declared.Verdict.{Verdict}
-use Rattle.numerals.specs.declared.Pair.{Pair}
-use Rattle.numerals.specs.declared.Pair.TheVariants.{Values, Nothing}
 use Rattle.lines.specs.Grammar.{lines_of}
 use Rattle.logs.specs.Log.{greatest_operations, count_of}
 use Rattle.logs.specs.Judging.{check_log_words}
@@ -30,9 +28,9 @@ read_operations b M words n [] = log b M words
 read_operations b M words n (l ∷ ls) =
     or_unread n (operation_line l) (λ ws. read_operations b M (words ++ ws) (suc n) ls)
 
-unfoldable pub after_settings : Pair → List (List ℕ) → Input
-after_settings Nothing ls = unread 1
-after_settings (Values b M) ls = read_operations b M [] 2 ls
+unfoldable pub after_settings : Option (ℕ × ℕ) → List (List ℕ) → Input
+after_settings None ls = unread 1
+after_settings (Some (b, M)) ls = read_operations b M [] 2 ls
 
 -- an input without a line is unread at line 1
 unfoldable pub read_lines : List (List ℕ) → Input

@@ -1,26 +1,23 @@
 -- What a line of a log means, in the format of `judge` that docs/USING.md has: `b M`, or an operation's eight fields,
 -- one space apart. Rests on specs/Fields and on crate lines' fields.
 use Rattle.std.specs.Prelude.{ℕ, suc, ◌+◌, List, [], ◌∷◌, ◌++◌, eqb, length, Option, Some, None}
+use Rattle.std.specs.Option.{option_zip}
 use Rattle.machine.specs.Choice.{when◌then◌else◌}
-use Rattle.numerals.specs.Numerals.{as_pair}
-use Rattle.numerals.specs.declared.Pair.{Pair}
-use Rattle.numerals.specs.declared.Pair.TheVariants.{Nothing}
 use Rattle.commands.specs.Commands.{small_of}
 use Rattle.lines.specs.Grammar.{fields_of}
 use Rattle.logs.specs.Log.{operation_words}
 use Rattle.loglines.specs.Fields.{field_word}
-use Rattle.loglines.specs.declared.line.Row.{Row}
 
 -- ---- settings
 
-unfoldable pub settings_of : List (List ℕ) → Pair
-settings_of [] = Nothing
-settings_of (x ∷ []) = Nothing
-settings_of (x ∷ y ∷ []) = as_pair (small_of x) (small_of y)
-settings_of (x ∷ y ∷ z ∷ fs) = Nothing
+unfoldable pub settings_of : List (List ℕ) → Option (ℕ × ℕ)
+settings_of [] = None
+settings_of (x ∷ []) = None
+settings_of (x ∷ y ∷ []) = option_zip (small_of x) (small_of y)
+settings_of (x ∷ y ∷ z ∷ fs) = None
 
 -- `b M`
-unfoldable pub settings_line : List ℕ → Pair
+unfoldable pub settings_line : List ℕ → Option (ℕ × ℕ)
 settings_line line = settings_of (fields_of line)
 
 -- ---- operations
@@ -43,7 +40,7 @@ operation_in fs = when eqb (length fs) operation_words then each_word 0 fs else 
 unfoldable pub operation_line : List ℕ → Option (List ℕ)
 operation_line line = operation_in (fields_of line)
 
--- ---- the same in the source
+-- ---- the same as the source reads it
 
 -- words behind others, where they are read
 unfoldable pub behind : List ℕ → Option (List ℕ) → Option (List ℕ)
@@ -53,6 +50,3 @@ behind ws (Some xs) = Some (ws ++ xs)
 -- an operation of the words of k fields and of the fields that are left
 unfoldable pub operation_from : List ℕ → ℕ → List (List ℕ) → Option (List ℕ)
 operation_from ws k fs = when eqb (k + length fs) operation_words then behind ws (each_word k fs) else None
-
-unfoldable pub row_of : Row → Option (List ℕ)
-row_of r = when r.read then Some r.words else None

@@ -1,10 +1,8 @@
 // A field of an operation's line, read as a word: a number, a total, an answer's word. Rests on crate numerals.
-ghost use Rattle.std.specs.Prelude.{◌+◌, ◌≤◌, ◌≡◌};
+ghost use Rattle.std.specs.Prelude.{◌+◌, ◌≤◌, ◌≡◌, Some};
 ghost use Rattle.interface.specs.Numbers.{answer_number};
 ghost use Rattle.interface.specs.declared.Answer.TheVariants.{Overrun};
 ghost use Rattle.machine.specs.Choice.{when◌then◌else◌};
-ghost use Rattle.numerals.specs.declared.Number.TheVariants.{Value};
-ghost use Rattle.numerals.specs.Numerals.{as_number};
 ghost use Rattle.commands.specs.Commands.{total_of};
 ghost use Rattle.report.specs.Report.{answer_base};
 ghost use Rattle.logs.specs.Same.{same_numbers};
@@ -17,15 +15,15 @@ use interface::{
 };
 use logs::{LOGGED_ACCOUNT, LOGGED_ANSWER, LOGGED_ANSWER_TOTAL, LOGGED_TOTAL};
 use memory::word_of;
-use numerals::{Number, Signed, read_number, read_signed};
+use numerals::{read_number, read_signed};
 use report::ANSWER_BASE;
 
 // As specs/Fields has it.
 const GREATEST_WORD: u64 = u64::MAX;
 
 // The word of the field at k, counted from 0.
-pub fn read_field(k: usize, field: &[u8]) -> Number
-    ensures { result ≡ as_number (field_word k field.now) }
+pub fn read_field(k: usize, field: &[u8]) -> Option<u64>
+    ensures { result ≡ field_word k field.now }
 {
     match k {
         LOGGED_ACCOUNT => read_number(field, GREATEST_ACCOUNT),
@@ -36,20 +34,18 @@ pub fn read_field(k: usize, field: &[u8]) -> Number
 }
 
 // A total, as a word of two's complement.
-fn read_total(field: &[u8]) -> Number
-    ensures { result ≡ as_number (as_word (total_of field.now)) }
+fn read_total(field: &[u8]) -> Option<u64>
+    ensures { result ≡ as_word (total_of field.now) }
 {
-    let Signed::Value(total) = read_signed(field) else {
-        return Number::Nothing;
-    };
-    Number::Value(word_of(total))
+    let total = read_signed(field)?;
+    Some(word_of(total))
 }
 
 // The number of the answer whose word the field is: the words from the last to the first.
-fn read_answer(field: &[u8]) -> Number
-    ensures { result ≡ as_number (answer_named field.now) }
+fn read_answer(field: &[u8]) -> Option<u64>
+    ensures { result ≡ answer_named field.now }
 {
-    let rest = Number::Nothing;
+    let rest = None;
     let rest = answer_or(field, b"overrun", ANSWER_OVERRUN, rest);
     let rest = answer_or(field, b"crowded", ANSWER_CROWDED, rest);
     let rest = answer_or(field, b"posted", ANSWER_POSTED, rest);
@@ -62,13 +58,13 @@ fn read_answer(field: &[u8]) -> Number
 }
 
 // The number of an answer, where the field is its word, or else the rest.
-fn answer_or(field: &[u8], word: &[u8], answer: u64, rest: Number) -> Number
+fn answer_or(field: &[u8], word: &[u8], answer: u64, rest: Option<u64>) -> Option<u64>
     requires { answer ≤ answer_number Overrun }
-    ensures { result ≡ when same_numbers field.now word.now then Value (answer_base + answer)
+    ensures { result ≡ when same_numbers field.now word.now then Some (answer_base + answer)
         else rest }
 {
     if same(field, word) {
-        return Number::Value(ANSWER_BASE + answer);
+        return Some(ANSWER_BASE + answer);
     }
     rest
 }

@@ -2,12 +2,10 @@
 // value and of constant size. Rests on the lines.
 ghost use Rattle.std.specs.Prelude.{◌+◌, ◌≤◌, ◌≡◌, length};
 ghost use Rattle.lists.specs.Parts.{overlay};
-ghost use Rattle.loglines.specs.Lines.{row_of};
 ghost use Rattle.loglines.specs.Holding.{no_line, pushed, line_in, kept_with, next_line, with_settings, with_operation, with_line, begin, took, fed, ended};
 
-use crate::line::{Row, read_operation, read_settings};
+use crate::line::{read_operation, read_settings};
 use logs::OPERATION_WORDS;
-use numerals::Pair;
 
 // The bytes that are kept of a line, and the words of operations, as specs/Holding names them.
 const LINE_ROOM: usize = 168;
@@ -101,11 +99,11 @@ fn next_line(lines: u64) -> u64
 }
 
 impl Progress {
-    fn settle(mut self, read: Pair) -> Progress
+    fn settle(mut self, read: Option<(u64, u64)>) -> Progress
         ensures { result ≡ with_settings self read }
     {
         self.lines = 1;
-        let Pair::Values(capacity, depth) = read else {
+        let Some((capacity, depth)) = read else {
             self.bad = true;
             return self;
         };
@@ -115,16 +113,15 @@ impl Progress {
         self
     }
 
-    fn add(mut self, row: Row) -> Progress
-        ensures { result ≡ with_operation self (row_of row) }
+    fn add(mut self, read: Option<[u64; OPERATION_WORDS]>) -> Progress
+        ensures { result ≡ with_operation self read }
     {
         self.lines = next_line(self.lines);
-        if !row.read {
+        let Some(words) = read else {
             self.bad = true;
             return self;
-        }
+        };
         let kept = self.kept;
-        let words = row.words;
         Progress {
             lines: self.lines,
             bad: false,

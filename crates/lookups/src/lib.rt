@@ -1,7 +1,7 @@
 // A lookup's two steps.
 #![tactic(auto)]
 
-ghost use Rattle.std.specs.Prelude.{Ok, ◌≡◌, ◌+◌, ◌≤◌, ◌<◌, length};
+ghost use Rattle.std.specs.Prelude.{◌≡◌, ◌+◌, ◌≤◌, ◌<◌, length};
 ghost use Rattle.fields.specs.Fields.{steps_range, worker_slots, widest_record};
 ghost use Rattle.layout.specs.Shape.{Fits};
 ghost use Rattle.lookups.specs.Lookups.{looked_at, lookup_at};
@@ -36,7 +36,7 @@ fn look(words: &[u64], g: Settings, q: usize, account: u64) -> Answer
 // A lookup's step of the worker whose words are at p, after k own steps.
 pub fn lookup_step(words: &mut [u64], g: Settings, p: usize, k: u64) -> Stepped
     requires { Fits words.old g × ((p + worker_slots ≤ length words.old) × (k < steps_range)) }
-    ensures { (words.new, Ok result) ≡ lookup_at words.old g p k }
+    ensures { (words.new, result) ≡ lookup_at words.old g p k }
 {
     if k == 0 {
         let q = record_of(words, g, memory::get(words, p + WORKER_ACCOUNT));

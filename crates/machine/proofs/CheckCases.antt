@@ -10,18 +10,16 @@ use Rattle.machine.specs.Records.{Machine}
 use Rattle.machine.specs.Steps.{step}
 use Rattle.machine.specs.Script.{Line, O, I, D, L, P, S, T, Lent, Memory, zeros, holding, response_to}
 use Rattle.machine.proofs.Cases.{Case, lookup_after_delete, crowded_straight_after, second_pass, fourth-check}
-use Rattle.std.specs.Prelude.{Result, Ok, Err}
-use Rattle.interface.specs.declared.Refusal.{Refusal}
 
 -- the steps and the check that the answer comes with, among up to k steps of worker j, if there is one
 unfoldable pub ended : Settings → ℕ → ℕ → Machine → List (ℕ × ℕ)
 ended s j zero m = []
 ended s j (suc k) m =
-    let r : Machine × Result Stepped Refusal = step s m j in
+    let r : Machine × Stepped = step s m j in
     elim r.1 [
-      | Ok Stepped.Moved ↦ ended s j k r.0
-      | Ok (Stepped.Answered c) ↦ (c.steps, c.check) ∷ []
-      | Err x ↦ []
+      | Stepped.Moved ↦ ended s j k r.0
+      | Stepped.Answered c ↦ (c.steps, c.check) ∷ []
+      | Stepped.Refused x ↦ []
     ]
 
 unfoldable pub ended_by : Memory → Line → List (ℕ × ℕ)

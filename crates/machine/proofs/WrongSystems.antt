@@ -7,7 +7,7 @@ use mathlib.Core.Path.{◌≡◌, refl}
 use mathlib.Core.Logic.{inl}
 use mathlib.Core.Bool.{false}
 use mathlib.Core.List.{List, [], ◌∷◌, ◌++◌}
-use Rattle.std.specs.Prelude.{Option, Some, None, Result, Ok, Err}
+use Rattle.std.specs.Prelude.{Option, Some, None, Ok, Err}
 use lib.IntN.{pos}
 use lib.ListN.{get_or, replicate}
 use Rattle.interface.specs.Numbers.{kind_insert}
@@ -60,7 +60,7 @@ refusing = record {
   State = Machine;
   opening = (machines small lent).opening;
   call = λ m j kind a v. (m, Err Refusal.Busy);
-  step = λ m j. (m, Err Refusal.Idle);
+  step = λ m j. (m, Stepped.Refused Refusal.Idle);
   listing = listing;
 }
 
@@ -78,12 +78,12 @@ abbrev Repeating : Type 0
 Repeating = Machine × Option Completion
 
 -- a step after that, refused for want of an operation, is answered once more, as one step later
-abbrev repeated : Option Completion → Machine × Result Stepped Refusal → Repeating × Result Stepped Refusal
-repeated last (m, Ok Stepped.Moved) = ((m, None), Ok Stepped.Moved)
-repeated last (m, Ok (Stepped.Answered c)) = ((m, Some c), Ok (Stepped.Answered c))
-repeated None (m, Err r) = ((m, None), Err r)
-repeated (Some c) (m, Err r) =
-    ((m, None), Ok (Stepped.Answered (record { answer = c.answer; steps = suc c.steps; check = c.check })))
+abbrev repeated : Option Completion → Machine × Stepped → Repeating × Stepped
+repeated last (m, Stepped.Moved) = ((m, None), Stepped.Moved)
+repeated last (m, Stepped.Answered c) = ((m, Some c), Stepped.Answered c)
+repeated None (m, Stepped.Refused r) = ((m, None), Stepped.Refused r)
+repeated (Some c) (m, Stepped.Refused r) =
+    ((m, None), Stepped.Answered (record { answer = c.answer; steps = suc c.steps; check = c.check }))
 
 abbrev answering_twice : System
 answering_twice = record {
@@ -106,10 +106,10 @@ answering_twice_fails h =
 
 -- ---- one that tells no check
 
-abbrev untold : Machine × Result Stepped Refusal → Machine × Result Stepped Refusal
-untold (m, Ok Stepped.Moved) = (m, Ok Stepped.Moved)
-untold (m, Ok (Stepped.Answered c)) = (m, Ok (Stepped.Answered (record { answer = c.answer; steps = c.steps; check = 0 })))
-untold (m, Err r) = (m, Err r)
+abbrev untold : Machine × Stepped → Machine × Stepped
+untold (m, Stepped.Moved) = (m, Stepped.Moved)
+untold (m, Stepped.Answered c) = (m, Stepped.Answered (record { answer = c.answer; steps = c.steps; check = 0 }))
+untold (m, Stepped.Refused r) = (m, Stepped.Refused r)
 
 abbrev telling_no_check : System
 telling_no_check = record {

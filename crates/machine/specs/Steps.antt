@@ -1,7 +1,7 @@
 -- One step of a worker. What the worker has read says which shared cell its next step touches and what it does there,
 -- so that "one step reads or changes at most one shared cell" holds by construction. Rests on the two passes and the
 -- plan.
-use Rattle.std.specs.Prelude.{ℕ, zero, suc, Bool, not, ltb, eqb, Option, Some, None, Result, Ok, Err}
+use Rattle.std.specs.Prelude.{ℕ, zero, suc, Bool, not, ltb, eqb, Option, Some, None}
 use Rattle.interface.specs.declared.Settings.{Settings}
 use Rattle.interface.specs.declared.Answer.{Answer}
 use Rattle.interface.specs.declared.Refusal.{Refusal}
@@ -207,11 +207,11 @@ check_of s w (update u) = check_number s.workers w.steps
 check_of s w (lookup a) = 0
 
 -- after k steps, this one included, which is check c
-unfoldable pub step_reply : ℕ → ℕ → Option Answer → Result Stepped Refusal
-step_reply k c None = Ok Stepped.Moved
-step_reply k c (Some a) = Ok (Stepped.Answered (record { answer = a; steps = k; check = c }))
+unfoldable pub step_reply : ℕ → ℕ → Option Answer → Stepped
+step_reply k c None = Stepped.Moved
+step_reply k c (Some a) = Stepped.Answered (record { answer = a; steps = k; check = c })
 
-unfoldable pub done : Machine → ℕ → ℕ → Effect Cells → Machine × Result Stepped Refusal
+unfoldable pub done : Machine → ℕ → ℕ → Effect Cells → Machine × Stepped
 done m j c e =
     let w : Worker = m.workers j in (
       record { cells = e.contents; workers = assign m.workers j (counted w e.reads e.answer) },
@@ -219,12 +219,12 @@ done m j c e =
     )
 
 -- a worker without operation is idle
-unfoldable pub step_of : Settings → Machine → ℕ → Option Operation → Machine × Result Stepped Refusal
-step_of s m j None = (m, Err Refusal.Idle)
+unfoldable pub step_of : Settings → Machine → ℕ → Option Operation → Machine × Stepped
+step_of s m j None = (m, Stepped.Refused Refusal.Idle)
 step_of s m j (Some o) =
     let w : Worker = m.workers j in done m j (check_of s w o) (perform (access s j w o) m.cells)
 
 -- "A step checks 8, 3, 5": the machine and what worker j is answered. 8 is a matter of the memory.
-unfoldable pub step : Settings → Machine → ℕ → Machine × Result Stepped Refusal
+unfoldable pub step : Settings → Machine → ℕ → Machine × Stepped
 step s m j =
-    when ltb j s.workers then step_of s m j (m.workers j).operation else (m, Err Refusal.Stranger)
+    when ltb j s.workers then step_of s m j (m.workers j).operation else (m, Stepped.Refused Refusal.Stranger)

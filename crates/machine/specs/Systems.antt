@@ -24,7 +24,7 @@ pub record System : Type 1 where
   pub State : Type 0
   pub opening : State → ℕ → ℕ → ℕ → State × Result ⊤ Refusal
   pub call : State → ℕ → ℕ → ℕ → ℤ → State × Result ⊤ Refusal
-  pub step : State → ℕ → State × Result Stepped Refusal
+  pub step : State → ℕ → State × Stepped
   pub listing : State → ℕ → ℕ → Listing
 
 -- what an opening makes of machine m
@@ -52,7 +52,7 @@ next x m (reopening n b M) = (x.opening m n b M).0
 -- what an entry is met with
 pub data Replied : Type 0 where
   to_call : Result ⊤ Refusal → Replied
-  to_step : Result Stepped Refusal → Replied
+  to_step : Stepped → Replied
   to_listing : Listing → Replied
   to_opening : Result ⊤ Refusal → Replied
 
@@ -85,15 +85,15 @@ abbrev pub accepts : Result ⊤ Refusal → Bool
 accepts (Ok _) = true
 accepts (Err r) = false
 
-abbrev pub moves : Result Stepped Refusal → Bool
-moves (Ok Stepped.Moved) = true
-moves (Ok (Stepped.Answered c)) = true
-moves (Err r) = false
+abbrev pub moves : Stepped → Bool
+moves Stepped.Moved = true
+moves (Stepped.Answered c) = true
+moves (Stepped.Refused r) = false
 
-abbrev pub is_answer : Result Stepped Refusal → Bool
-is_answer (Ok Stepped.Moved) = false
-is_answer (Ok (Stepped.Answered c)) = true
-is_answer (Err r) = false
+abbrev pub is_answer : Stepped → Bool
+is_answer Stepped.Moved = false
+is_answer (Stepped.Answered c) = true
+is_answer (Stepped.Refused r) = false
 
 -- "An operation is an accepted call to a worker": is this one to worker j?
 unfoldable pub calls_to : (x : System) → x.State → Entry → ℕ → Bool

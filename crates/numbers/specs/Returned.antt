@@ -20,10 +20,10 @@ unfoldable pub done_number : Result ⊤ Refusal → ℕ
 done_number (Ok _) = 0
 done_number (Err r) = number_of r
 
-unfoldable pub stepped_number : Result Stepped Refusal → ℕ
-stepped_number (Ok Stepped.Moved) = 0
-stepped_number (Ok (Stepped.Answered c)) = ended_number c
-stepped_number (Err r) = number_of r
+unfoldable pub stepped_number : Stepped → ℕ
+stepped_number Stepped.Moved = 0
+stepped_number (Stepped.Answered c) = ended_number c
+stepped_number (Stepped.Refused r) = number_of r
 
 unfoldable pub ran_number : Result Ran Refusal → ℕ
 ran_number (Ok (Ran.Moved k)) = 0
@@ -46,10 +46,10 @@ verdict_number (Err r) = number_of r
 
 -- ---- reports
 
-unfoldable pub stepped_report : List ℕ → Result Stepped Refusal → List ℕ
-stepped_report report (Ok Stepped.Moved) = report
-stepped_report report (Ok (Stepped.Answered c)) = ended_report report c
-stepped_report report (Err r) = report
+unfoldable pub stepped_report : List ℕ → Stepped → List ℕ
+stepped_report report Stepped.Moved = report
+stepped_report report (Stepped.Answered c) = ended_report report c
+stepped_report report (Stepped.Refused r) = report
 
 -- the steps given, where the operation goes on
 unfoldable pub ran_report : List ℕ → Result Ran Refusal → List ℕ

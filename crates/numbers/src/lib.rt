@@ -30,13 +30,13 @@ pub fn done_number(answer: Result<(), Refusal>) -> u64
 }
 
 // 0 where the operation goes on; its end is reported.
-pub fn stepped_number(report: &mut [u64], answer: Result<Stepped, Refusal>) -> u64
+pub fn stepped_number(report: &mut [u64], answer: Stepped) -> u64
     ensures { (report.new ≡ stepped_report report.old answer) × (result ≡ stepped_number answer) }
 {
     match answer {
-        Ok(Stepped::Moved) => 0,
-        Ok(Stepped::Answered(c)) => ended(report, c),
-        Err(r) => r.number(),
+        Stepped::Moved => 0,
+        Stepped::Answered(c) => ended(report, c),
+        Stepped::Refused(r) => r.number(),
     }
 }
 

@@ -1,60 +1,21 @@
--- Reading numbers within a limit, and what the source's enums say of it. Rests on the definitions of specs/Numerals.
-use Prim.Native.Nat.{ℕ, zero, suc, ◌+◌, ◌-◌, ◌*◌, ◌≤◌, ◌<◌}
+-- Reading numbers within a limit. Rests on the definitions of specs/Numerals.
+use Prim.Native.Nat.{ℕ, zero, suc, zero-le, ◌+◌, ◌-◌, ◌*◌, ◌≤◌, ◌<◌}
 use mathlib.Core.Path.{◌≡◌, refl, sym, ◌∙◌, ap}
 use mathlib.Core.Logic.{◌⊎◌, inl, inr}
 use mathlib.Core.Bool.{Bool, true, false}
 use mathlib.Core.List.{List, [], ◌∷◌}
-use Rattle.std.specs.Prelude.{Option, Some, None}
+use Rattle.std.specs.Prelude.{Option, Some, None, ◌==◌}
+use Rattle.std.specs.Bool.{then_some}
 use native.Mathlib.Omega.{arith}
 use native.Mathlib.Numerals.{add-one}
-use lib.Dec.{leb}
-use lib.IntN.{ℤ, pos, negsuc}
+use lib.Dec.{leb, eqb-suc-zero}
+use lib.IntN.{pos, negsuc}
 use lib.ListN.{length, drop, get_or, drop_of_length-le}
 use lib.Seq.{drop-cons}
 use borrow.Author.Tests.{eq-eqb, ne_eqb, le-leb, lt-leb, leb-true}
 use Rattle.machine.specs.Choice.{when◌then◌else◌, ◌and◌}
 use Rattle.decimals.specs.Ascii.{minus_sign, zero_digit, nine_digit}
-use Rattle.numerals.specs.declared.Number.TheVariants as Number
-use Rattle.numerals.specs.declared.Signed.TheVariants as Signed
-use Rattle.numerals.specs.Numerals.{is_digit, digits_after, zero_then, numeral, plus, minus, signed_numeral, up_to, in64, as_number, as_signed, greatest_total, least_total_size}
-
--- ---- the source's enums
-
-pub number_none : (o : Option ℕ) → Number.Nothing ≡ as_number o → o ≡ None
-unfolding as_number
-number_none None e = refl
-number_none (Some v) e = let z : ◌≡◌ {A = ℕ} 0 1 = cc in absurd (omega arith)
-
-pub number_some : (o : Option ℕ) (v : ℕ) → Number.Value v ≡ as_number o → o ≡ Some v
-unfolding as_number
-number_some None v e = let z : ◌≡◌ {A = ℕ} 0 1 = cc in absurd (omega arith)
-number_some (Some u) v e = cc
-
-pub signed_none : (o : Option ℤ) → Signed.Nothing ≡ as_signed o → o ≡ None
-unfolding as_signed
-signed_none None e = refl
-signed_none (Some v) e = let z : ◌≡◌ {A = ℕ} 0 1 = cc in absurd (omega arith)
-
-pub signed_some : (o : Option ℤ) (v : ℤ) → Signed.Value v ≡ as_signed o → o ≡ Some v
-unfolding as_signed
-signed_some None v e = let z : ◌≡◌ {A = ℕ} 0 1 = cc in absurd (omega arith)
-signed_some (Some u) v e = cc
-
-pub nothing : (o : Option ℕ) → o ≡ None → Number.Nothing ≡ as_number o
-unfolding as_number
-nothing o e = rw e
-
-pub value : (o : Option ℕ) (v : ℕ) → o ≡ Some v → Number.Value v ≡ as_number o
-unfolding as_number
-value o v e = rw e
-
-pub no_signed : (o : Option ℤ) → o ≡ None → Signed.Nothing ≡ as_signed o
-unfolding as_signed
-no_signed o e = rw e
-
-pub signed_value : (o : Option ℤ) (v : ℤ) → o ≡ Some v → Signed.Value v ≡ as_signed o
-unfolding as_signed
-signed_value o v e = rw e
+use Rattle.numerals.specs.Numerals.{is_digit, digits_after, zero_then, numeral, plus, minus, signed_numeral, up_to, in64, greatest_total, least_total_size}
 
 -- ---- limits
 
@@ -142,17 +103,12 @@ unfolding numeral
 no_bytes [] e = refl
 no_bytes (b ∷ l) e = absurd (omega arith)
 
-pub only_zero : (l : List ℕ) → get_or l 0 0 ≡ zero_digit → length l ≡ 1 → numeral l ≡ Some 0
-unfolding numeral zero_then when◌then◌else◌
-only_zero [] e k = absurd (omega arith)
-only_zero (b ∷ []) e k = rw (eq-eqb b zero_digit e)
-only_zero (b ∷ d ∷ l) e k = absurd (omega arith)
-
-pub leading_zero : (l : List ℕ) → get_or l 0 0 ≡ zero_digit → (length l ≡ 1 → ⊥) → numeral l ≡ None
-unfolding numeral zero_then when◌then◌else◌
-leading_zero [] e k = refl
-leading_zero (b ∷ []) e k = absurd (k refl)
-leading_zero (b ∷ d ∷ l) e k = rw (eq-eqb b zero_digit e)
+-- a zero comes alone
+pub zero_first : (most : ℕ) (l : List ℕ) → 0 < length l → get_or l 0 0 ≡ zero_digit → up_to most (numeral l) ≡ then_some (length (drop 1 l) == 0) 0
+unfolding numeral zero_then up_to when◌then◌else◌
+zero_first most [] h e = absurd (omega arith)
+zero_first most (b ∷ []) h e = rw (eq-eqb b zero_digit e, le-leb 0 most (zero-le))
+zero_first most (b ∷ d ∷ l) h e = rw (eq-eqb b zero_digit e, eqb-suc-zero (length l))
 
 pub no_leading_zero : (l : List ℕ) → 0 < length l → (get_or l 0 0 ≡ zero_digit → ⊥) → numeral l ≡ digits_after 0 l
 unfolding numeral when◌then◌else◌

@@ -4,12 +4,6 @@
 use Rattle.std.specs.Prelude.{ℕ, zero, suc, ◌+◌, ◌-◌, ◌*◌, ◌^◌, Bool, List, [], ◌∷◌, leb, eqb, ℤ, pos, negsuc, Option, Some, None}
 use Rattle.machine.specs.Choice.{when◌then◌else◌, ◌and◌}
 use Rattle.decimals.specs.Ascii.{minus_sign, zero_digit, nine_digit}
-use Rattle.numerals.specs.declared.Number.{Number}
-use Rattle.numerals.specs.declared.Number.TheVariants as Number
-use Rattle.numerals.specs.declared.Pair.{Pair}
-use Rattle.numerals.specs.declared.Pair.TheVariants as Pair
-use Rattle.numerals.specs.declared.Signed.{Signed}
-use Rattle.numerals.specs.declared.Signed.TheVariants as Signed
 
 unfoldable pub is_digit : ℕ → Bool
 is_digit b = leb zero_digit b and leb b nine_digit
@@ -65,18 +59,3 @@ unfoldable pub in64 : Option ℤ → Option ℤ
 in64 None = None
 in64 (Some (pos n)) = when leb n greatest_total then Some (pos n) else None
 in64 (Some (negsuc n)) = when leb (suc n) least_total_size then Some (negsuc n) else None
-
--- ---- the same in the source's enums
-
-unfoldable pub as_number : Option ℕ → Number
-as_number None = Number.Nothing
-as_number (Some n) = Number.Value n
-
-unfoldable pub as_pair : Option ℕ → Option ℕ → Pair
-as_pair None n = Pair.Nothing
-as_pair (Some m) None = Pair.Nothing
-as_pair (Some m) (Some n) = Pair.Values m n
-
-unfoldable pub as_signed : Option ℤ → Signed
-as_signed None = Signed.Nothing
-as_signed (Some z) = Signed.Value z

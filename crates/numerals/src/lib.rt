@@ -3,103 +3,67 @@
 #![tactic(auto)]
 
 ghost use Rattle.std.specs.Prelude.{◌≡◌};
-ghost use Rattle.numerals.specs.Numerals.{numeral, digits_after, plus, minus, signed_numeral, up_to, in64, as_number, as_signed};
+ghost use Rattle.numerals.specs.Numerals.{numeral, digits_after, plus, minus, signed_numeral, up_to, in64};
 
 // The limits of a total or an amount, as specs/Numerals names them.
 const GREATEST_TOTAL: u64 = 9223372036854775807;
 
 const LEAST_TOTAL_SIZE: u64 = 9223372036854775808;
 
-// A number, or a field that is none.
-#[derive(Clone, Copy)]
-pub enum Number {
-    Value(u64),
-    Nothing,
-}
-
-// Two numbers, or fields of which one is none.
-#[derive(Clone, Copy)]
-pub enum Pair {
-    Values(u64, u64),
-    Nothing,
-}
-
-#[derive(Clone, Copy)]
-pub enum Signed {
-    Value(i64),
-    Nothing,
-}
-
 // The number that the field is, if it is one and at most `most`.
-pub fn read_number(field: &[u8], most: u64) -> Number
-    ensures { result ≡ as_number (up_to most (numeral field.now)) }
+pub fn read_number(field: &[u8], most: u64) -> Option<u64>
+    ensures { result ≡ up_to most (numeral field.now) }
 {
-    if field.len() == 0 {
-        return Number::Nothing;
+    match field {
+        [] => None,
+        [b'0', more @ ..] => more.is_empty().then_some(0),
+        [_, ..] => read_digits(field, most),
     }
-    if field[0] == b'0' {
-        if field.len() == 1 {
-            return Number::Value(0);
-        }
-        return Number::Nothing;
-    }
-    read_digits(field, most)
 }
 
 // The same for bytes with leading zeros or none at all, which say 0.
-fn read_digits(field: &[u8], most: u64) -> Number
-    ensures { result ≡ as_number (up_to most (digits_after 0 field.now)) }
+fn read_digits(field: &[u8], most: u64) -> Option<u64>
+    ensures { result ≡ up_to most (digits_after 0 field.now) }
 {
     let mut value: u64 = 0;
     for &byte in field {
         if !byte.is_ascii_digit() {
-            return Number::Nothing;
+            return None;
         }
         let digit = u64::from(byte - b'0');
-        let Some(next) = value
-            .checked_mul(10)
-            .and_then(|tens| tens.checked_add(digit))
-        else {
-            return Number::Nothing;
-        };
+        let next = value.checked_mul(10)?.checked_add(digit)?;
         if most < next {
-            return Number::Nothing;
+            return None;
         }
         value = next;
     }
-    Number::Value(value)
+    Some(value)
 }
 
 // The total or the amount that the field is, if it is one.
-pub fn read_signed(field: &[u8]) -> Signed
-    ensures { result ≡ as_signed (in64 (signed_numeral field.now)) }
+pub fn read_signed(field: &[u8]) -> Option<i64>
+    ensures { result ≡ in64 (signed_numeral field.now) }
 {
-    if field.len() == 0 {
-        return Signed::Nothing;
+    match field {
+        [] => None,
+        [b'-', size @ ..] => read_negative(size),
+        [_, ..] => read_positive(field),
     }
-    if field[0] == b'-' {
-        return read_negative(&field[1..]);
-    }
-    read_positive(field)
 }
 
-fn read_positive(field: &[u8]) -> Signed
-    ensures { result ≡ as_signed (in64 (plus (numeral field.now))) }
+fn read_positive(field: &[u8]) -> Option<i64>
+    ensures { result ≡ in64 (plus (numeral field.now)) }
 {
-    let Number::Value(size) = read_number(field, GREATEST_TOTAL) else {
-        return Signed::Nothing;
-    };
-    Signed::Value(size as i64)
+    let size = read_number(field, GREATEST_TOTAL)?;
+    Some(size.cast_signed())
 }
 
-fn read_negative(field: &[u8]) -> Signed
-    ensures { result ≡ as_signed (in64 (minus (numeral field.now))) }
+fn read_negative(field: &[u8]) -> Option<i64>
+    ensures { result ≡ in64 (minus (numeral field.now)) }
 {
-    let Number::Value(size) = read_number(field, LEAST_TOTAL_SIZE) else {
-        return Signed::Nothing;
-    };
+    let size = read_number(field, LEAST_TOTAL_SIZE)?;
     if size == 0 {
-        return Signed::Nothing;
+        return None;
     }
-    Signed::Value(!((size - 1) as i64))
+    Some(size.wrapping_neg().cast_signed())
 }

@@ -24,12 +24,15 @@ pub fn own_round(words: &mut [u64], g: Settings, w: usize, q: usize, toggle: u64
     ensures { words.new ≡ round_at words.old g (worker_at g.workers w) q }
 {
     let c = least(memory::get(words, q + RECORD_COUNT), g.capacity as usize);
-    let u = slot_read(words, g, w, w);
-    if holds_back(g, memory::get(words, q + RECORD_DEPTH), c as u64)
-        || u.ticket <= settled_ticket(words, g, q, w)
-    {
+    if holds_back(g, memory::get(words, q + RECORD_DEPTH), c as u64) {
         put_first(words, q, c as u64, toggle);
-    } else {
-        carry_own(words, g, q, c, toggle, w, u);
+        return;
     }
+    let u = slot_read(words, g, w, w);
+    // Kept: two returns. By one test (`||`) an insert takes 2 instructions more and a post 6 (bench/table.sh, n 1).
+    if u.ticket <= settled_ticket(words, g, q, w) {
+        put_first(words, q, c as u64, toggle);
+        return;
+    }
+    carry_own(words, g, q, c, toggle, w, u);
 }

@@ -62,10 +62,10 @@ done = Ok tt
 done_never : (r : Refusal) → done ≡ Err r → ⊥
 done_never r e = let z : ◌≡◌ {A = ℕ} 0 1 = cc in omega arith
 
-moved_never : {r : Refusal} → Ok Stepped.Moved ≡ Err r → ⊥
+moved_never : {r : Refusal} → Stepped.Moved ≡ Stepped.Refused r → ⊥
 moved_never e = let z : ◌≡◌ {A = ℕ} 0 1 = cc in omega arith
 
-ended_never : (l : List ℕ) (p k c : ℕ) (a : Answer) {r : Refusal} → (ended_at l p k c a).1 ≡ Err r → ⊥
+ended_never : (l : List ℕ) (p k c : ℕ) (a : Answer) {r : Refusal} → (ended_at l p k c a).1 ≡ Stepped.Refused r → ⊥
 unfolding ended_at
 ended_never l p k c a e = let z : ◌≡◌ {A = ℕ} 0 1 = cc in omega arith
 
@@ -133,17 +133,17 @@ call-checks l w kind a v = check_then (check_then (check_then (kind_checks l _ _
 
 -- ---- a step
 
-lookup_never : (l : List ℕ) (s : Settings) (p k : ℕ) {r : Refusal} → (lookup_at l s p k).1 ≡ Err r → ⊥
+lookup_never : (l : List ℕ) (s : Settings) (p k : ℕ) {r : Refusal} → (lookup_at l s p k).1 ≡ Stepped.Refused r → ⊥
 unfolding lookup_at
 lookup_never l s p zero e = moved_never e
 lookup_never l s p (suc k) e = ended_never l p (suc k) _ _ e
 
-check_never : (l : List ℕ) (p k c : ℕ) (o : Option Answer) {r : Refusal} → (check_at l p k c o).1 ≡ Err r → ⊥
+check_never : (l : List ℕ) (p k c : ℕ) (o : Option Answer) {r : Refusal} → (check_at l p k c o).1 ≡ Stepped.Refused r → ⊥
 unfolding check_at
 check_never l p k c None e = moved_never e
 check_never l p k c (Some a) e = ended_never l p k c a e
 
-update_never : (l : List ℕ) (s : Settings) (p w k : ℕ) (f : Phase) {r : Refusal} → (update_at l s p w k f).1 ≡ Err r → ⊥
+update_never : (l : List ℕ) (s : Settings) (p w k : ℕ) (f : Phase) {r : Refusal} → (update_at l s p w k f).1 ≡ Stepped.Refused r → ⊥
 unfolding update_at
 update_never l s p w k announce e = moved_never e
 update_never l s p w k read_directory e = moved_never e
@@ -158,13 +158,13 @@ update_never l s p w k (resize_for j) e = moved_never e
 update_never l s p w k swap_directory e = moved_never e
 
 -- a step of an operation is not refused
-pub operation_never : (l : List ℕ) (s : Settings) (p w k : ℕ) (r : Refusal) → (operation_at l s p w k).1 ≡ Err r → ⊥
+pub operation_never : (l : List ℕ) (s : Settings) (p w k : ℕ) (r : Refusal) → (operation_at l s p w k).1 ≡ Stepped.Refused r → ⊥
 unfolding operation_at
 operation_never l s p w k r =
-    if_elim (λ (x : List ℕ × Result Stepped Refusal). x.1 ≡ Err r → ⊥) (eqb (word l (p + worker_kind)) kind_lookup) _ _
+    if_elim (λ (x : List ℕ × Stepped). x.1 ≡ Stepped.Refused r → ⊥) (eqb (word l (p + worker_kind)) kind_lookup) _ _
     (λ _. lookup_never _ s p k) (λ _. update_never _ s p w k _)
 
-pub step-checks : (l : List ℕ) (w : ℕ) → RefusedBy Err (step_checks l w) l (step_words l w)
+pub step-checks : (l : List ℕ) (w : ℕ) → RefusedBy Stepped.Refused (step_checks l w) l (step_words l w)
 unfolding step_checks step_words step_in
 step-checks l w = check_then (check_then (check_then (passed (operation_never l _ _ w _)) _) _) _
 
@@ -177,11 +177,11 @@ module _ (r : Refusal) where
   moved_runs : (l : List ℕ) (k : ℕ) → Runs (l, Ok (Ran.Moved k))
   moved_runs l k e = let z : ◌≡◌ {A = ℕ} 0 1 = cc in omega arith
 
-  else_runs : (l : List ℕ) (k : ℕ) (x : Result Stepped Refusal) (later : List ℕ × Result Ran Refusal) → Runs later → Runs (or_else l (last_of k x) later)
+  else_runs : (l : List ℕ) (k : ℕ) (x : Stepped) (later : List ℕ × Result Ran Refusal) → Runs later → Runs (or_else l (last_of k x) later)
   unfolding or_else last_of
-  else_runs l k (Ok Stepped.Moved) later h e = h e
-  else_runs l k (Ok (Stepped.Answered c)) later h e = let z : ◌≡◌ {A = ℕ} 0 1 = cc in omega arith
-  else_runs l k (Err o) later h e = moved_runs l k e
+  else_runs l k Stepped.Moved later h e = h e
+  else_runs l k (Stepped.Answered c) later h e = let z : ◌≡◌ {A = ℕ} 0 1 = cc in omega arith
+  else_runs l k (Stepped.Refused o) later h e = moved_runs l k e
 
   -- a run that has begun is not refused
   run_never : (f : ℕ) (l : List ℕ) (s : Settings) (w k : ℕ) → Runs (run_in l s w k f)

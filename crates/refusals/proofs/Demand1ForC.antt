@@ -47,11 +47,11 @@ unfolding done_number
 done_known (Ok _) k = absurd (k.0 refl)
 done_known (Err r) k = (r, refl)
 
-stepped_known : (a : Result Stepped Refusal) → RefusalNumber (stepped_number a) → (r : Refusal) × (a ≡ Err r)
+stepped_known : (a : Stepped) → RefusalNumber (stepped_number a) → (r : Refusal) × (a ≡ Stepped.Refused r)
 unfolding stepped_number ended_number
-stepped_known (Ok Stepped.Moved) k = absurd (k.0 refl)
-stepped_known (Ok (Stepped.Answered c)) k = absurd (let h = k.1 in omega arith)
-stepped_known (Err r) k = (r, refl)
+stepped_known Stepped.Moved k = absurd (k.0 refl)
+stepped_known (Stepped.Answered c) k = absurd (let h = k.1 in omega arith)
+stepped_known (Stepped.Refused r) k = (r, refl)
 
 ran_known : (a : Result Ran Refusal) → RefusalNumber (ran_number a) → (r : Refusal) × (a ≡ Err r)
 unfolding ran_number ended_number

@@ -41,7 +41,7 @@ PastCount accounts totals x =
 -- every call over these words but an opening is refused with 8, and all is as it was
 pub record AllStrange (l : List ℕ) : Type 0 where
   pub call : (w kind a : ℕ) (v : ℤ) → call_words l w kind a v ≡ (l, Err Refusal.Strange)
-  pub step : (w : ℕ) → step_words l w ≡ (l, Err Refusal.Strange)
+  pub step : (w : ℕ) → step_words l w ≡ (l, Stepped.Refused Refusal.Strange)
   pub run : (w most : ℕ) → run_words l w most ≡ (l, Err Refusal.Strange)
   pub listing :
       (accounts : List ℕ) (totals : List ℤ)
@@ -59,7 +59,7 @@ pub record Demand1 : Type 0 where
   pub call :
       (l : List ℕ) (w kind a : ℕ) (v : ℤ) → RefusedBy Err (call_checks l w kind) l (call_words l w kind a v)
   -- "A step checks 8, 3, 5."
-  pub step : (l : List ℕ) (w : ℕ) → RefusedBy Err (step_checks l w) l (step_words l w)
+  pub step : (l : List ℕ) (w : ℕ) → RefusedBy Stepped.Refused (step_checks l w) l (step_words l w)
   -- "up to k steps": as a step
   pub run : (l : List ℕ) (w most : ℕ) → RefusedBy Err (step_checks l w) l (run_words l w most)
   -- "The listing checks 8, 10"

@@ -23,16 +23,10 @@ fn number_taken(words: &[u64], g: Settings, q: usize, x: u64) -> bool
     requires { Fits words.now g }
     ensures { result ≡ number_taken words.now g.workers q x }
 {
-    let mut j = g.workers as usize;
-    while 0 < j {
-        j -= 1;
-        if worker_word(words, g, j, WORKER_HELD) == q as u64 {
-            if worker_word(words, g, j, WORKER_STATE) == x {
-                return true;
-            }
-        }
-    }
-    false
+    (0..g.workers as usize).any(|j| {
+        worker_word(words, g, j, WORKER_HELD) == q as u64
+            && worker_word(words, g, j, WORKER_STATE) == x
+    })
 }
 
 // The next number of record q's state.
@@ -40,14 +34,9 @@ pub fn fresh_number(words: &[u64], g: Settings, q: usize) -> u64
     requires { Fits words.now g }
     ensures { result ≡ fresh_number words.now g.workers q }
 {
-    let mut x: u64 = 0;
-    while x < g.workers {
-        if !number_taken(words, g, q, x) {
-            return x;
-        }
-        x += 1;
-    }
-    x
+    (0..g.workers)
+        .find(|x| !number_taken(words, g, q, *x))
+        .unwrap_or(g.workers)
 }
 
 // The directory's next number: the least that no worker has read.
@@ -55,12 +44,7 @@ pub fn fresh_directory(words: &[u64], g: Settings) -> u64
     requires { Fits words.now g }
     ensures { result ≡ fresh_directory words.now g.workers }
 {
-    let mut x: u64 = 0;
-    while x < g.workers {
-        if !any_has(words, g, WORKER_DIRECTORY, x) {
-            return x;
-        }
-        x += 1;
-    }
-    x
+    (0..g.workers)
+        .find(|x| !any_has(words, g, WORKER_DIRECTORY, *x))
+        .unwrap_or(g.workers)
 }

@@ -29,8 +29,8 @@ const BALANCE_WORDS: usize = 2;
 // Twice GREATEST_OPERATIONS.
 pub const BALANCES: usize = 24;
 
-// What an operation makes of its account's balance: nothing, as its answer says, or whether the account is there now and
-// its total.
+// What an operation makes of its account's balance: nothing, as its answer says, or whether the account is there now
+// and its total.
 #[derive(Clone, Copy)]
 pub enum Effect {
     Unchanged,

@@ -1,6 +1,6 @@
 -- A command carried out, and what it is met with printed behind the used bytes: a listing, or its reply. Rests on
 -- specs/Responses and on the outputs.
-use Rattle.std.specs.Prelude.{ℕ, Bool, true, false, List}
+use Rattle.std.specs.Prelude.{ℕ, Bool, true, false, List, Option, Some, None}
 use Rattle.machine.specs.Choice.{when◌then◌else◌}
 use Rattle.commands.specs.declared.Command.{Command}
 use Rattle.replies.specs.declared.Reply.{Reply}
@@ -25,7 +25,8 @@ is_list (Command.Lookup w a) = false
 is_list (Command.Post w a v) = false
 is_list (Command.Steps w k) = false
 is_list Command.List = true
-is_list Command.Unread = false
 
-unfoldable pub answered : DriverState → Command → DriverState
-answered s c = when is_list c then listed s else replied_as s (responded s.words c)
+-- by what the line is; one that is no command is unread
+unfoldable pub answered : DriverState → Option Command → DriverState
+answered s None = replied_as s (s.words, Reply.Unread)
+answered s (Some c) = when is_list c then listed s else replied_as s (responded s.words c)

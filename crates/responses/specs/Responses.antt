@@ -39,4 +39,3 @@ responded l (Command.Lookup w a) = replying of_done (call_words l w kind_lookup 
 responded l (Command.Post w a v) = replying of_done (call_words l w kind_post a v)
 responded l (Command.Steps w k) = replying of_ran (run_words l w k)
 responded l Command.List = (l, Reply.Unread)
-responded l Command.Unread = (l, Reply.Unread)

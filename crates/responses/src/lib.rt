@@ -5,44 +5,33 @@
 ghost use Rattle.std.specs.Prelude.{◌≡◌};
 ghost use Rattle.outputs.specs.Outputs.{state_of};
 ghost use Rattle.responses.specs.Responses.{responded, of_done, of_ran};
-ghost use Rattle.responses.specs.Answers.{is_list, answered};
+ghost use Rattle.responses.specs.Answers.{answered};
 
 use commands::Command;
 use interface::{KIND_DELETE, KIND_INSERT, KIND_LOOKUP, KIND_POST, Ran, Refusal};
 use outputs::{put_reply, show};
 use replies::Reply;
 
-// Carries a command out, and prints what it is met with.
+// Carries out the command that a line is, and prints what the line is met with; one that is none is unread.
+#[tactic(auto, using(crate::proofs::Answering::answered_list, crate::proofs::Answering::answered_unread))]
 pub fn answer(
     words: &mut [u64],
     accounts: &mut [u32],
     totals: &mut [i64],
     out: &mut [u8],
     used: usize,
-    c: Command,
+    c: Option<Command>,
 ) -> usize
     ensures { state_of words.new accounts.new totals.new out.new result
         ≡ answered (state_of words.old accounts.old totals.old out.old used)
         c }
 {
-    if is_list(c) {
-        return show(words, accounts, totals, out, used);
-    }
-    put_reply(out, used, respond(words, c))
-}
-
-fn is_list(c: Command) -> bool
-    ensures { result ≡ is_list c }
-{
+    let Some(c) = c else {
+        return put_reply(out, used, Reply::Unread);
+    };
     match c {
-        Command::Open(_, _, _) => false,
-        Command::Insert(_, _, _) => false,
-        Command::Delete(_, _) => false,
-        Command::Lookup(_, _) => false,
-        Command::Post(_, _, _) => false,
-        Command::Steps(_, _) => false,
-        Command::List => true,
-        Command::Unread => false,
+        Command::List => show(words, accounts, totals, out, used),
+        c => put_reply(out, used, respond(words, c)),
     }
 }
 
@@ -67,7 +56,6 @@ pub fn respond(words: &mut [u64], c: Command) -> Reply
         )),
         Command::Steps(w, k) => of_ran(table::run(words, w, k)),
         Command::List => Reply::Unread,
-        Command::Unread => Reply::Unread,
     }
 }
 

@@ -21,7 +21,7 @@ fn at(a: &[u64; ARRAY_SIZE], j: usize) -> u64
     requires { length a.now ≡ array_size }
     ensures { result ≡ get_or a.now j 0 }
 {
-    if j < ARRAY_SIZE { a[j] } else { 0 }
+    a.get(j).copied().unwrap_or(0)
 }
 
 // Worker j's post carried out, where a search gave position p.
@@ -78,24 +78,16 @@ pub fn carry(state: BucketState, s: Settings, j: usize, u: Descriptor) -> Bucket
 pub fn round(state: BucketState, slots: &[u64], s: Settings, depth: u64, toggle: u64) -> BucketState
     ensures { result ≡ round_of state slots.now s depth toggle }
 {
-    let n = s.workers as usize;
-    let mut m = slots.len() / SLOT_SIZE;
-    if n < m {
-        m = n;
-    }
+    let m = (slots.len() / SLOT_SIZE).min(s.workers as usize);
     let settled = state.settled;
     let mut x = state;
-    let mut j: usize = 0;
-    while j < m {
+    for j in 0..m {
         let first = SLOT_SIZE * j;
         let ticket = slots[first + SLOT_TICKET];
         let last = at(&settled, j);
-        if pending(toggle, x.applied, j, last, ticket) {
-            if !holds_back(s, depth, x.count) {
-                x = carry(x, s, j, descriptor_at(slots, first));
-            }
+        if pending(toggle, x.applied, j, last, ticket) && !holds_back(s, depth, x.count) {
+            x = carry(x, s, j, descriptor_at(slots, first));
         }
-        j += 1;
     }
     x.applied = toggle;
     x

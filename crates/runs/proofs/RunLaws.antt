@@ -43,21 +43,21 @@ module _ (l : List ℕ) (s : Settings) (w k c : ℕ) where
     unfolding run_in
     run_idle e = rw (next, ← start) (sym (if_true _ _ (eq-eqb _ _ (sym kind ∙ e))))
 
-    module _ (m : List ℕ) (r : Result Stepped Refusal) (goes : x ≢ kind_none)
+    module _ (m : List ℕ) (r : Stepped) (goes : x ≢ kind_none)
         (step : (m, r) ≡ operation_at l s p w (word l (p + worker_steps) % steps_range)) where
       run_step : run_in l s w k (c - k) ≡ or_else m (last_of k r) (run_in m s w (k + 1) (c - (k + 1)))
       unfolding run_in
       run_step = rw (next, ← start, ← step, add-one) (if_false _ _ (ne_eqb _ _ (λ z. goes (kind ∙ z))))
 
-      pub run_moved : r ≡ Ok Stepped.Moved → run_in m s w (k + 1) (c - (k + 1)) ≡ run_in l s w k (c - k)
+      pub run_moved : r ≡ Stepped.Moved → run_in m s w (k + 1) (c - (k + 1)) ≡ run_in l s w k (c - k)
       unfolding or_else last_of
       run_moved e = rw (run_step, e)
 
-      pub run_answered : (o : Completion) → r ≡ Ok (Stepped.Answered o) → (m, Ok (Ran.Answered o)) ≡ run_in l s w k (c - k)
+      pub run_answered : (o : Completion) → r ≡ Stepped.Answered o → (m, Ok (Ran.Answered o)) ≡ run_in l s w k (c - k)
       unfolding or_else last_of
       run_answered o e = rw (run_step, e)
 
-      pub run_refused : (o : Refusal) → r ≡ Err o → (m, Ok (Ran.Moved k)) ≡ run_in l s w k (c - k)
+      pub run_refused : (o : Refusal) → r ≡ Stepped.Refused o → (m, Ok (Ran.Moved k)) ≡ run_in l s w k (c - k)
       unfolding or_else last_of
       run_refused o e = rw (run_step, e)
 

@@ -16,10 +16,10 @@ use Rattle.updates.specs.Updates.{operation_at}
 -- ---- up to so many steps of one worker, ending early at an answer
 
 -- what a run gives after a step that gave so, having taken k steps before it; a step of an operation is not refused
-unfoldable pub last_of : ℕ → Result Stepped Refusal → Option (Result Ran Refusal)
-last_of k (Ok Stepped.Moved) = None
-last_of k (Ok (Stepped.Answered c)) = Some (Ok (Ran.Answered c))
-last_of k (Err r) = Some (Ok (Ran.Moved k))
+unfoldable pub last_of : ℕ → Stepped → Option (Result Ran Refusal)
+last_of k Stepped.Moved = None
+last_of k (Stepped.Answered c) = Some (Ok (Ran.Answered c))
+last_of k (Stepped.Refused r) = Some (Ok (Ran.Moved k))
 
 unfoldable pub or_else : List ℕ → Option (Result Ran Refusal) → List ℕ × Result Ran Refusal → List ℕ × Result Ran Refusal
 or_else l None later = later
@@ -31,7 +31,7 @@ unfoldable pub run_in : List ℕ → Settings → ℕ → ℕ → ℕ → List �
 run_in l s w k zero = (l, Ok (Ran.Moved k))
 run_in l s w k (suc f) =
     let p : ℕ = worker_at s.workers w in
-    let after : List ℕ × Result Stepped Refusal = operation_at l s p w (word l (p + worker_steps) % steps_range) in
+    let after : List ℕ × Stepped = operation_at l s p w (word l (p + worker_steps) % steps_range) in
     when eqb (word l (p + worker_kind)) kind_none
     then (l, Ok (Ran.Moved k))
     else or_else after.0 (last_of k after.1) (run_in after.0 s w (suc k) f)

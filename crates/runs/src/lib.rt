@@ -36,6 +36,7 @@ fn run_in(words: &mut [u64], x: u64, w: usize, most: u64) -> Ran
             match lookup_step(words, g, p, k) {
                 Stepped::Moved => {}
                 Stepped::Answered(c) => return Ran::Answered(c),
+                Stepped::Refused(_) => return Ran::Moved(done),
             }
         } else if k < 2 * g.workers + 9 {
             early_step(words, x, w, k as usize);
@@ -43,6 +44,7 @@ fn run_in(words: &mut [u64], x: u64, w: usize, most: u64) -> Ran
             match update_step(x, w, words, k) {
                 Stepped::Moved => {}
                 Stepped::Answered(c) => return Ran::Answered(c),
+                Stepped::Refused(_) => return Ran::Moved(done),
             }
         }
     }

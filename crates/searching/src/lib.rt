@@ -1,6 +1,6 @@
 // The search for an order that explains a log: recursive over what is left, lowest place first, with two cuts. Rests on
 // an operation replayed. Each contract is an equality with a definition.
-#![tactic(auto)]
+#![tactic(auto, using(crate::proofs::StillLaws::still_tells))]
 
 ghost use Rattle.std.specs.Prelude.{◌≡◌, eqb, leb, ◌*◌, ◌≤◌, ◌<◌, length};
 ghost use Rattle.machine.specs.Choice.{◌and◌};
@@ -28,7 +28,6 @@ fn least_end(log: &[u64], left: [u64; GREATEST_OPERATIONS]) -> u64
 }
 
 // Whether the answer logged at i leaves every table as it is.
-#[tactic(auto, using(crate::proofs::StillLaws::still_tells))]
 fn still(log: &[u64], i: usize) -> bool
     requires { i < greatest_operations }
     ensures { result ≡ still_at log.now i }

@@ -44,9 +44,9 @@ use Rattle.simulation.proofs.RowsMean.{rows_are}
 use Rattle.simulation.proofs.Represents.{opened_as, open_alike, call_alike, represents_next}
 use Rattle.session.proofs.Same.{Opened, Meant, Same, Alike}
 use Rattle.simulation.proofs.lengths.CallLengths.{length_call, length_run, length_opened}
-use Rattle.session.proofs.Lines.{Said}
+use Rattle.session.proofs.Lines.{If, Said}
 use Rattle.session.proofs.Steps.{run_alike}
-use Rattle.std.specs.Prelude.{Result, Ok, Err, ⊤}
+use Rattle.std.specs.Prelude.{Option, Some, None, Result, Ok, Err, ⊤}
 
 -- a command that is no listing left the words x .0 and is met with x.1
 record Replied (x : List ℕ × Reply) (y : Script.Response) : Type 0 where
@@ -192,10 +192,10 @@ module _ (l : List ℕ) (s : Settings) (m : Machine) (h : Opened l s m) (x y : �
       let e : listing_text l x y ≡ rows_text x y (rows l (shape_of l)) = rw (strange_never s h.range l m h.represents.means) in
       e ∙ ap (rows_text x y) shown_rows ∙ rows_printed s m (contents m) x y
 
--- ---- one command
+-- ---- one line
 
 alike_replied : (l : List ℕ) (x : Script.Memory) (c : Command) (y : Script.Response) → is_list c ≡ false
-    → told x (line_of c) ≡ record { memory = y.memory; text = printed y.reply } → Replied (responded l c) y → Alike l x c
+    → told x (Some (line_of c)) ≡ record { memory = y.memory; text = printed y.reply } → Replied (responded l c) y → Alike l x (Some c)
 unfolding text_on words_on when◌then◌else◌
 alike_replied l x c y other e r = record {
   text = rw (other, e) r.text;
@@ -203,41 +203,41 @@ alike_replied l x c y other e r = record {
 }
 
 module _ (l : List ℕ) where
-  alike_open : (x : Script.Memory) (n b M : ℕ) → Same l x → Alike l x (Command.Open n b M)
+  alike_open : (x : Script.Memory) (n b M : ℕ) → Same l x → Alike l x (Some (Command.Open n b M))
   unfolding is_list told line_of Script.response_to responded
   alike_open x n b M h = alike_replied l x _ (Script.opening_response x (opening n b M 8_192)) refl refl (open-replied l x h n b M)
 
-  alike_insert : (x : Script.Memory) (w a : ℕ) (v : ℤ) → a < 2 ^ 32 → SFits w64 v → Same l x → Alike l x (Command.Insert w a v)
+  alike_insert : (x : Script.Memory) (w a : ℕ) (v : ℤ) → a < 2 ^ 32 → SFits w64 v → Same l x → Alike l x (Some (Command.Insert w a v))
   unfolding is_list told line_of Script.response_to responded
   alike_insert Script.zeros w a v k f h = alike_replied l _ _ _ refl refl (strange_call l h.count w kind_insert a v h.meant)
   alike_insert (Script.holding s m) w a v k f h =
       alike_replied l _ _ _ refl refl (call_replied l h.count w kind_insert a v s m h.meant k f)
 
-  alike_delete : (x : Script.Memory) (w a : ℕ) → a < 2 ^ 32 → Same l x → Alike l x (Command.Delete w a)
+  alike_delete : (x : Script.Memory) (w a : ℕ) → a < 2 ^ 32 → Same l x → Alike l x (Some (Command.Delete w a))
   unfolding is_list told line_of Script.response_to responded
   alike_delete Script.zeros w a k h = alike_replied l _ _ _ refl refl (strange_call l h.count w kind_delete a (pos 0) h.meant)
   alike_delete (Script.holding s m) w a k h =
       alike_replied l _ _ _ refl refl (call_replied l h.count w kind_delete a (pos 0) s m h.meant k (sfits_lit tt))
 
-  alike_lookup : (x : Script.Memory) (w a : ℕ) → a < 2 ^ 32 → Same l x → Alike l x (Command.Lookup w a)
+  alike_lookup : (x : Script.Memory) (w a : ℕ) → a < 2 ^ 32 → Same l x → Alike l x (Some (Command.Lookup w a))
   unfolding is_list told line_of Script.response_to responded
   alike_lookup Script.zeros w a k h = alike_replied l _ _ _ refl refl (strange_call l h.count w kind_lookup a (pos 0) h.meant)
   alike_lookup (Script.holding s m) w a k h =
       alike_replied l _ _ _ refl refl (call_replied l h.count w kind_lookup a (pos 0) s m h.meant k (sfits_lit tt))
 
-  alike_post : (x : Script.Memory) (w a : ℕ) (v : ℤ) → a < 2 ^ 32 → SFits w64 v → Same l x → Alike l x (Command.Post w a v)
+  alike_post : (x : Script.Memory) (w a : ℕ) (v : ℤ) → a < 2 ^ 32 → SFits w64 v → Same l x → Alike l x (Some (Command.Post w a v))
   unfolding is_list told line_of Script.response_to responded
   alike_post Script.zeros w a v k f h = alike_replied l _ _ _ refl refl (strange_call l h.count w kind_post a v h.meant)
   alike_post (Script.holding s m) w a v k f h =
       alike_replied l _ _ _ refl refl (call_replied l h.count w kind_post a v s m h.meant k f)
 
-  alike_steps : (x : Script.Memory) (w k : ℕ) → 1 ≤ k → Same l x → Alike l x (Command.Steps w k)
+  alike_steps : (x : Script.Memory) (w k : ℕ) → 1 ≤ k → Same l x → Alike l x (Some (Command.Steps w k))
   unfolding is_list told line_of Script.response_to responded
   alike_steps Script.zeros w k more h = alike_replied l _ _ _ refl refl (strange_run l h.count w k h.meant)
   alike_steps (Script.holding s m) w k more h =
       alike_replied l _ _ (Script.steps s w 0 k m) refl refl (run_replied l h.count w s m h.meant k more)
 
-  alike_listing : (x : Script.Memory) → Same l x → Alike l x Command.List
+  alike_listing : (x : Script.Memory) → Same l x → Alike l x (Some Command.List)
   unfolding is_list told line_of Script.response_to text_on words_on listing when◌then◌else◌
   alike_listing Script.zeros h = record { text = strange_listing l 4_096 4_096 h.meant; next = h }
   alike_listing (Script.holding s m) h = record {
@@ -245,17 +245,17 @@ module _ (l : List ℕ) where
     next = record { count = h.count; meant = subst⁻¹ (Meant l) (listing_memory s m (contents m) 4_096 4_096) h.meant };
   }
 
-  alike_unread : (x : Script.Memory) → Same l x → Alike l x Command.Unread
-  unfolding is_list told line_of responded text_on words_on printed_reply when◌then◌else◌
+  alike_unread : (x : Script.Memory) → Same l x → Alike l x None
+  unfolding told text_on words_on printed_reply
   alike_unread x h = record { text = refl; next = h }
 
   -- every line that can be read, and every one that cannot
-  pub alike : (x : Script.Memory) (c : Command) → Said c → Same l x → Alike l x c
-  alike x (Command.Open n b M) said h = alike_open x n b M h
-  alike x (Command.Insert w a v) said h = alike_insert x w a v said.0 said.1 h
-  alike x (Command.Delete w a) said h = alike_delete x w a said h
-  alike x (Command.Lookup w a) said h = alike_lookup x w a said h
-  alike x (Command.Post w a v) said h = alike_post x w a v said.0 said.1 h
-  alike x (Command.Steps w k) said h = alike_steps x w k said h
-  alike x Command.List said h = alike_listing x h
-  alike x Command.Unread said h = alike_unread x h
+  pub alike : (x : Script.Memory) (c : Option Command) → If Said c → Same l x → Alike l x c
+  alike x (Some (Command.Open n b M)) said h = alike_open x n b M h
+  alike x (Some (Command.Insert w a v)) said h = alike_insert x w a v said.0 said.1 h
+  alike x (Some (Command.Delete w a)) said h = alike_delete x w a said h
+  alike x (Some (Command.Lookup w a)) said h = alike_lookup x w a said h
+  alike x (Some (Command.Post w a v)) said h = alike_post x w a v said.0 said.1 h
+  alike x (Some (Command.Steps w k)) said h = alike_steps x w k said h
+  alike x (Some Command.List) said h = alike_listing x h
+  alike x None said h = alike_unread x h

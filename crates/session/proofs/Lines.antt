@@ -23,10 +23,9 @@ Said (Command.Lookup w a) = a < 2 ^ 32
 Said (Command.Post w a v) = (a < 2 ^ 32) × SFits w64 v
 Said (Command.Steps w k) = 1 ≤ k
 Said Command.List = Unit {0}
-Said Command.Unread = Unit {0}
 
--- what holds of a number that was read
-abbrev If : {A : Type 0} → (A → Type 0) → Option A → Type 0
+-- what holds of a number, or a command, that was read
+abbrev pub If : {A : Type 0} → (A → Type 0) → Option A → Type 0
 If P None = Unit {0}
 If P (Some a) = P a
 
@@ -51,13 +50,13 @@ in_64 (Some (negsuc n)) =
 
 said_two : {A B : Type 0} (P : B → Type 0) (f : A → B → Command) (x : Option A) (y : Option B) → ((a : A) (b : B) → P b → Said (f a b))
     → If P y
-    → Said (with2 f x y)
+    → If Said (with2 f x y)
 unfolding with2
 said_two P f None y h k = tt
 said_two P f (Some a) None h k = tt
 said_two P f (Some a) (Some b) h k = h a b k
 
-said_open : (x y z : Option ℕ) → Said (with3 Command.Open x y z)
+said_open : (x y z : Option ℕ) → If Said (with3 Command.Open x y z)
 unfolding with3
 said_open None y z = tt
 said_open (Some a) None z = tt
@@ -65,38 +64,38 @@ said_open (Some a) (Some b) None = tt
 said_open (Some a) (Some b) (Some c) = tt
 
 said_totalled : (f : ℕ → ℕ → ℤ → Command) → ((w a : ℕ) (v : ℤ) → (a < 2 ^ 32) × SFits w64 v → Said (f w a v)) → (x y : Option ℕ)
-    (z : Option ℤ) → If (λ n. n ≤ 4_294_967_295) y → If (SFits w64) z → Said (with3 f x y z)
+    (z : Option ℤ) → If (λ n. n ≤ 4_294_967_295) y → If (SFits w64) z → If Said (with3 f x y z)
 unfolding with3
 said_totalled f says None y z h k = tt
 said_totalled f says (Some a) None z h k = tt
 said_totalled f says (Some a) (Some b) None h k = tt
 said_totalled f says (Some a) (Some b) (Some c) h k = says a b c (omega arith, k)
 
-said_one : (letter : ℕ) → Said (one_field letter)
+said_one : (letter : ℕ) → If Said (one_field letter)
 unfolding one_field
-said_one letter = if_elim Said (eqb letter 84) _ _ (λ t. tt) (λ t. tt)
+said_one letter = if_elim (If Said) (eqb letter 84) _ _ (λ t. tt) (λ t. tt)
 
-said_three : (letter : ℕ) (x y : List ℕ) → Said (three_fields letter x y)
+said_three : (letter : ℕ) (x y : List ℕ) → If Said (three_fields letter x y)
 unfolding three_fields account_of steps_of
 said_three letter x y =
     let account = up-to 4_294_967_295 (numeral y) in
-    if_elim Said (eqb letter 68) _ _ (λ t. said_two (λ n. n ≤ 4_294_967_295) Command.Delete _ _ (λ a b h. omega arith) account)
+    if_elim (If Said) (eqb letter 68) _ _ (λ t. said_two (λ n. n ≤ 4_294_967_295) Command.Delete _ _ (λ a b h. omega arith) account)
     (λ t.
-    if_elim Said (eqb letter 76) _ _ (λ t. said_two (λ n. n ≤ 4_294_967_295) Command.Lookup _ _ (λ a b h. omega arith) account)
-    (λ t. if_elim Said (eqb letter 83) _ _ (λ t. said_two (λ n. 1 ≤ n) Command.Steps _ _ (λ a b h. h) (at_least 1 (up_to 9_999 (numeral y))))
+    if_elim (If Said) (eqb letter 76) _ _ (λ t. said_two (λ n. n ≤ 4_294_967_295) Command.Lookup _ _ (λ a b h. omega arith) account)
+    (λ t. if_elim (If Said) (eqb letter 83) _ _ (λ t. said_two (λ n. 1 ≤ n) Command.Steps _ _ (λ a b h. h) (at_least 1 (up_to 9_999 (numeral y))))
     (λ t. tt)))
 
-said_four : (letter : ℕ) (x y z : List ℕ) → Said (four_fields letter x y z)
+said_four : (letter : ℕ) (x y z : List ℕ) → If Said (four_fields letter x y z)
 unfolding four_fields account_of total_of
 said_four letter x y z =
     let account = up-to 4_294_967_295 (numeral y) in
     let total = in_64 (signed_numeral z) in
-    if_elim Said (eqb letter 79) _ _ (λ t. said_open _ _ _)
+    if_elim (If Said) (eqb letter 79) _ _ (λ t. said_open _ _ _)
     (λ t.
-    if_elim Said (eqb letter 73) _ _ (λ t. said_totalled Command.Insert (λ w a v h. h) _ _ _ account total)
-    (λ t. if_elim Said (eqb letter 80) _ _ (λ t. said_totalled Command.Post (λ w a v h. h) _ _ _ account total) (λ t. tt)))
+    if_elim (If Said) (eqb letter 73) _ _ (λ t. said_totalled Command.Insert (λ w a v h. h) _ _ _ account total)
+    (λ t. if_elim (If Said) (eqb letter 80) _ _ (λ t. said_totalled Command.Post (λ w a v h. h) _ _ _ account total) (λ t. tt)))
 
-said_fields : (fs : List (List ℕ)) → Said (of_fields fs)
+said_fields : (fs : List (List ℕ)) → If Said (of_fields fs)
 unfolding of_fields
 said_fields [] = tt
 said_fields (f ∷ []) = said_one (letter_of f)
@@ -105,6 +104,6 @@ said_fields (f ∷ x ∷ y ∷ []) = said_three (letter_of f) x y
 said_fields (f ∷ x ∷ y ∷ z ∷ []) = said_four (letter_of f) x y z
 said_fields (f ∷ x ∷ y ∷ z ∷ g ∷ gs) = tt
 
-pub said : (line : List ℕ) → Said (command_of line)
+pub said : (line : List ℕ) → If Said (command_of line)
 unfolding command_of
 said line = said_fields (fields_of line)

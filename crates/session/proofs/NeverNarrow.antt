@@ -1,6 +1,6 @@
 -- No line is met with `refused 10`, whatever the words: only a listing could be, and its lists are long enough. Rests on the count of
 -- rows, and on what is printed.
-use Prim.Native.Nat.{ℕ, zero, suc, ◌+◌, ◌/◌, ◌%◌, ◌≤◌, ◌<◌}
+use Prim.Native.Nat.{ℕ, zero, suc, ◌/◌, ◌%◌, ◌≤◌, ◌<◌}
 use native.Mathlib.Omega.{arith}
 use native.Mathlib.Decide.{dec_lt}
 use mathlib.Core.Path.{◌≡◌, refl, ap, sym, ◌∙◌}
@@ -36,7 +36,7 @@ use Rattle.responses.specs.Answers.{is_list}
 use Rattle.texts.specs.Texts.{rows_text, listing_text, text_on, words_on, ended, reader_after, last_feed}
 use Rattle.lines.specs.Reading.{fresh}
 use Rattle.session.specs.Program.{NeverNarrowOn, NeverNarrow}
-use Rattle.std.specs.Prelude.{Result, Ok, Err, ⊤}
+use Rattle.std.specs.Prelude.{Option, Some, None, Result, Ok, Err, ⊤}
 
 -- ---- texts that are not `refused 10`
 
@@ -131,12 +131,12 @@ other_called l w kind a v =
     other : List ℕ × Result ⊤ Refusal → Type 0
     other x = OtherReply (of_done x.1)
 
-other_last : (l : List ℕ) (k : ℕ) (x : Result Stepped Refusal) (later : List ℕ × Result Ran Refusal) → OtherReply (of_ran later.1)
+other_last : (l : List ℕ) (k : ℕ) (x : Stepped) (later : List ℕ × Result Ran Refusal) → OtherReply (of_ran later.1)
     → OtherReply (of_ran (or_else l (last_of k x) later).1)
 unfolding or_else last_of of_ran
-other_last l k (Ok Stepped.Moved) later h = h
-other_last l k (Ok (Stepped.Answered c)) later h = tt
-other_last l k (Err r) later h = tt
+other_last l k Stepped.Moved later h = h
+other_last l k (Stepped.Answered c) later h = tt
+other_last l k (Stepped.Refused r) later h = tt
 
 other_run : (f : ℕ) (l : List ℕ) (s : Settings) (w k : ℕ) → OtherReply (of_ran (run_in l s w k f).1)
 unfolding run_in of_ran
@@ -162,7 +162,6 @@ other_response l (Command.Lookup w a) = other_called l w kind_lookup a _
 other_response l (Command.Post w a v) = other_called l w kind_post a v
 other_response l (Command.Steps w k) = other_ran l w k
 other_response l Command.List = tt
-other_response l Command.Unread = tt
 
 -- ---- the listing
 
@@ -178,13 +177,14 @@ listing_another l =
     if_elim Another (strange l) _ _ (λ e. reply_another (Reply.Refused (number_of Refusal.Strange)) (omega arith))
     (λ e. rows_text_another _ (rows_few l e))
 
--- ---- every command, on any words
+-- ---- every line, on any words
 
-text_another : (l : List ℕ) (c : Command) → Another (text_on l 4_096 4_096 c)
+text_another : (l : List ℕ) (c : Option Command) → Another (text_on l 4_096 4_096 c)
 unfolding text_on
-text_another l c = if_elim Another (is_list c) _ _ (λ e. listing_another l) (λ e. reply_another _ (other_response l c))
+text_another l None = reply_another Reply.Unread tt
+text_another l (Some c) = if_elim Another (is_list c) _ _ (λ e. listing_another l) (λ e. reply_another _ (other_response l c))
 
-never_narrow_on : (cs : List Command) (l : List ℕ) → NeverNarrowOn l cs
+never_narrow_on : (cs : List (Option Command)) (l : List ℕ) → NeverNarrowOn l cs
 never_narrow_on [] l = tt
 never_narrow_on (c ∷ cs) l = (text_another l c, never_narrow_on cs (words_on l c))
 

@@ -1,6 +1,6 @@
 -- The program's calls of `feed`, block after block, print the texts of the whole input, however it is cut: so they print the session.
 -- Rests on what one call of `feed` prints, on the driver's law of input in parts, and on the session.
-use Prim.Native.Nat.{ℕ, zero, suc, ◌+◌, ◌≤◌, ◌<◌}
+use Prim.Native.Nat.{ℕ, zero, suc, ◌≤◌, ◌<◌}
 use native.Mathlib.Omega.{arith}
 use mathlib.Core.Path.{◌≡◌, refl, ap, sym, ◌∙◌, subst}
 use mathlib.Core.Bool.{Bool, true, false}

@@ -5,6 +5,7 @@ use mathlib.Core.Path.{◌≡◌, refl, ◌∙◌}
 use mathlib.Core.List.{List, [], ◌∷◌, map}
 use lib.ListN.{replicate, length-replicate}
 use Rattle.interface.specs.Numbers.{bytes}
+use Rattle.std.specs.Option.{option_map}
 use Rattle.machine.specs.Script.{Memory, zeros}
 use Rattle.commands.specs.Commands.{line_of}
 use Rattle.lines.specs.Grammar.{lines_of, command_of}
@@ -24,7 +25,7 @@ unfolding texts_on session_from
 texts_told [] l x h = refl
 texts_told (line ∷ ls) l x h =
     let a = alike l x (command_of line) (said line) h in
-    rw (a.text, texts_told ls (words_on l (command_of line)) (told x (line_of (command_of line))).memory a.next)
+    rw (a.text, texts_told ls (words_on l (command_of line)) (told x (option_map line_of (command_of line))).memory a.next)
 
 -- at first
 pub zeros_same : Same (replicate 8_192 0) zeros

@@ -4,6 +4,8 @@ use Prim.Native.Nat.{ℕ}
 use mathlib.Core.Path.{◌≡◌}
 use mathlib.Core.Bool.{true}
 use mathlib.Core.List.{List}
+use Rattle.std.specs.Prelude.{Option}
+use Rattle.std.specs.Option.{option_map}
 use lib.ListN.{length}
 use Rattle.interface.specs.Limits.{in_range}
 use Rattle.interface.specs.declared.Settings.{Settings}
@@ -30,7 +32,7 @@ pub record Same (l : List ℕ) (x : Memory) : Type 0 where
   pub count : length l ≡ driver.words
   pub meant : Meant l x
 
--- a command is met on words as its line is met by the script, and leaves words that are the script's memory again
-pub record Alike (l : List ℕ) (x : Memory) (c : Command) : Type 0 where
-  pub text : text_on l driver.accounts driver.totals c ≡ (told x (line_of c)).text
-  pub next : Same (words_on l c) (told x (line_of c)).memory
+-- a line is met on words as it is met by the script, and leaves words that are the script's memory again
+pub record Alike (l : List ℕ) (x : Memory) (c : Option Command) : Type 0 where
+  pub text : text_on l driver.accounts driver.totals c ≡ (told x (option_map line_of c)).text
+  pub next : Same (words_on l c) (told x (option_map line_of c)).memory

@@ -20,7 +20,7 @@ use Rattle.responses.specs.Responses.{of_ran}
 use Rattle.simulation.specs.Runs.{goes_on, iterated, by_steps}
 use Rattle.simulation.proofs.Represents.{Represents, step_alike, represents_next}
 use Rattle.simulation.proofs.runs.RunIterates.{run_iterates}
-use Rattle.std.specs.Prelude.{Result, Ok, Err}
+use Rattle.std.specs.Prelude.{Result}
 use Rattle.interface.specs.declared.Refusal.{Refusal}
 
 -- what a run on words left and replied is what the script's steps left and replied
@@ -31,35 +31,35 @@ pub record AsSteps (s : Settings) (x : List ℕ × Result Ran Refusal) (y : Scri
   pub represents : Represents s x.0 machine
 
 -- the script's steps after a step that left the machine m and replied so
-unfoldable met_after : Settings → Machine → Result Stepped Refusal → Script.Response → Script.Response
-met_after s m (Ok Stepped.Moved) later = later
-met_after s m (Ok (Stepped.Answered c)) later = Script.response s m (Script.answered c.answer c.steps)
-met_after s m (Err r) later = Script.response s m (Script.refused (number_of r))
+unfoldable met_after : Settings → Machine → Stepped → Script.Response → Script.Response
+met_after s m Stepped.Moved later = later
+met_after s m (Stepped.Answered c) later = Script.response s m (Script.answered c.answer c.steps)
+met_after s m (Stepped.Refused r) later = Script.response s m (Script.refused (number_of r))
 
 steps_next : (s : Settings) (w k f : ℕ) (m : Machine)
     → Script.steps s w k (suc f) m ≡ met_after s (step s m w).0 (step s m w).1 (Script.steps s w (suc k) f (step s m w).0)
 unfolding Script.steps met_after
 steps_next s w k f m = by (step s m w)
   where
-    by : (r : Machine × Result Stepped Refusal) → elim r.1 [
-      | Ok Stepped.Moved ↦ Script.steps s w (suc k) f r.0
-      | Ok (Stepped.Answered c) ↦ Script.response s r.0 (Script.answered c.answer c.steps)
-      | Err x ↦ Script.response s r.0 (Script.refused (number_of x))
+    by : (r : Machine × Stepped) → elim r.1 [
+      | Stepped.Moved ↦ Script.steps s w (suc k) f r.0
+      | Stepped.Answered c ↦ Script.response s r.0 (Script.answered c.answer c.steps)
+      | Stepped.Refused x ↦ Script.response s r.0 (Script.refused (number_of x))
     ] ≡ met_after s r.0 r.1 (Script.steps s w (suc k) f r.0)
-    by (m', Ok Stepped.Moved) = refl
-    by (m', Ok (Stepped.Answered c)) = refl
-    by (m', Err x) = refl
+    by (m', Stepped.Moved) = refl
+    by (m', Stepped.Answered c) = refl
+    by (m', Stepped.Refused x) = refl
 
 module _ (s : Settings) (range : in_range s.workers s.capacity s.depth ≡ true) (w : ℕ) where
   -- a step that replied so, then what follows
   goes-on :
-      (l : List ℕ) (m : Machine) (r : Result Stepped Refusal) (x : List ℕ × Result Ran Refusal) (y : Script.Response) → Represents s l m
-      → (r ≡ Ok Stepped.Moved → AsSteps s x y)
+      (l : List ℕ) (m : Machine) (r : Stepped) (x : List ℕ × Result Ran Refusal) (y : Script.Response) → Represents s l m
+      → (r ≡ Stepped.Moved → AsSteps s x y)
       → AsSteps s (goes_on l r x) (met_after s m r y)
   unfolding goes_on met_after of_ran printed_reply
-  goes-on l m (Ok Stepped.Moved) x y h later = later refl
-  goes-on l m (Ok (Stepped.Answered c)) x y h later = record { text = refl; machine = m; memory = refl; represents = h }
-  goes-on l m (Err r) x y h later = record { text = refl; machine = m; memory = refl; represents = h }
+  goes-on l m Stepped.Moved x y h later = later refl
+  goes-on l m (Stepped.Answered c) x y h later = record { text = refl; machine = m; memory = refl; represents = h }
+  goes-on l m (Stepped.Refused r) x y h later = record { text = refl; machine = m; memory = refl; represents = h }
 
   represents_step : (l : List ℕ) (m : Machine) → Represents s l m → Represents s (step_words l w).0 (step s m w).0
   unfolding next

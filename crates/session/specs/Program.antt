@@ -1,6 +1,6 @@
 -- What the program `totals` prints, by the driver's definitions, for input that is fed in any parts, and the claim that
 -- this is the session of the machine's script. Rests on the definitions that the contract of `feed` equals.
-use Rattle.std.specs.Prelude.{ℕ, zero, suc, ◌≤◌, ◌≡◌, List, [], ◌∷◌, ◌++◌, length, take, drop, replicate, ℤ}
+use Rattle.std.specs.Prelude.{ℕ, zero, suc, ◌≤◌, ◌≡◌, List, [], ◌∷◌, ◌++◌, length, take, drop, replicate, ℤ, Option}
 use Rattle.machine.specs.Script.{driver, refused}
 use Rattle.replies.specs.Printed.{printed}
 use Rattle.commands.specs.declared.Command.{Command}
@@ -109,8 +109,8 @@ ProgramIsSessionInBlocks = (k : Kept) → Starts k → (blocks : List (List ℕ)
 
 -- ---- no line is refused with 10
 
--- none of the commands is met with `refused 10` on these words
-abbrev pub NeverNarrowOn : List ℕ → List Command → Type 0
+-- none of the lines is met with `refused 10` on these words
+abbrev pub NeverNarrowOn : List ℕ → List (Option Command) → Type 0
 NeverNarrowOn l [] = Unit {0}
 NeverNarrowOn l (c ∷ cs) = (text_on l driver.accounts driver.totals c ≡ printed (refused 10) → ⊥)
     × NeverNarrowOn (words_on l c) cs

@@ -63,7 +63,7 @@ module _ (s : Settings) (m : Machine) where
   unfolding step step_of refusal_in done step_reply
   step_recognised j = if_elim Told (ltb j s.workers) _ _ (λ _. by (m.workers j).operation) (λ _. refl)
     where
-      Told : Machine × Result Stepped Refusal → Type 0
+      Told : Machine × Stepped → Type 0
       Told x = is_strange (refusal_in x.1) ≡ false
 
       replied : (k c : ℕ) (a : Option Answer) → is_strange (refusal_in (step_reply k c a)) ≡ false

@@ -124,7 +124,7 @@ module _ (s : Settings) (range : in_range s.workers s.capacity s.depth ≡ true)
             let e : step_words l w ≡ step_in l s w = rw (not_strange, shape, lt-leb s.workers w known) in
             rw e (step_means (ready w known))
         go (no beyond) =
-            let e : step_words l w ≡ (l, Err Refusal.Stranger) = rw (not_strange, shape, le-leb s.workers w (omega arith)) in
+            let e : step_words l w ≡ (l, Stepped.Refused Refusal.Stranger) = rw (not_strange, shape, le-leb s.workers w (omega arith)) in
             rw (e, step_stranger s m w (omega arith)) (h.means, refl)
 
     module _ (w kind a : ℕ) (v : ℤ) (narrow : a < 2 ^ 32) (fits : SFits w64 v) where

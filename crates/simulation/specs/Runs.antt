@@ -16,10 +16,10 @@ use Rattle.interface.specs.declared.Refusal.{Refusal}
 -- ---- one run
 
 -- a step left the words l and replied so; later is the run that goes on from there
-unfoldable pub goes_on : List ℕ → Result Stepped Refusal → List ℕ × Result Ran Refusal → List ℕ × Result Ran Refusal
-goes_on l (Ok Stepped.Moved) later = later
-goes_on l (Ok (Stepped.Answered c)) later = (l, Ok (Ran.Answered c))
-goes_on l (Err r) later = (l, Err r)
+unfoldable pub goes_on : List ℕ → Stepped → List ℕ × Result Ran Refusal → List ℕ × Result Ran Refusal
+goes_on l Stepped.Moved later = later
+goes_on l (Stepped.Answered c) later = (l, Ok (Ran.Answered c))
+goes_on l (Stepped.Refused r) later = (l, Err r)
 
 -- up to f steps of worker w, k taken before: the first one answered or refused ends them
 unfoldable pub iterated : List ℕ → ℕ → ℕ → ℕ → List ℕ × Result Ran Refusal
@@ -27,10 +27,10 @@ iterated l w k zero = (l, Ok (Ran.Moved k))
 iterated l w k (suc f) = goes_on (step_words l w).0 (step_words l w).1 (iterated (step_words l w).0 w (suc k) f)
 
 -- a run of no steps is refused where a step would be
-unfoldable pub checked_only : Result Stepped Refusal → Result Ran Refusal
-checked_only (Ok Stepped.Moved) = Ok (Ran.Moved 0)
-checked_only (Ok (Stepped.Answered c)) = Ok (Ran.Moved 0)
-checked_only (Err r) = Err r
+unfoldable pub checked_only : Stepped → Result Ran Refusal
+checked_only Stepped.Moved = Ok (Ran.Moved 0)
+checked_only (Stepped.Answered c) = Ok (Ran.Moved 0)
+checked_only (Stepped.Refused r) = Err r
 
 -- "up to k steps .., ending early at an answer"
 unfoldable pub by_steps : List ℕ → ℕ → ℕ → List ℕ × Result Ran Refusal
@@ -45,14 +45,14 @@ after_steps l w zero = l
 after_steps l w (suc i) = after_steps (step_words l w).0 w i
 
 -- what step i of them replies
-abbrev pub reply_at : List ℕ → ℕ → ℕ → Result Stepped Refusal
+abbrev pub reply_at : List ℕ → ℕ → ℕ → Stepped
 reply_at l w i = (step_words (after_steps l w i) w).1
 
 -- a step that replied so is counted, with the later ones if it moved
-unfoldable pub counting : Result Stepped Refusal → ℕ → ℕ
-counting (Ok Stepped.Moved) later = suc later
-counting (Ok (Stepped.Answered c)) later = 1
-counting (Err r) later = 1
+unfoldable pub counting : Stepped → ℕ → ℕ
+counting Stepped.Moved later = suc later
+counting (Stepped.Answered c) later = 1
+counting (Stepped.Refused r) later = 1
 
 -- how many steps a run of up to f is; a refused one is one refused step
 unfoldable pub steps_taken : List ℕ → ℕ → ℕ → ℕ
@@ -60,19 +60,19 @@ steps_taken l w zero = 0
 steps_taken l w (suc f) = counting (step_words l w).1 (steps_taken (step_words l w).0 w f)
 
 -- what a run of n steps replies, by the reply to its last one
-unfoldable pub ran_as : ℕ → Result Stepped Refusal → Result Ran Refusal
-ran_as n (Ok Stepped.Moved) = Ok (Ran.Moved n)
-ran_as n (Ok (Stepped.Answered c)) = Ok (Ran.Answered c)
-ran_as n (Err r) = Err r
+unfoldable pub ran_as : ℕ → Stepped → Result Ran Refusal
+ran_as n Stepped.Moved = Ok (Ran.Moved n)
+ran_as n (Stepped.Answered c) = Ok (Ran.Answered c)
+ran_as n (Stepped.Refused r) = Err r
 
 pub record RunAsSteps (l : List ℕ) (w most : ℕ) : Type 0 where
   pub words : (run_words l w most).0 ≡ after_steps l w (steps_taken l w most)
   -- every step but the last one moved
-  pub earlier : (i : ℕ) → suc i < steps_taken l w most → reply_at l w i ≡ Ok Stepped.Moved
+  pub earlier : (i : ℕ) → suc i < steps_taken l w most → reply_at l w i ≡ Stepped.Moved
   -- the run's reply is the last one's
   pub last : (i : ℕ) → suc i ≡ steps_taken l w most → (run_words l w most).1 ≡ ran_as (suc i) (reply_at l w i)
   -- all steps that were asked for are taken, where the last one moved
-  pub whole : (i : ℕ) → suc i ≡ steps_taken l w most → reply_at l w i ≡ Ok Stepped.Moved → steps_taken l w most ≡ most
+  pub whole : (i : ℕ) → suc i ≡ steps_taken l w most → reply_at l w i ≡ Stepped.Moved → steps_taken l w most ≡ most
   -- no step was asked for
   pub nothing : most ≡ 0 → (run_words l w most).1 ≡ checked_only (step_words l w).1
 

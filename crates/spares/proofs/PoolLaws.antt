@@ -75,17 +75,6 @@ entry_is s d q x w e f =
     ∙ ap (λ (x : ℕ). (q % n) * k + x) (mul_assoc n (q / n) k) in
     rw (e, f, parts, add-mul-mod_self_left)
 
--- a depth of at least M leaves one entry
-pub width_one : (m d : ℕ) → m ≤ d → 1 ≡ 2 ^ (m - d)
-width_one m d h = let e : m - d ≡ 0 = omega arith in rw e
-
-pub entry_product : (q m k x w : ℕ) → m ≤ deepest → k ≤ deepest → x ≡ 2 ^ m → w ≡ 2 ^ k → (q % x) * w ≤ 1_073_741_824
-entry_product q m k x w h n e f =
-    let a = pow_mono h in
-    let b = mod-lt q (pow_pos m) in
-    let below : q % 2 ^ m ≤ 32_768 = omega arith in
-    rw (e, f) (mul-le-mul below (pow_mono n))
-
 pub entry_below : (s : Settings) (d q : ℕ) → first_entry s d q < 2 ^ s.depth
 unfolding first_entry
 entry_below s d q = mod-lt _ (pow_pos s.depth)

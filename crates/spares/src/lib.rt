@@ -49,7 +49,7 @@ pub fn first_entry(g: Settings, d: u64, q: u64) -> usize
     ensures { result ≡ first_entry g d q }
 {
     let span: u64 = 1 << g.depth;
-    let width: u64 = if d < g.depth { 1 << (g.depth - d) } else { 1 };
+    let width: u64 = 1 << g.depth.saturating_sub(d);
     ((q % span) * width % span) as usize
 }
 
@@ -73,10 +73,7 @@ fn used(words: &[u64], g: Settings, r: usize) -> bool
     ensures { result ≡ used_at words.now g r }
 {
     let q = record_start(g, r);
-    if current(words, g, q) {
-        return true;
-    }
-    any_has(words, g, WORKER_HELD, q as u64)
+    current(words, g, q) || any_has(words, g, WORKER_HELD, q as u64)
 }
 
 // The next record to use.
@@ -86,13 +83,11 @@ pub fn spare(words: &[u64], g: Settings) -> usize
 {
     let all = pool(g);
     let mut r = (memory::get(words, HEADER_SPARE) % all as u64) as usize;
-    let mut k = all;
-    while 0 < k {
+    for _k in 0..all {
         if !used(words, g, r) {
             return r;
         }
         r = if r + 1 < all { r + 1 } else { 0 };
-        k -= 1;
     }
     r
 }

@@ -9,6 +9,7 @@ use lib.Dec.{eqb}
 use lib.ListN.{length, take, length-append}
 use lib.Seq.{take_at}
 use borrow.Author.Tests.{leb-true}
+use Rattle.std.specs.Prelude.{Option}
 use Rattle.machine.specs.Choice.{when◌then◌else◌}
 use Rattle.commands.specs.declared.Command.{Command}
 use Rattle.lines.specs.declared.reader.Reader.{Reader}
@@ -29,7 +30,7 @@ pub record Ready (n m : ℕ) (f : Feeding) : Type 0 where
   pub totals : length f.state.totals ≡ m
 
 -- from f to g the commands cs were answered, and k bytes taken, with the reader r after them
-pub record Passed (n m : ℕ) (f g : Feeding) (cs : List Command) (r : Reader) (k : ℕ) : Type 0 where
+pub record Passed (n m : ℕ) (f g : Feeding) (cs : List (Option Command)) (r : Reader) (k : ℕ) : Type 0 where
   pub room : Room f.state.output (texts_on f.state.words n m cs)
   pub output : g.state.output ≡ behind f.state.output (texts_on f.state.words n m cs)
   pub words : g.state.words ≡ words_after f.state.words cs
@@ -67,7 +68,7 @@ module _ (n m : ℕ) (few : n ≤ 4_096) (f : Feeding) (ready : Ready n m f)
       }
 
   -- a line feed, then what follows
-  line_passed : (g : Feeding) (cs : List Command) (r : Reader) (k : ℕ) → Passed n m line g cs r k
+  line_passed : (g : Feeding) (cs : List (Option Command)) (r : Reader) (k : ℕ) → Passed n m line g cs r k
       → Passed n m f g (command_in f.reader ∷ cs) r (suc k)
   unfolding line text texts_on words_after behind
   line_passed g cs r k p =
@@ -101,7 +102,7 @@ module _ (n m : ℕ) (f : Feeding) (b : ℕ) where
   byte_ready h = record { used = h.used; accounts = h.accounts; totals = h.totals }
 
   -- another byte, then what follows
-  byte_passed : (g : Feeding) (cs : List Command) (r : Reader) (k : ℕ) → Passed n m byte g cs r k → Passed n m f g cs r (suc k)
+  byte_passed : (g : Feeding) (cs : List (Option Command)) (r : Reader) (k : ℕ) → Passed n m byte g cs r k → Passed n m f g cs r (suc k)
   unfolding byte
   byte_passed g cs r k p =
       record { room = p.room; output = p.output; words = p.words; reader = p.reader; taken = let e = p.taken in omega arith }

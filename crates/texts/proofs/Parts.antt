@@ -5,6 +5,7 @@ use mathlib.Core.Path.{◌≡◌, refl, sym, ◌∙◌, ap}
 use mathlib.Core.Bool.{Bool, true, false}
 use mathlib.Core.List.{List, [], ◌∷◌, ◌++◌, map, append_assoc}
 use lib.Dec.{eqb}
+use Rattle.std.specs.Prelude.{Option}
 use Rattle.machine.specs.Choice.{when◌then◌else◌}
 use Rattle.commands.specs.declared.Command.{Command}
 use Rattle.lines.specs.declared.reader.Reader.{Reader}
@@ -23,10 +24,10 @@ ended_append r (b ∷ xs) ys = by (eqb b 10) (ended_append fresh xs ys) (ended_a
         → when t then command_in r ∷ ended fresh (xs ++ ys) else ended (pushed r b) (xs ++ ys)
         ≡ (when t then command_in r ∷ ended fresh xs else ended (pushed r b) xs)
         ++ ended (when t then reader_after fresh xs else reader_after (pushed r b) xs) ys
-    by true f g = ap (λ (l : List Command). command_in r ∷ l) f
+    by true f g = ap (λ (l : List (Option Command)). command_in r ∷ l) f
     by false f g = g
 
-texts_append : (l : List ℕ) (n m : ℕ) (cs ds : List Command)
+texts_append : (l : List ℕ) (n m : ℕ) (cs ds : List (Option Command))
     → texts_on l n m (cs ++ ds) ≡ texts_on l n m cs ++ texts_on (words_after l cs) n m ds
 unfolding texts_on words_after
 texts_append l n m [] ds = refl
@@ -52,7 +53,7 @@ read-ended r [] = by (is_empty r)
     by false = refl
 read-ended r (b ∷ xs) = by (eqb b 10) (read-ended fresh xs) (read-ended (pushed r b) xs)
   where
-    last : Reader → List Command
+    last : Reader → List (Option Command)
     last q = ended q (last_feed q)
 
     by : (t : Bool) → commands_read fresh xs ≡ ended fresh xs ++ last (reader_after fresh xs)
@@ -60,7 +61,7 @@ read-ended r (b ∷ xs) = by (eqb b 10) (read-ended fresh xs) (read-ended (pushe
         → when t then command_in r ∷ commands_read fresh xs else commands_read (pushed r b) xs
         ≡ (when t then command_in r ∷ ended fresh xs else ended (pushed r b) xs)
         ++ last (when t then reader_after fresh xs else reader_after (pushed r b) xs)
-    by true f g = ap (λ (l : List Command). command_in r ∷ l) f
+    by true f g = ap (λ (l : List (Option Command)). command_in r ∷ l) f
     by false f g = g
 
 -- the commands that the program answers are those of the input's lines

@@ -47,10 +47,10 @@ small_number Refusal.BadLog = omega arith
 
 -- ---- a step
 
-small_stepped : Result Stepped Refusal → Type 0
-small_stepped (Ok Stepped.Moved) = Unit {0}
-small_stepped (Ok (Stepped.Answered c)) = (c.steps < 2 ^ 64) × small_answer c.answer
-small_stepped (Err r) = Unit {0}
+small_stepped : Stepped → Type 0
+small_stepped Stepped.Moved = Unit {0}
+small_stepped (Stepped.Answered c) = (c.steps < 2 ^ 64) × small_answer c.answer
+small_stepped (Stepped.Refused r) = Unit {0}
 
 small_stored : (x total : ℕ) → small_answer (answer_of x total)
 unfolding answer_of small_answer
@@ -105,16 +105,16 @@ small_lookup l s p (suc k) h = small_ended l p (suc k) _ _ h (small_found l s _ 
 small_operation : (l : List ℕ) (s : Settings) (p w k : ℕ) → k < steps_range → small_stepped (operation_at l s p w k).1
 unfolding operation_at
 small_operation l s p w k h =
-    if_elim (λ (x : List ℕ × Result Stepped Refusal). small_stepped x.1) _ _ _ (λ e. small_lookup _ s p k h) (λ e. small_update _ s p w k _ h)
+    if_elim (λ (x : List ℕ × Stepped). small_stepped x.1) _ _ _ (λ e. small_lookup _ s p k h) (λ e. small_update _ s p w k _ h)
 
 -- ---- a run
 
-small_last : (l : List ℕ) (k : ℕ) (x : Result Stepped Refusal) (later : List ℕ × Result Ran Refusal) → k < 2 ^ 64 → small_stepped x → small_reply (of_ran later.1)
+small_last : (l : List ℕ) (k : ℕ) (x : Stepped) (later : List ℕ × Result Ran Refusal) → k < 2 ^ 64 → small_stepped x → small_reply (of_ran later.1)
     → small_reply (of_ran (or_else l (last_of k x) later).1)
 unfolding or_else last_of of_ran small_stepped small_reply
-small_last l k (Ok Stepped.Moved) later h s r = r
-small_last l k (Ok (Stepped.Answered c)) later h s r = s
-small_last l k (Err x) later h s r = h
+small_last l k Stepped.Moved later h s r = r
+small_last l k (Stepped.Answered c) later h s r = s
+small_last l k (Stepped.Refused x) later h s r = h
 
 small_run : (s : Settings) (w f : ℕ) (l : List ℕ) (k : ℕ) → k + f < 2 ^ 64 → small_reply (of_ran (run_in l s w k f).1)
 unfolding run_in of_ran small_reply
@@ -162,4 +162,7 @@ small_response l (Command.Lookup w a) = small_called _
 small_response l (Command.Post w a v) = small_called _
 small_response l (Command.Steps w k) = small_ran l w k
 small_response l Command.List = tt
-small_response l Command.Unread = tt
+
+pub small_unread : small_reply Reply.Unread
+unfolding small_reply
+small_unread = tt

@@ -33,8 +33,8 @@ use Rattle.outputs.specs.Room.{longest}
 use Rattle.responses.specs.Answers.{replied_as, is_list, answered}
 use Rattle.texts.specs.Texts.{rows_text, listing_text, text_on, words_on}
 use Rattle.texts.proofs.Lengths.{longest_reply, row_within, end_within, reply_within}
-use Rattle.texts.proofs.Small.{small_refused, small_response}
-use Rattle.std.specs.Prelude.{Ok, Err}
+use Rattle.texts.proofs.Small.{small_refused, small_response, small_unread}
+use Rattle.std.specs.Prelude.{Option, Some, None, Ok, Err}
 
 -- ---- a text behind the used bytes
 
@@ -149,16 +149,17 @@ module _ (n m : ℕ) (few : n ≤ 4_096) where
       let h = short.size in
       omega (arith, end_within (length t) (omega arith), length-append (printed_rows t) (printed_end (length t))))
 
-  pub text_within : (l : List ℕ) (c : Command) → length (text_on l n m c) ≤ longest
+  pub text_within : (l : List ℕ) (c : Option Command) → length (text_on l n m c) ≤ longest
   unfolding text_on listing_text longest
-  text_within l c =
+  text_within l None = omega (arith, reply_within _ small_unread)
+  text_within l (Some c) =
       if_elim (λ (xs : List ℕ). length xs ≤ 131_097) _ _ _
       (λ e.
       if_elim (λ (xs : List ℕ). length xs ≤ 131_097) _ _ _ (λ e. omega (arith, reply_within _ (small_refused Refusal.Strange)))
       (λ e. rows_text_within (rows l (shape_of l)) (short_rows l)))
       (λ e. omega (arith, reply_within _ (small_response l c)))
 
--- ---- one command
+-- ---- one line
 
 module _ (s : DriverState) (few : length s.accounts ≤ 4_096) (room : s.output.used + longest ≤ length s.output.bytes) where
   listed_behind : (listed s).output ≡ behind s.output (listing_text s.words (length s.accounts) (length s.totals))
@@ -174,23 +175,25 @@ module _ (s : DriverState) (few : length s.accounts ≤ 4_096) (room : s.output.
           rw e (shown_behind s.output room s.accounts s.totals few (rows s.words (shape_of s.words))
           (short_rows s.words) _ refl)
 
-  -- a command's whole text stands behind the used bytes
+  -- a line's whole text stands behind the used bytes
   pub answered_behind :
-      (c : Command) → (answered s c).output ≡ behind s.output (text_on s.words (length s.accounts) (length s.totals) c)
+      (c : Option Command) → (answered s c).output ≡ behind s.output (text_on s.words (length s.accounts) (length s.totals) c)
   unfolding answered replied_as text_on when◌then◌else◌
-  answered_behind c = by (is_list c) refl
+  answered_behind None = reply_behind s.output room Reply.Unread (reply_within _ small_unread)
+  answered_behind (Some c) = by (is_list c) refl
     where
       by :
           (b : Bool) → is_list c ≡ b
-          → (answered s c).output ≡ behind s.output (text_on s.words (length s.accounts) (length s.totals) c)
+          → (answered s (Some c)).output ≡ behind s.output (text_on s.words (length s.accounts) (length s.totals) (Some c))
       by true e = rw e listed_behind
       by false e = rw e (reply_behind s.output room (responded s.words c).1 (reply_within _ (small_response s.words c)))
 
-pub answered_words : (s : DriverState) (c : Command) → (answered s c).words ≡ words_on s.words c
+pub answered_words : (s : DriverState) (c : Option Command) → (answered s c).words ≡ words_on s.words c
 unfolding answered listed listed_as replied_as words_on when◌then◌else◌
-answered_words s c = by (is_list c) refl
+answered_words s None = refl
+answered_words s (Some c) = by (is_list c) refl
   where
-    by : (b : Bool) → is_list c ≡ b → (answered s c).words ≡ words_on s.words c
+    by : (b : Bool) → is_list c ≡ b → (answered s (Some c)).words ≡ words_on s.words (Some c)
     by true e = rw e
     by false e = rw e
 
@@ -223,11 +226,12 @@ shown_kept accounts totals t =
       overlaid totals _ (rw (mapped (λ x. x.1) t) (ltb-false _ _ (right_false (ltb (length accounts) (length t)) _ e))),
     ))
 
-pub answered_kept : (s : DriverState) (c : Command) → Kept s (answered s c)
+pub answered_kept : (s : DriverState) (c : Option Command) → Kept s (answered s c)
 unfolding answered listed listed_as listing_words replied_as when◌then◌else◌
-answered_kept s c = by (is_list c) (strange s.words) refl refl
+answered_kept s None = record { accounts = refl; totals = refl }
+answered_kept s (Some c) = by (is_list c) (strange s.words) refl refl
   where
-    by : (b d : Bool) → is_list c ≡ b → strange s.words ≡ d → Kept s (answered s c)
+    by : (b d : Bool) → is_list c ≡ b → strange s.words ≡ d → Kept s (answered s (Some c))
     by false d e f = rw e (record { accounts = refl; totals = refl })
     by true true e f = rw (e, f) (record { accounts = refl; totals = refl })
     by true false e f =

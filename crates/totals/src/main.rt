@@ -2,131 +2,94 @@
 // is the business of the crate driver; here are the lent words and lists, and reading and writing.
 #![tactic(auto)]
 
-ghost use Rattle.std.specs.Prelude.{◌≤◌, length};
-ghost use Rattle.outputs.specs.Room.{longest};
-
 use lines::Reader;
 use std::io::{Read, Stdin};
 
-// The reader of the line that is not ended yet, and whether to go on.
-#[derive(Clone, Copy)]
-struct Progress {
-    reader: Reader,
-    more: bool,
+// What is lent to the driver: the table's words, the lists of a listing, and the output, which has room for the longest
+// text twice.
+#[derive(Drop)]
+struct Lent {
+    words: [u64; 8192],
+    accounts: [u32; 4096],
+    totals: [i64; 4096],
+    out: [u8; 262144],
 }
 
 // Writes all bytes to standard output, or says on standard error why not.
-fn write(rt: &(impl Print + Eprint), bytes: &[u8]) -> bool {
-    match rt.write_all(bytes) {
-        Ok(()) => true,
-        Err(error) => {
-            let _ = eprintln!(rt; "write: {error}");
-            false
-        }
+fn write(rt: &(impl Print + Eprint), bytes: &[u8]) -> Option<()> {
+    if let Err(error) = rt.write_all(bytes) {
+        let _ = eprintln!(rt; "write: {error}");
+        return None;
     }
+    Some(())
 }
 
-// Answers a block of input, a part at a time, so that the output always has room; the output of each part is written at
-// once.
-fn take(
-    rt: &(impl Print + Eprint),
-    words: &mut [u64],
-    accounts: &mut [u32],
-    totals: &mut [i64],
-    out: &mut [u8],
-    reader: Reader,
-    block: &[u8],
-) -> Progress
-    requires { longest ≤ length out.old }
-{
-    let mut reader = reader;
-    let mut from: usize = 0;
-    while from < block.len() {
-        let fed = driver::feed(words, accounts, totals, out, reader, &block[from..]);
-        reader = fed.reader;
-        let used = fed.used;
-        if !write(rt, &out[..used]) {
-            return Progress {
+impl Lent {
+    // Answers a block of input, a part at a time, so that the output always has room; each part's output is written at
+    // once. The reader of the line that is not ended yet, or nothing where an output could not be written.
+    fn take(
+        &mut self,
+        rt: &(impl Print + Eprint),
+        mut reader: Reader,
+        block: &[u8],
+    ) -> Option<Reader> {
+        let mut rest = block;
+        while !rest.is_empty() {
+            let fed = driver::feed(
+                &mut self.words,
+                &mut self.accounts,
+                &mut self.totals,
+                &mut self.out,
                 reader,
-                more: false,
-            };
+                rest,
+            );
+            reader = fed.reader;
+            write(rt, &self.out[..fed.used])?;
+            rest = &rest[fed.taken..];
         }
-        from += fed.taken;
+        Some(reader)
     }
-    Progress { reader, more: true }
-}
 
-// Reads once, and answers what came. The end of the input ends a line that has no line feed.
-fn turn(
-    rt: &(impl Print + Eprint),
-    mut stdin: Stdin,
-    words: &mut [u64],
-    accounts: &mut [u32],
-    totals: &mut [i64],
-    out: &mut [u8],
-    block: &mut [u8],
-    reader: Reader,
-) -> Progress
-    requires { longest ≤ length out.old }
-{
-    match stdin.read(block) {
-        Err(error) => {
-            let _ = eprintln!(rt; "read: {error}");
-            Progress {
-                reader,
-                more: false,
+    // Reads once, and answers what came; nothing at the end of the input, which ends a line that has no line feed, or
+    // where it could not be read or written.
+    fn turn(
+        &mut self,
+        rt: &(impl Print + Eprint),
+        mut stdin: Stdin,
+        block: &mut [u8],
+        reader: Reader,
+    ) -> Option<Reader> {
+        match stdin.read(block) {
+            Err(error) => {
+                let _ = eprintln!(rt; "read: {error}");
+                None
             }
+            Ok(0) => {
+                if !reader.empty() {
+                    self.take(rt, reader, b"\n");
+                }
+                None
+            }
+            Ok(n) => self.take(rt, reader, &block[..n]),
         }
-        Ok(0) => {
-            if !reader.empty() {
-                take(rt, words, accounts, totals, out, reader, b"\n");
-            }
-            Progress {
-                reader,
-                more: false,
-            }
-        }
-        Ok(n) => take(rt, words, accounts, totals, out, reader, &block[..n]),
     }
 }
 
 // A proved loop has to end, and nothing says that the input does. So the loop has a number of turns, one that no run
 // uses up.
-fn serve(
-    rt: &(impl Print + Eprint),
-    stdin: Stdin,
-    words: &mut [u64],
-    accounts: &mut [u32],
-    totals: &mut [i64],
-    out: &mut [u8],
-    block: &mut [u8],
-)
-    requires { longest ≤ length out.old }
-{
+fn main(rt: HostRuntime) {
+    let mut lent = Lent {
+        words: [0; 8192],
+        accounts: [0; 4096],
+        totals: [0; 4096],
+        out: [0; 262144],
+    };
+    let mut block = [0u8; 65536];
     let mut reader = Reader::new();
     for _ in 0..u64::MAX {
-        let next = turn(rt, stdin, words, accounts, totals, out, block, reader);
-        if !next.more {
+        let Some(next) = lent.turn(&rt, rt.stdin(), &mut block, reader) else {
             return;
-        }
-        reader = next.reader;
+        };
+        reader = next;
     }
-}
-
-// The words are all 0 at first; the output has room for the longest text twice.
-fn main(rt: HostRuntime) {
-    let mut words = [0u64; 8192];
-    let mut accounts = [0u32; 4096];
-    let mut totals = [0i64; 4096];
-    let mut out = [0u8; 262144];
-    let mut block = [0u8; 65536];
-    serve(
-        &rt,
-        rt.stdin(),
-        &mut words,
-        &mut accounts,
-        &mut totals,
-        &mut out,
-        &mut block,
-    );
 }

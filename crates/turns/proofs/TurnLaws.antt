@@ -16,21 +16,20 @@ use Rattle.layout.specs.Shape.{word, strange, shape_of}
 use Rattle.updates.specs.Updates.{operation_at}
 use Rattle.turns.specs.Turns.{step_in, step_words}
 use Rattle.layout.proofs.Checks.{both_passed}
-use Rattle.std.specs.Prelude.{Result, Err}
 
 module _ (l : List ℕ) (x : Bool) (g : Settings) (w : ℕ) (tested : x ≡ strange l) (passed : x ≡ false) (read : g ≡ shape_of l)
     (known : w < g.workers) where
-  pub step-words : (m : List ℕ × Result Stepped Refusal) → m ≡ step_in l g w → m ≡ step_words l w
+  pub step-words : (m : List ℕ × Stepped) → m ≡ step_in l g w → m ≡ step_words l w
   unfolding step_words
   step-words m h = h ∙ ap (λ (s : Settings). step_in l s w) read ∙ both_passed l x g tested _ _ _ w passed read known
 
   module _ (p y : ℕ) (start : p ≡ worker_at g.workers w) (kind : y ≡ word l (p + worker_kind)) where
-    pub step_idle : y ≡ kind_none → (l, Err Refusal.Idle) ≡ step_words l w
+    pub step_idle : y ≡ kind_none → (l, Stepped.Refused Refusal.Idle) ≡ step_words l w
     unfolding step_in
     step_idle e = step-words _ (rw (← start) (sym (if_true _ _ (eq-eqb _ _ (sym kind ∙ e)))))
 
     pub step_goes :
-        (m : List ℕ × Result Stepped Refusal) → y ≢ kind_none → m ≡ operation_at l (shape_of l) p w (word l (p + worker_steps) % steps_range)
+        (m : List ℕ × Stepped) → y ≢ kind_none → m ≡ operation_at l (shape_of l) p w (word l (p + worker_steps) % steps_range)
         → m ≡ step_words l w
     unfolding step_in
     step_goes m e h = step-words m (h ∙ rw (← read, ← start) (sym (if_false _ _ (ne_eqb _ _ (λ z. e (kind ∙ z))))))

@@ -13,22 +13,22 @@ use layout::shape::{settings_of, strange_words};
 mod operations;
 
 // One step of a worker: checks 8, 3, 5.
-pub fn step(words: &mut [u64], worker: u64) -> Result<Stepped, Refusal>
+pub fn step(words: &mut [u64], worker: u64) -> Stepped
     ensures { (words.new, result) ≡ step_words words.old worker }
 {
     if strange_words(words) {
-        return Err(Refusal::Strange);
+        return Stepped::Refused(Refusal::Strange);
     }
     let x = words[HEADER_SETTINGS];
     let g = settings_of(x);
     if g.workers <= worker {
-        return Err(Refusal::Stranger);
+        return Stepped::Refused(Refusal::Stranger);
     }
     let w = worker as usize;
     let p = worker_at(g, w);
     let kind = memory::get(words, p + WORKER_KIND);
     if kind == KIND_NONE {
-        return Err(Refusal::Idle);
+        return Stepped::Refused(Refusal::Idle);
     }
-    Ok(operation_step(words, x, w, p, kind))
+    operation_step(words, x, w, p, kind)
 }

@@ -1,5 +1,5 @@
 // An operation's step: a lookup's, an early one of an update, or one by its plan.
-ghost use Rattle.std.specs.Prelude.{Ok, ◌≡◌, ◌+◌, ◌<◌, ◌%◌};
+ghost use Rattle.std.specs.Prelude.{◌≡◌, ◌+◌, ◌<◌, ◌%◌};
 ghost use Rattle.fields.specs.Fields.{worker_kind, worker_steps, steps_range};
 ghost use Rattle.fields.specs.Regions.{worker_at};
 ghost use Rattle.layout.specs.Shape.{word, settings_of, Fits};
@@ -17,7 +17,7 @@ pub fn operation_step(words: &mut [u64], x: u64, w: usize, p: usize, kind: u64) 
     requires { Fits words.old (settings_of x)
         × ((w < (settings_of x).workers)
         × ((p ≡ worker_at (settings_of x).workers w) × (kind ≡ word words.old (p + worker_kind)))) }
-    ensures { (words.new, Ok result)
+    ensures { (words.new, result)
         ≡ operation_at words.old (settings_of x) p w
         (word words.old (p + worker_steps) % steps_range) }
 {

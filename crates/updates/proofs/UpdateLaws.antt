@@ -4,7 +4,7 @@ use Prim.Native.Nat.{ℕ, ◌+◌, ◌≤◌, ◌<◌, ◌%◌}
 use mathlib.Core.Path.{◌≡◌, sym, ◌∙◌, ap, subst}
 use mathlib.Core.Logic.{◌≢◌}
 use mathlib.Core.List.{List}
-use Rattle.std.specs.Prelude.{Option, Result, Ok}
+use Rattle.std.specs.Prelude.{Option}
 use lib.ListN.{length, set}
 use borrow.Author.Tests.{le-leb, lt-leb, eq-eqb, ne_eqb}
 use Rattle.interface.specs.Numbers.{kind_lookup}
@@ -24,7 +24,6 @@ use Rattle.calls.specs.Calls.{ended_at}
 use Rattle.updates.specs.Updates.{checked_at, answer_at, check_at, update_at, operation_at}
 use Rattle.layout.proofs.Positions.{held_inside}
 use Rattle.lookups.specs.Lookups.{lookup_at}
-use Rattle.interface.specs.declared.Refusal.{Refusal}
 
 -- ---- the workers that a phase names are below n
 
@@ -38,7 +37,7 @@ state_below n k j r h e = subst (Below n) (sym e ∙ ap planned h) (phase_below 
 
 -- ---- a step of an update
 
-module _ (l : List ℕ) (s : Settings) (p w k n : ℕ) (m : List ℕ × Result Stepped Refusal) where
+module _ (l : List ℕ) (s : Settings) (p w k n : ℕ) (m : List ℕ × Stepped) where
   pub at_phase : (q : Phase) → phase n k ≡ q → m ≡ update_at l s p w k q → m ≡ update_at l s p w k (phase n k)
   at_phase q e x = x ∙ ap (update_at l s p w k) (sym e)
 
@@ -48,16 +47,16 @@ module _ (l : List ℕ) (s : Settings) (p w k n : ℕ) (m : List ℕ × Result S
 -- ---- a check of worker w at p, whose bucket's record is at q
 
 module _ (l : List ℕ) (s : Settings) (p q w k t u : ℕ) (ticket : t ≡ word l (p + worker_ticket)) (settled : u ≡ settled_ticket l s q w) where
-  abbrev gives : Option Answer → List ℕ × Result Stepped Refusal
+  abbrev gives : Option Answer → List ℕ × Stepped
   gives = check_at l p k (check_number s.workers k)
 
   pub check_settled :
-      (a : Answer) (m : List ℕ × Result Stepped Refusal) → t ≤ u → a ≡ answer_at l s q w → m ≡ ended_at l p k (check_number s.workers k) a
+      (a : Answer) (m : List ℕ × Stepped) → t ≤ u → a ≡ answer_at l s q w → m ≡ ended_at l p k (check_number s.workers k) a
       → m ≡ gives (checked_at l s p q w)
   unfolding checked_at check_at
   check_settled a m h e f = f ∙ rw e (ap gives (sym (if_true _ _ (le-leb _ _ (rw (ticket, settled) at h)))))
 
-  pub check_moved : u < t → (l, Ok Stepped.Moved) ≡ gives (checked_at l s p q w)
+  pub check_moved : u < t → (l, Stepped.Moved) ≡ gives (checked_at l s p q w)
   unfolding checked_at check_at
   check_moved h = ap gives (sym (if_false _ _ (lt-leb _ _ (rw (ticket, settled) at h))))
 
@@ -66,7 +65,7 @@ held_room q p f e = rw e (held_inside f p)
 
 -- ---- an operation's step
 
-module _ (l m : List ℕ) (s : Settings) (p w k x : ℕ) (r : List ℕ × Result Stepped Refusal) (kind : x ≡ word l (p + worker_kind))
+module _ (l m : List ℕ) (s : Settings) (p w k x : ℕ) (r : List ℕ × Stepped) (kind : x ≡ word l (p + worker_kind))
     (steps : k ≡ word l (p + worker_steps) % steps_range) (put : m ≡ set l (p + worker_steps) (k + 1)) where
   pub operation_lookup : x ≡ kind_lookup → r ≡ lookup_at m s p k → r ≡ operation_at l s p w (word l (p + worker_steps) % steps_range)
   unfolding operation_at

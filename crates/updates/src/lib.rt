@@ -1,7 +1,7 @@
 // A step of an update: the step that its plan names, and the check.
 #![tactic(auto)]
 
-ghost use Rattle.std.specs.Prelude.{Ok, ◌≡◌, ◌<◌};
+ghost use Rattle.std.specs.Prelude.{◌≡◌, ◌<◌};
 ghost use Rattle.fields.specs.Fields.{steps_range};
 ghost use Rattle.layout.specs.Shape.{settings_of, Fits};
 ghost use Rattle.updates.specs.Updates.{check_step, update_step};
@@ -19,7 +19,7 @@ use record::{settled_answer, settled_ticket, settled_total};
 // The second step of a check: the answer that is settled, with its total, or the operation goes on.
 fn check(words: &mut [u64], g: Settings, w: usize, k: u64) -> Stepped
     requires { Fits words.old g × ((w < g.workers) × (k < steps_range)) }
-    ensures { (words.new, Ok result) ≡ check_step words.old g w k }
+    ensures { (words.new, result) ≡ check_step words.old g w k }
 {
     let q = held_by(words, g, w);
     let p = worker_at(g, w);
@@ -38,7 +38,7 @@ fn check(words: &mut [u64], g: Settings, w: usize, k: u64) -> Stepped
 // for `early_step` keeps its registers (docs/DECISIONS.md, 66).
 pub fn update_step(x: u64, w: usize, words: &mut [u64], k: u64) -> Stepped
     requires { Fits words.old (settings_of x) × ((w < (settings_of x).workers) × (k < steps_range)) }
-    ensures { (words.new, Ok result) ≡ update_step words.old (settings_of x) w k }
+    ensures { (words.new, result) ≡ update_step words.old (settings_of x) w k }
 {
     let g = settings_of(x);
     match phase_of(k as usize, g.workers as usize) {

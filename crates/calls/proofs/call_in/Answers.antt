@@ -21,10 +21,10 @@ inside : (c : After-worker_at-p) → Placed c.args.words.now c.args.g c.worker_a
 inside c = rw c.worker_at-p.ensures (placed c.requires.0 _ c.requires.1)
 
 pub overflow_add-p : goal.overflow_add-p
-overflow_add-p c = let b = inside c in omega arith
+overflow_add-p c = let b = inside (goal.at.overflow_add-p c).After-worker_at-p in omega arith
 
 pub get-requires : goal.get-requires
-get-requires c = let b = inside c in omega arith
+get-requires c = let b = inside (goal.at.get-requires c).After-worker_at-p in omega arith
 
 pub returns-then-get-ne-KIND_NONE : goal.returns-then-get-ne-KIND_NONE
 returns-then-get-ne-KIND_NONE c =

@@ -11,7 +11,6 @@ use Rattle.updates.specs.Updates.{update_at}
 use Rattle.updates.proofs.UpdateLaws.{at_phase}
 use Rattle.early.proofs.EarlyPhases.{early_directory, early_flip}
 use Rattle.early.proofs.early_step.Goals as goal
-use Rattle.std.specs.Prelude.{Ok}
 
 pub announce-requires : goal.announce-requires
 announce-requires c =
@@ -29,16 +28,16 @@ pub returns-in-0 : goal.returns-in-0
 unfolding update_at
 returns-in-0 c =
     at_phase _ _ _ _ _ _ _ announce (plan_announce _ _ (omega (arith, c.in-0.is)))
-    (ap (λ (l : List ℕ). (l, Ok Stepped.Moved)) (rw c.settings_of.ensures at c.announce.ensures))
+    (ap (λ (l : List ℕ). (l, Stepped.Moved)) (rw c.settings_of.ensures at c.announce.ensures))
 
 pub returns-in-1 : goal.returns-in-1
 unfolding update_at
 returns-in-1 c =
     at_phase _ _ _ _ _ _ _ read_directory (ap (phase _) c.in-1.is ∙ early_directory _)
-    (ap (λ (l : List ℕ). (l, Ok Stepped.Moved)) (rw c.settings_of-in-1.ensures at c.read_directory.ensures))
+    (ap (λ (l : List ℕ). (l, Stepped.Moved)) (rw c.settings_of-in-1.ensures at c.read_directory.ensures))
 
 pub returns-in-2 : goal.returns-in-2
 unfolding update_at
 returns-in-2 c =
     at_phase _ _ _ _ _ _ _ flip_toggle (ap (phase _) c.in-2.is ∙ early_flip _)
-    (ap (λ (l : List ℕ). (l, Ok Stepped.Moved)) (rw c.settings_of-in-2.ensures at c.flip.ensures))
+    (ap (λ (l : List ℕ). (l, Stepped.Moved)) (rw c.settings_of-in-2.ensures at c.flip.ensures))

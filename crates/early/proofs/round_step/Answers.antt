@@ -12,7 +12,6 @@ use Rattle.updates.specs.Updates.{update_at}
 use Rattle.updates.proofs.UpdateLaws.{at_phase}
 use Rattle.early.proofs.EarlyPhases.{early_round}
 use Rattle.early.proofs.round_step.Goals as goal
-use Rattle.std.specs.Prelude.{Ok}
 
 pub overflow_add-n : goal.overflow_add-n
 overflow_add-n c = omega (arith, c.requires.0.workers, ap (λ (s : Settings). s.workers) c.settings_of-n.ensures)
@@ -27,7 +26,7 @@ returns-in-0 c =
     let at = early_round _ _ _ c.requires.1.1.0 c.requires.1.1.1
     (rw c.settings_of-n.ensures at c.reduce.ensures) in
     at_phase _ _ _ _ _ _ _ read_state (at ∙ bucket_state _ _ (omega (arith, c.in-0.is)))
-    (ap (λ (l : List ℕ). (l, Ok Stepped.Moved)) (rw c.settings_of.ensures at c.read_state.ensures))
+    (ap (λ (l : List ℕ). (l, Stepped.Moved)) (rw c.settings_of.ensures at c.read_state.ensures))
 
 pub read_toggle-requires : goal.read_toggle-requires
 read_toggle-requires c =
@@ -39,7 +38,7 @@ returns-in-1 c =
     let at = early_round _ _ _ c.requires.1.1.0 c.requires.1.1.1
     (rw c.settings_of-n.ensures at c.reduce.ensures) in
     at_phase _ _ _ _ _ _ _ read_toggle (at ∙ bucket_toggle _ _ (omega (arith, c.in-1.is)) (omega (arith, c.in-1.is)))
-    (ap (λ (l : List ℕ). (l, Ok Stepped.Moved)) (rw c.settings_of-in-1.ensures at c.read_toggle.ensures))
+    (ap (λ (l : List ℕ). (l, Stepped.Moved)) (rw c.settings_of-in-1.ensures at c.read_toggle.ensures))
 
 pub overflow_add-n-in_default-1 : goal.overflow_add-n-in_default-1
 overflow_add-n-in_default-1 c =
@@ -59,7 +58,7 @@ returns-in_default c =
     (rw c.settings_of-n.ensures at c.reduce.ensures) in
     at_phase _ _ _ _ _ _ _ (read_slot _)
     (at ∙ bucket_slot _ _ (omega arith) (rw c.settings_of-n.ensures at c.if-j-n.true))
-    (ap (λ (l : List ℕ). (l, Ok Stepped.Moved)) (rw c.settings_of-in_default.ensures at c.read_slot.ensures))
+    (ap (λ (l : List ℕ). (l, Stepped.Moved)) (rw c.settings_of-in_default.ensures at c.read_slot.ensures))
 
 pub swap-requires : goal.swap-requires
 swap-requires c =
@@ -72,4 +71,4 @@ returns-in_default-2 c =
     let at = early_round _ _ _ c.requires.1.1.0 c.requires.1.1.1 reduced in
     at_phase _ _ _ _ _ _ _ swap_state
     (at ∙ bucket_swap _ _ (rw c.settings_of-n.ensures at c.if-j-n.false) (reduced_below _ _ _ reduced (omega arith)))
-    (ap (λ (l : List ℕ). (l, Ok Stepped.Moved)) (rw c.settings_of-in_default-2.ensures at c.swap.ensures))
+    (ap (λ (l : List ℕ). (l, Stepped.Moved)) (rw c.settings_of-in_default-2.ensures at c.swap.ensures))

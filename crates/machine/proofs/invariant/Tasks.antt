@@ -135,7 +135,7 @@ module _ (s : Settings) (range : in_range s.workers s.capacity s.depth ≡ true)
   unfolding step step_of done
   step_good m j g = if_elim Left (ltb j s.workers) _ _ (λ l. by (ltb-true j s.workers l) (m.workers j).operation refl) (λ l. g)
     where
-      Left : Machine × Result Stepped Refusal → Type 0
+      Left : Machine × Stepped → Type 0
       Left x = Good s x.0
 
       by : j < s.workers → (o : Option Operation) → (m.workers j).operation ≡ o → Left (step_of s m j o)

@@ -33,10 +33,10 @@ use Rattle.machine.proofs.invariant.Tasks.{Good}
 use Rattle.machine.proofs.moments.Explain.{Parts, status_at, status, outcome, serve_all, answers_of, Explained, reply_to}
 use Rattle.machine.proofs.moments.StepExplained.{step_explained}
 
-abbrev pub answer_in : Result Stepped Refusal → Option Answer
-answer_in (Ok Stepped.Moved) = None
-answer_in (Ok (Stepped.Answered c)) = Some c.answer
-answer_in (Err r) = None
+abbrev pub answer_in : Stepped → Option Answer
+answer_in Stepped.Moved = None
+answer_in (Stepped.Answered c) = Some c.answer
+answer_in (Stepped.Refused r) = None
 
 -- ---- an accepted step, an accepted call
 
@@ -52,8 +52,8 @@ module _ (s : Settings) (m : Machine) (j : ℕ) where
   accepted_step h = by_cases (dec_lt j s.workers) (λ l. by l (m.workers j).operation refl)
       (λ l. absurd (not_refused (step_stranger s m j (omega arith))))
     where
-      not_refused : {r : Refusal} → step s m j ≡ (m, Err r) → ⊥
-      not_refused e = no_both h (ap (λ (x : Machine × Result Stepped Refusal). moves x.1) e)
+      not_refused : {r : Refusal} → step s m j ≡ (m, Stepped.Refused r) → ⊥
+      not_refused e = no_both h (ap (λ (x : Machine × Stepped). moves x.1) e)
 
       by : j < s.workers → (o : Option Operation) → (m.workers j).operation ≡ o → StepParts s m j
       by l None e = absurd (not_refused (step_idle s m j l e))
@@ -181,7 +181,7 @@ module _ (s : Settings) (range : in_range s.workers s.capacity s.depth ≡ true)
       let c = accepted_step s m w h in
       let x = step_explained s range m w c.operation t good parts c.worker c.under-way in
       let a : answer_in (step s m w).1 ≡ (effect_of s m w c.operation).answer =
-      ap (λ (r : Machine × Result Stepped Refusal). answer_in r.1) c.is ∙ answer_done m w _ _ in
+      ap (λ (r : Machine × Stepped). answer_in r.1) c.is ∙ answer_done m w _ _ in
       record {
         explained = subst To (sym a) x;
         moving = λ j i. (w, and_true (eq-eqb w w refl) h);
@@ -201,7 +201,7 @@ module _ (s : Settings) (range : in_range s.workers s.capacity s.depth ≡ true)
       by (Err r) e = refused_entry (calling j kind a v) (call_refused s m j kind a v e) (λ i. refl)
   advance (stepping w) h = by (step s m w).1 refl
     where
-      by : (r : Result Stepped Refusal) → (step s m w).1 ≡ r → Advance s lent m (stepping w) t
-      by (Ok Stepped.Moved) e = stepped_entry w (ap moves e)
-      by (Ok (Stepped.Answered c)) e = stepped_entry w (ap moves e)
-      by (Err r) e = refused_entry (stepping w) (step_refused s m w e) (λ i. rw e (if_same (eqb i w) None))
+      by : (r : Stepped) → (step s m w).1 ≡ r → Advance s lent m (stepping w) t
+      by Stepped.Moved e = stepped_entry w (ap moves e)
+      by (Stepped.Answered c) e = stepped_entry w (ap moves e)
+      by (Stepped.Refused r) e = refused_entry (stepping w) (step_refused s m w e) (λ i. rw e (if_same (eqb i w) None))

@@ -69,7 +69,7 @@ module _ (s : Settings) (m : Machine) (j : ℕ) where
       by l None e = rw (step_idle s m j l e, e, lt-leb s.workers j l) refl
       by l (Some o) e =
           let none_given : step_refusal s j (busy (m.workers j).operation) ≡ None = rw (e, lt-leb s.workers j l) refl in
-          ap (λ (r : Machine × Result Stepped Refusal). refusal_in r.1) (step_made s m j l e)
+          ap (λ (r : Machine × Stepped). refusal_in r.1) (step_made s m j l e)
           ∙ made (suc (m.workers j).steps) (check_of s (m.workers j) o) (perform (access s j (m.workers j) o) m.cells).answer
           ∙ sym none_given
 
@@ -86,12 +86,12 @@ module _ (s : Settings) (lent : ℕ) (m : Machine) (j : ℕ) where
       (λ e. ap (λ (x : Bool). eqb i j and x) (by (step s m i).1 (sym (if_true _ _ (eq-eqb j i e)) ∙ h)) ∙ and_right_false _)
       (λ d. and_left_false _ (ne_eqb i j (λ e. d (sym e))))
     where
-      by : (r : Result Stepped Refusal) → answer_in r ≡ None → is_answer r ≡ false
-      by (Ok Stepped.Moved) e = refl
-      by (Ok (Stepped.Answered c)) e = absurd (none_some e refl)
-      by (Err r) e = refl
+      by : (r : Stepped) → answer_in r ≡ None → is_answer r ≡ false
+      by Stepped.Moved e = refl
+      by (Stepped.Answered c) e = absurd (none_some e refl)
+      by (Stepped.Refused r) e = refl
 
-  ends_some : {c : Completion} (e : Entry) → e ≡ stepping j → (step s m j).1 ≡ Ok (Stepped.Answered c) → ends_by (machines s lent) m e j ≡ true
+  ends_some : {c : Completion} (e : Entry) → e ≡ stepping j → (step s m j).1 ≡ Stepped.Answered c → ends_by (machines s lent) m e j ≡ true
   unfolding ends_by
   ends_some e q h = rw q (and_true (eq-eqb j j refl) (ap is_answer h))
 
@@ -107,7 +107,7 @@ module _ (s : Settings) (lent : ℕ) (m : Machine) (j : ℕ) where
   unfolding step step_of done
   step_last i = if_elim Kept (ltb i s.workers) _ _ (λ l. by (m.workers i).operation) (λ l. refl)
     where
-      Kept : Machine × Result Stepped Refusal → Type 0
+      Kept : Machine × Stepped → Type 0
       Kept x = (x.0.workers j).last ≡ (m.workers j).last
 
       by : (o : Option Operation) → Kept (step_of s m i o)

@@ -7,7 +7,7 @@ use mathlib.Core.Path.{◌≡◌, refl, sym, ap, ◌∙◌, subst}
 use mathlib.Core.Logic.{◌⊎◌, inl, inr, by_cases}
 use mathlib.Core.Bool.{true}
 use mathlib.Core.List.{List}
-use Rattle.std.specs.Prelude.{Option, Some, None, Result, Ok, Err}
+use Rattle.std.specs.Prelude.{Option, Some, None}
 use lib.ListN.{length}
 use borrow.Author.Tests.{eq-eqb, eqb-true}
 use Rattle.interface.specs.Limits.{in_range}
@@ -34,19 +34,18 @@ use Rattle.machine.proofs.invariant.Tasks.{Good, call_good, step_good, counter_f
 use Rattle.machine.proofs.invariant.Alone.{Solo, idle_solo, solo_call, solo_step, solo_under_way}
 use Rattle.machine.proofs.list.Advance.{answer_in, accepted_step}
 use Rattle.machine.proofs.list.WorkerHistory.{last_call, From, OperationStatus, unanswered, answered_at, operation_status, ended_last, count_step, count_le}
-use Rattle.interface.specs.declared.Refusal.{Refusal}
 
 -- ---- one step
 
-steps_in : Result Stepped Refusal → ℕ
-steps_in (Ok Stepped.Moved) = 0
-steps_in (Ok (Stepped.Answered c)) = c.steps
-steps_in (Err r) = 0
+steps_in : Stepped → ℕ
+steps_in Stepped.Moved = 0
+steps_in (Stepped.Answered c) = c.steps
+steps_in (Stepped.Refused r) = 0
 
-check_in : Result Stepped Refusal → ℕ
-check_in (Ok Stepped.Moved) = 0
-check_in (Ok (Stepped.Answered c)) = c.check
-check_in (Err r) = 0
+check_in : Stepped → ℕ
+check_in Stepped.Moved = 0
+check_in (Stepped.Answered c) = c.check
+check_in (Stepped.Refused r) = 0
 
 -- an update is answered at a check
 at_check :
@@ -109,10 +108,10 @@ module _ (s : Settings) (range : in_range s.workers s.capacity s.depth ≡ true)
     told : Told
     unfolding done step_reply steps_in check_in
     told = go (effect_of s (at i) j o).answer refl
-        (sym e.answered ∙ ap (λ (x : Machine × Result Stepped Refusal). x.1) (step_made s (at i) j known last.0))
+        (sym e.answered ∙ ap (λ (x : Machine × Stepped). x.1) (step_made s (at i) j known last.0))
       where
         go : (a : Option Answer) → (effect_of s (at i) j o).answer ≡ a
-            → Ok (Stepped.Answered r) ≡ step_reply (suc ((at i).workers j).steps) (check_of s ((at i).workers j) o) a → Told
+            → Stepped.Answered r ≡ step_reply (suc ((at i).workers j).steps) (check_of s ((at i).workers j) o) a → Told
         go None q f = absurd (let z : ◌≡◌ {A = ℕ} 0 1 = cc in omega arith)
         go (Some a) q f = record { answer = q ∙ sym (ap answer_in f); steps = ap steps_in f; check = ap check_in f }
 
@@ -170,9 +169,9 @@ module _ (s : Settings) (range : in_range s.workers s.capacity s.depth ≡ true)
 
   -- a lookup's first step gives no answer
   first_step : (x : Machine) (j a : ℕ) → j < s.workers → (x.workers j).operation ≡ Some (lookup a) → (x.workers j).steps ≡ 0
-      → (step s x j).1 ≡ Ok Stepped.Moved
+      → (step s x j).1 ≡ Stepped.Moved
   unfolding done step_reply access lookup_access directory_reading perform
-  first_step x j a l e z = ap (λ (r : Machine × Result Stepped Refusal). r.1) (step_made s x j l e) ∙ rw z refl
+  first_step x j a l e z = ap (λ (r : Machine × Stepped). r.1) (step_made s x j l e) ∙ rw z refl
 
   pub lookup_bound :
       (c i j a : ℕ) → IsOperation s (machines s lent) m t es c j (lookup a) → c < i → i < length es
@@ -191,7 +190,7 @@ module _ (s : Settings) (range : in_range s.workers s.capacity s.depth ≡ true)
             count_step s lent m t es j c k e.later (ended_step c k j (lookup a) r e),
             count_le s lent m t es j c (suc k) i p,
           ) in
-          let w : Ok Stepped.Moved ≡ Ok (Stepped.Answered r) = sym (first_step (at k) j a (known c k j (lookup a) r e) q.0 n') ∙ e.answered in
+          let w : Stepped.Moved ≡ Stepped.Answered r = sym (first_step (at k) j a (known c k j (lookup a) r e) q.0 n') ∙ e.answered in
           let y : ◌≡◌ {A = ℕ} 0 1 = cc in omega arith
 
       same : (k : ℕ) (r : Completion) → Ended s (machines s lent) m t es c k j (lookup a) r → k < suc i → Dec (k ≡ i)
@@ -254,7 +253,7 @@ module _ (s : Settings) (range : in_range s.workers s.capacity s.depth ≡ true)
 
       not_first : ((at i).workers j).steps ≡ 0 → ⊥
       not_first z =
-          let w : Ok Stepped.Moved ≡ Ok (Stepped.Answered r) =
+          let w : Stepped.Moved ≡ Stepped.Answered r =
           sym (first_step (at i) j a (known c i j (lookup a) r e) (last c i j (lookup a) r e).0 z) ∙ e.answered in
           let y : ◌≡◌ {A = ℕ} 0 1 = cc in omega arith
 

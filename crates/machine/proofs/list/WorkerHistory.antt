@@ -46,7 +46,7 @@ pub data WorkerChange (s : Settings) (lent : ℕ) (m : Machine) (e : Entry) (j :
   -- an accepted step of it that ends its operation
   ends :
       (a : Answer) (o : Operation) → e ≡ stepping j
-      → (step s m j).1 ≡ Ok (Stepped.Answered (record { answer = a; steps = suc (m.workers j).steps; check = check_of s (m.workers j) o }))
+      → (step s m j).1 ≡ Stepped.Answered (record { answer = a; steps = suc (m.workers j).steps; check = check_of s (m.workers j) o })
       → calls_to (machines s lent) m e j ≡ false → steps_by (machines s lent) m e j ≡ true → w'.operation ≡ None → answer_to s m e j ≡ Some a
       → WorkerChange s lent m e j w'
   -- anything else
@@ -82,12 +82,12 @@ module _ (s : Settings) (lent : ℕ) (m : Machine) (j : ℕ) where
       after : (a : Option Answer) → (effect_of s m j c.operation).answer ≡ a
           → (step s m j).0.workers j ≡ counted (m.workers j) (effect_of s m j c.operation).reads a
       after a e =
-          ap (λ (r : Machine × Result Stepped Refusal). r.0.workers j) c.is ∙ done_worker m j _ _
+          ap (λ (r : Machine × Stepped). r.0.workers j) c.is ∙ done_worker m j _ _
           ∙ ap (counted (m.workers j) (effect_of s m j c.operation).reads) e
 
       reply : (a : Option Answer) → (effect_of s m j c.operation).answer ≡ a
           → (step s m j).1 ≡ step_reply (suc (m.workers j).steps) (check_of s (m.workers j) c.operation) a
-      reply a e = ap (λ (r : Machine × Result Stepped Refusal). r.1) c.is ∙ done_reply m j _ _ ∙ ap (step_reply (suc (m.workers j).steps) _) e
+      reply a e = ap (λ (r : Machine × Stepped). r.1) c.is ∙ done_reply m j _ _ ∙ ap (step_reply (suc (m.workers j).steps) _) e
 
       by : (a : Option Answer) → (effect_of s m j c.operation).answer ≡ a → WorkerChange s lent m (stepping j) j ((step s m j).0.workers j)
       by None e = moves_on refl given (ap (λ (w : Worker). w.operation) (after None e)) (ap (λ (w : Worker). w.steps) (after None e))
@@ -101,22 +101,22 @@ module _ (s : Settings) (lent : ℕ) (m : Machine) (j : ℕ) where
   other_step i d = no_change refl (and_left_false _ (ne_eqb i j (λ e. d (sym e)))) (by (step s m i).1 refl) (if_false _ _ (ne_eqb j i d))
     where
       made : moves (step s m i).1 ≡ true → (step s m i).0.workers j ≡ m.workers j
-      made h = ap (λ (r : Machine × Result Stepped Refusal). r.0.workers j) (accepted_step s m i h).is ∙ done_other m i j _ _ d
+      made h = ap (λ (r : Machine × Stepped). r.0.workers j) (accepted_step s m i h).is ∙ done_other m i j _ _ d
 
-      by : (r : Result Stepped Refusal) → (step s m i).1 ≡ r → (step s m i).0.workers j ≡ m.workers j
-      by (Ok Stepped.Moved) e = made (ap moves e)
-      by (Ok (Stepped.Answered a)) e = made (ap moves e)
-      by (Err r) e = ap (λ (x : Machine). x.workers j) (step_refused s m i e)
+      by : (r : Stepped) → (step s m i).1 ≡ r → (step s m i).0.workers j ≡ m.workers j
+      by Stepped.Moved e = made (ap moves e)
+      by (Stepped.Answered a) e = made (ap moves e)
+      by (Stepped.Refused r) e = ap (λ (x : Machine). x.workers j) (step_refused s m i e)
 
   stepping_change : (i : ℕ) → WorkerChange s lent m (stepping i) j ((step s m i).0.workers j)
   unfolding calls_to steps_by
   stepping_change i = by_cases (ℕ_discrete j i)
       (λ e. subst (λ (i : ℕ). WorkerChange s lent m (stepping i) j ((step s m i).0.workers j)) e (by (step s m j).1 refl)) (other_step i)
     where
-      by : (r : Result Stepped Refusal) → (step s m j).1 ≡ r → WorkerChange s lent m (stepping j) j ((step s m j).0.workers j)
-      by (Ok Stepped.Moved) e = own_step (ap moves e)
-      by (Ok (Stepped.Answered a)) e = own_step (ap moves e)
-      by (Err r) e = no_change refl (ap (λ (x : Bool). eqb j j and x) (ap moves e) ∙ and_right_false _)
+      by : (r : Stepped) → (step s m j).1 ≡ r → WorkerChange s lent m (stepping j) j ((step s m j).0.workers j)
+      by Stepped.Moved e = own_step (ap moves e)
+      by (Stepped.Answered a) e = own_step (ap moves e)
+      by (Stepped.Refused r) e = no_change refl (ap (λ (x : Bool). eqb j j and x) (ap moves e) ∙ and_right_false _)
           (ap (λ (x : Machine). x.workers j) (step_refused s m j e)) (if_true _ _ (eq-eqb j j refl) ∙ ap answer_in e)
 
   calling_change : (i kind a : ℕ) (v : ℤ) → WorkerChange s lent m (calling i kind a v) j ((call s m i kind a v).0.workers j)

@@ -4,7 +4,7 @@ use Prim.Native.Nat.{ℕ, ◌≤◌, ◌<◌}
 use native.Mathlib.Omega.{arith}
 use mathlib.Core.Path.{◌≡◌, sym, subst}
 use mathlib.Core.Bool.{true}
-use Rattle.std.specs.Prelude.{Option, Some, Result}
+use Rattle.std.specs.Prelude.{Option, Some}
 use Rattle.interface.specs.Limits.{in_range, Range}
 use Rattle.interface.proofs.Laws.{range_of}
 use Rattle.interface.specs.declared.Settings.{Settings}
@@ -25,7 +25,6 @@ use Rattle.machine.proofs.moments.Explain.{Parts, Explained, reply_to, Explained
 use Rattle.machine.proofs.moments.ExplainSteps.{explained_under_way, explained_pass, explained_look, explained_announce, explained_flip, explained_find, explained_answer}
 use Rattle.machine.proofs.moments.ExplainSwap.{explained_swap}
 use Rattle.machine.proofs.moments.ExplainRedirect.{explained_redirect}
-use Rattle.interface.specs.declared.Refusal.{Refusal}
 
 -- each kind of transition
 module _ (s : Settings) (small : s.depth ≤ 32) (w : ℕ) (wn : w < s.workers) (c : Cells) (tasks : ℕ → Task) (i : Inv s c tasks)
@@ -63,7 +62,7 @@ module _ (s : Settings) (range : in_range s.workers s.capacity s.depth ≡ true)
       → Explained s m.cells (step s m j).0.cells (tasks_of s m) (tasks_of s (step s m j).0) (reply_to j (effect_of s m j o).answer) t
   unfolding done
   step_explained m j o t g p jn e =
-      subst (λ (x : Machine × Result Stepped Refusal). To x.0.cells (tasks_of s x.0)) (sym (step_made s m j jn e))
+      subst (λ (x : Machine × Stepped). To x.0.cells (tasks_of s x.0)) (sym (step_made s m j jn e))
       (subst (To (effect_of s m j o).contents) (sym (tasks_after s m j o))
       (transition_explained s (omega (arith, limits.greatest-depth)) j jn m.cells (tasks_of s m) g t p
       (step_transition s m j o limits.least-workers e (not_over s m j jn g))))

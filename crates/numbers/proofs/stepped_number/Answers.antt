@@ -1,18 +1,17 @@
 -- `stepped_number` gives the number and the report of a step's answer, by cases.
 -- Rests on the definitions.
 use mathlib.Core.Path.{refl}
-use Rattle.std.proofs.Common.{rules}
 use Rattle.numbers.specs.Returned.{stepped_number, stepped_report}
 use Rattle.numbers.proofs.stepped_number.Goals as goal
 
-pub returns-in-Ok-Moved : goal.returns-in-Ok-Moved
+pub returns-in-Moved : goal.returns-in-Moved
 unfolding stepped_number stepped_report
-returns-in-Ok-Moved c = search rules
+returns-in-Moved c = rw c.in-Moved.is (refl, refl)
 
-pub returns-in-Ok-Answered : goal.returns-in-Ok-Answered
+pub returns-in-Answered : goal.returns-in-Answered
 unfolding stepped_number stepped_report
-returns-in-Ok-Answered c = search rules
+returns-in-Answered c = rw c.in-Answered.is c.ended.ensures
 
-pub returns-in-Err : goal.returns-in-Err
+pub returns-in-Refused : goal.returns-in-Refused
 unfolding stepped_number stepped_report
-returns-in-Err c = rw c.in-Err.is (refl, c.number.ensures)
+returns-in-Refused c = rw c.in-Refused.is (refl, c.number.ensures)

@@ -3,26 +3,22 @@
 use Prim.Native.Nat.{ℕ}
 use mathlib.Core.List.{List}
 use mathlib.Core.Path.{sym, ◌∙◌, ap}
-use Rattle.std.specs.Prelude.{Option}
 use native.Mathlib.Omega.{arith}
-use lib.IntN.{ℤ}
-use Rattle.numerals.specs.Numerals.{numeral, minus, in64, as_signed}
+use Rattle.numerals.specs.Numerals.{numeral, minus, in64}
 use Rattle.numerals.proofs.Parts.{part_from}
-use Rattle.numerals.proofs.NumeralLaws.{no_signed, signed_empty, signed_minus, signed_plus}
+use Rattle.numerals.proofs.NumeralLaws.{signed_empty, signed_minus, signed_plus}
 use Rattle.numerals.proofs.read_signed.Goals as goal
 
-pub returns-then-field-eq0 : goal.returns-then-field-eq0
+pub returns-in-empty : goal.returns-in-empty
 unfolding in64
-returns-then-field-eq0 c = no_signed _ (ap in64 (signed_empty c.args.field.now c.if-field-eq0.true))
+returns-in-empty c = sym (ap in64 (signed_empty c.args.field.now (omega arith)))
 
-pub returns-then-field-eq45 : goal.returns-then-field-eq45
-returns-then-field-eq45 c =
+pub returns-in-45 : goal.returns-in-45
+returns-in-45 c =
     let f = c.args.field.now in
     c.read_negative.ensures
-    ∙ ap (λ (l : List ℕ). as_signed (in64 (minus (numeral l)))) (part_from f 1)
-    ∙ ap (λ (o : Option ℤ). as_signed (in64 o)) (sym (signed_minus f (omega arith) c.if-field-eq45.true))
+    ∙ ap (λ (l : List ℕ). in64 (minus (numeral l))) (part_from f 1)
+    ∙ ap in64 (sym (signed_minus f (omega arith) (omega arith)))
 
-pub returns : goal.returns
-returns c =
-    let f = c.args.field.now in
-    c.read_positive.ensures ∙ ap (λ (o : Option ℤ). as_signed (in64 o)) (sym (signed_plus f (omega arith) c.if-field-eq45.false))
+pub returns-in-len1-up : goal.returns-in-len1-up
+returns-in-len1-up c = c.read_positive.ensures ∙ ap in64 (sym (signed_plus c.args.field.now (omega arith) (omega arith)))

@@ -1,29 +1,23 @@
--- `fresh_number` gives the least number that is not taken.
-use Prim.Native.Nat.{◌-◌}
+-- `fresh_number` gives the least number that is not taken: the library's `find` over the numbers.
+-- Rests on the law of that search.
+use mathlib.Core.Path.{refl, ◌∙◌}
+use mathlib.Core.Bool.{not}
 use native.Mathlib.Omega.{arith}
-use mathlib.Core.Path.{◌≡◌, sym, ◌∙◌}
 use borrow.Author.Rules.{rules}
+use Rattle.std.proofs.Common.{tests}
+use Rattle.std.proofs.lemmas.Iterator.{YieldsList-from_range}
+use Rattle.std.proofs.lemmas.Iterator.Search.{find_from_yields_List}
 use Rattle.renumbering.specs.Numbers.{number_taken, fresh_number}
-use Rattle.renumbering.proofs.Searches.{least_hit, least_turn, least-end}
+use Rattle.renumbering.proofs.Searches.{least_listed}
 use Rattle.renumbering.proofs.fresh_number.Goals as goal
 
-pub loop-x-init : goal.loop-x-init
-unfolding fresh_number
-loop-x-init c = (search rules, (let e : c.args.g.workers - 0 ≡ c.args.g.workers = omega arith in rw e))
-
-pub number_taken-requires : goal.number_taken-requires
-number_taken-requires c = c.requires
-
-pub returns-then-not-number_taken : goal.returns-then-not-number_taken
-returns-then-not-number_taken c =
-    sym (least_hit _ _ _ (sym c.number_taken.ensures ∙ c.if-not-number_taken.true)) ∙ c.loop-x.invariant.1
-
-pub loop-x-preserved : goal.loop-x-preserved
-loop-x-preserved c = (
-  search rules,
-  least_turn _ _ _ c.loop-x-test.true (sym c.number_taken.ensures ∙ c.if-not-number_taken.false)
-      ∙ c.loop-x.invariant.1,
-)
-
 pub returns : goal.returns
-returns c = sym (least-end _ _ _ c.loop-x-test.false) ∙ c.loop-x.invariant.1
+unfolding fresh_number
+returns c =
+    let s = c.args in
+    let n = s.g.workers in
+    let taken = number_taken s.words.now n s.q in
+    let found =
+    find_from_yields_List (λ x. not (taken x)) _ _ c.find.result c.find.ensures.ran (YieldsList-from_range 0 n n refl (omega arith))
+    (λ x b q k. search (rules, tests)) in
+    c.unwrap_or.ensures ∙ least_listed taken _ n found

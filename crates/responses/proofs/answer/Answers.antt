@@ -1,17 +1,9 @@
--- `answer`: a listing, or a reply.
--- Rests on the laws of the two and on the contracts of what is called.
-use Rattle.responses.proofs.Answering.{answered_list, answered_reply}
+-- `answer`: what is left is a command that is no listing.
+-- Rests on the law that it cites and on the contracts of what is called.
+use borrow.Author.Rules.{rules}
+use Rattle.responses.proofs.Answering.{answered_reply}
 use Rattle.responses.proofs.answer.Goals as goal
 
-pub returns-then-is_list : goal.returns-then-is_list
-returns-then-is_list c =
-    answered_list _ _ _ _
-    c.is_list.ensures
-    c.if-is_list.true
-    c.show.ensures
-
-pub returns : goal.returns
-returns c =
-    answered_reply _ _ _ _ _ _ c.is_list.ensures
-    c.if-is_list.false
-    c.respond.ensures c.put_reply.ensures
+pub returns-in_default-c : goal.returns-in_default-c
+returns-in_default-c c =
+    answered_reply _ _ _ _ _ _ c.in-Some.is c.in_default-c.not-List c.respond.ensures (search rules)

@@ -53,7 +53,3 @@ returns-in-Steps c =
 pub returns-in-List : goal.returns-in-List
 unfolding responded
 returns-in-List c = rw c.in-List.is
-
-pub returns-in-Unread : goal.returns-in-Unread
-unfolding responded
-returns-in-Unread c = rw c.in-Unread.is

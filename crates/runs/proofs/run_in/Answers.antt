@@ -2,6 +2,7 @@
 use Prim.Native.Nat.{ℕ, ◌%◌}
 use native.Mathlib.Omega.{arith}
 use mathlib.Core.Path.{◌≡◌, refl, sym, ◌∙◌, ap}
+use Rattle.std.specs.Prelude.{Ok}
 use Rattle.interface.specs.declared.Settings.{Settings}
 use Rattle.interface.specs.declared.Ran.{Ran}
 use Rattle.fields.specs.Fields.{steps_range}
@@ -9,12 +10,11 @@ use Rattle.fields.specs.Regions.{worker_at}
 use Rattle.layout.specs.Shape.{settings_of, Fits}
 use Rattle.layout.proofs.Positions.{Placed, placed, fits_kept}
 use Rattle.updates.proofs.UpdateLaws.{operation_lookup, operation_update}
-use Rattle.runs.proofs.RunLaws.{run_start, run_end, run_idle, run_moved, run_answered}
+use Rattle.runs.proofs.RunLaws.{run_start, run_end, run_idle, run_moved, run_answered, run_refused}
 use borrow.Author.Rules.{rules}
 use Rattle.runs.proofs.run_in.Goals as goal
 use Rattle.runs.proofs.run_in.Goals.{then-kind-eq-KIND_LOOKUP+in-Moved, else-kind-eq-KIND_LOOKUP+then-k-g, else-kind-eq-KIND_LOOKUP+else-k-g+in-Moved-update_step}
 use Rattle.runs.proofs.run_in.Goals.{After-worker_at-p, At-loop-done}
-use Rattle.std.specs.Prelude.{Ok}
 
 -- where the worker's record is; the words that the turns have left fit, and it lies inside them
 at_worker :
@@ -71,7 +71,15 @@ returns-in-Answered c =
     let place = rw c.settings_of-g.ensures at c.worker_at-p.ensures in
     let taken = operation_lookup _ _ _ _ _ _ _ _ c.get-kind.ensures (ap (λ (x : ℕ). x % steps_range) c.get-k.ensures)
     c.put.ensures c.if-kind-eq-KIND_LOOKUP.true (rw c.settings_of-g.ensures at c.lookup_step.ensures) in
-    run_answered _ _ _ _ _ _ _ place c.get-kind.ensures c.loop-done-test.true _ _ c.if-kind-eq-KIND_NONE.false taken _ (ap Ok c.in-Answered.is)
+    run_answered _ _ _ _ _ _ _ place c.get-kind.ensures c.loop-done-test.true _ _ c.if-kind-eq-KIND_NONE.false taken _ c.in-Answered.is
+    ∙ c.loop-done.invariant.1
+
+pub returns-in-Refused : goal.returns-in-Refused
+returns-in-Refused c =
+    let place = rw c.settings_of-g.ensures at c.worker_at-p.ensures in
+    let taken = operation_lookup _ _ _ _ _ _ _ _ c.get-kind.ensures (ap (λ (x : ℕ). x % steps_range) c.get-k.ensures)
+    c.put.ensures c.if-kind-eq-KIND_LOOKUP.true (rw c.settings_of-g.ensures at c.lookup_step.ensures) in
+    run_refused _ _ _ _ _ _ _ place c.get-kind.ensures c.loop-done-test.true _ _ c.if-kind-eq-KIND_NONE.false taken _ c.in-Refused.is
     ∙ c.loop-done.invariant.1
 
 pub overflow_mul-g : goal.overflow_mul-g
@@ -97,7 +105,15 @@ returns-in-Answered-update_step c =
     let place = rw c.settings_of-g.ensures at c.worker_at-p.ensures in
     let taken = operation_update _ _ _ _ _ _ _ _ c.get-kind.ensures (ap (λ (x : ℕ). x % steps_range) c.get-k.ensures)
     c.put.ensures c.if-kind-eq-KIND_LOOKUP.false (rw (← place) at c.update_step.ensures) in
-    run_answered _ _ _ _ _ _ _ place c.get-kind.ensures c.loop-done-test.true _ _ c.if-kind-eq-KIND_NONE.false taken _ (ap Ok c.in-Answered-update_step.is)
+    run_answered _ _ _ _ _ _ _ place c.get-kind.ensures c.loop-done-test.true _ _ c.if-kind-eq-KIND_NONE.false taken _ c.in-Answered-update_step.is
+    ∙ c.loop-done.invariant.1
+
+pub returns-in-Refused-update_step : goal.returns-in-Refused-update_step
+returns-in-Refused-update_step c =
+    let place = rw c.settings_of-g.ensures at c.worker_at-p.ensures in
+    let taken = operation_update _ _ _ _ _ _ _ _ c.get-kind.ensures (ap (λ (x : ℕ). x % steps_range) c.get-k.ensures)
+    c.put.ensures c.if-kind-eq-KIND_LOOKUP.false (rw (← place) at c.update_step.ensures) in
+    run_refused _ _ _ _ _ _ _ place c.get-kind.ensures c.loop-done-test.true _ _ c.if-kind-eq-KIND_NONE.false taken _ c.in-Refused-update_step.is
     ∙ c.loop-done.invariant.1
 
 pub loop-done-preserved : goal.loop-done-preserved
@@ -110,7 +126,7 @@ loop-done-preserved c =
             search rules,
             run_moved _ _ _ _ _ _ _ place c.get-kind.ensures c.loop-done-test.true _ _
                 c.if-kind-eq-KIND_NONE.false (operation_lookup _ _ _ _ _ _ _ _ c.get-kind.ensures steps c.put.ensures w.if-kind-eq-KIND_LOOKUP.true
-                (rw c.settings_of-g.ensures at w.lookup_step.ensures)) (ap Ok w.in-Moved.is) ∙ c.loop-done.invariant.1,
+                (rw c.settings_of-g.ensures at w.lookup_step.ensures)) w.in-Moved.is ∙ c.loop-done.invariant.1,
           )
       | else-kind-eq-KIND_LOOKUP+then-k-g w ↦
           rw w.words-is (
@@ -124,7 +140,7 @@ loop-done-preserved c =
             search rules,
             run_moved _ _ _ _ _ _ _ place c.get-kind.ensures c.loop-done-test.true _ _
                 c.if-kind-eq-KIND_NONE.false (operation_update _ _ _ _ _ _ _ _ c.get-kind.ensures steps c.put.ensures w.if-kind-eq-KIND_LOOKUP.false
-                (rw (← place) at w.update_step.ensures)) (ap Ok w.in-Moved-update_step.is) ∙ c.loop-done.invariant.1,
+                (rw (← place) at w.update_step.ensures)) w.in-Moved-update_step.is ∙ c.loop-done.invariant.1,
           )
     ]
 

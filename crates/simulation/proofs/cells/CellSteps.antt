@@ -7,7 +7,7 @@ use mathlib.Core.Path.{◌≡◌, refl, ap, sym, ◌∙◌, subst}
 use mathlib.Core.Logic.{◌≢◌, inl, inr, ⊎_elim, by_cases}
 use mathlib.Core.Bool.{Bool, not}
 use mathlib.Core.List.{List}
-use Rattle.std.specs.Prelude.{Some, None, Ok}
+use Rattle.std.specs.Prelude.{Some, None}
 use lib.ListN.{length, set, length-set}
 use lib.Seq.{get_or-set_other}
 use Rattle.interface.specs.Numbers.{kind_none, kind_lookup}
@@ -129,7 +129,7 @@ module _ {s : Settings} {l : List ℕ} {m : Machine} {w : ℕ} (ready : Ready s 
 
   -- the step of an update that goes on to counter pc, leaves words l₂ and cells c, and reads nothing
   moves :
-      (pc : PC) (l₂ : List ℕ) (c : Cells) → step_in l s w ≡ (l₂, Ok Stepped.Moved) → (next ≡ pc → MeansAfter l₂ c) → (y : Reads)
+      (pc : PC) (l₂ : List ℕ) (c : Cells) → step_in l s w ≡ (l₂, Stepped.Moved) → (next ≡ pc → MeansAfter l₂ c) → (y : Reads)
       → task_of s.workers (counted (m.workers w) y None) ≡ goes k pc k.reads → Next ready c y None
   unfolding counted step_reply
   moves pc l₂ c e h y g = rw (e, ap (λ (o : Task). o.reads) g) (h (ap (λ (o : Task). o.pc) g), refl)

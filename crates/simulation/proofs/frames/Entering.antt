@@ -8,7 +8,7 @@ use mathlib.Core.Path.{◌≡◌, refl, ap, sym, ◌∙◌, subst}
 use mathlib.Core.Logic.{◌≢◌}
 use mathlib.Core.Bool.{true}
 use mathlib.Core.List.{List}
-use Rattle.std.specs.Prelude.{Option, Some, None, Err}
+use Rattle.std.specs.Prelude.{Option, Some, None}
 use lib.Dec.{eqb}
 use lib.ListN.{length, set, length-set}
 use borrow.Author.Tests.{le-leb}
@@ -204,7 +204,7 @@ module _ (s : Settings) (range : in_range s.workers s.capacity s.depth ≡ true)
       let few = lookup_under_way s range m w a wn good e in
       step_enters (λ g. omega (arith, h.0)) (omega arith) ∙ if_eq (word l (p + worker_kind)) kind_lookup _ _ h.0 ∙ rw add-one
 
-  pub idle_enters : (m.workers w).operation ≡ None → step_in l s w ≡ (l, Err Refusal.Idle)
+  pub idle_enters : (m.workers w).operation ≡ None → step_in l s w ≡ (l, Stepped.Refused Refusal.Idle)
   unfolding step_in descriptor_in start_of
   idle_enters e = if_eq (word l (p + worker_kind)) kind_none _ _ (is_idle asked ((means.workers w wn).operation ∙ e))
 

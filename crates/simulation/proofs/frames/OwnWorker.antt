@@ -8,7 +8,7 @@ use mathlib.Core.Path.{◌≡◌, refl, ap, sym, ◌∙◌, subst, subst⁻¹}
 use mathlib.Core.Logic.{◌≢◌, by_cases}
 use mathlib.Core.Bool.{Bool, true}
 use mathlib.Core.List.{List}
-use Rattle.std.specs.Prelude.{Option, None, Ok}
+use Rattle.std.specs.Prelude.{Option, None}
 use lib.ListN.{length, get_or, set}
 use Rattle.interface.specs.Limits.{in_range}
 use Rattle.interface.specs.Numbers.{kind_none}
@@ -304,7 +304,7 @@ module _ {s : Settings} {l : List ℕ} {m : Machine} {w : ℕ} (ready : Ready s 
       (y : Reads) → task_of s.workers (counted (m.workers w) y None) ≡ goes (tasks_of s m w) pc x → Next ready m.cells y None
 
   pub goes-on :
-      (l' : List ℕ) (lo hi : ℕ) (pc : PC) (x : Reads) → step_in l s w ≡ (l', Ok Stepped.Moved) → Changed s l w (m.workers w).steps l' lo hi
+      (l' : List ℕ) (lo hi : ℕ) (pc : PC) (x : Reads) → step_in l s w ≡ (l', Stepped.Moved) → Changed s l w (m.workers w).steps l' lo hi
       → SeenToggle s w l' x.toggle → SeenSlots s w l' x.slots → CounterMeans s l m w l' (going x) pc → Onward pc x
   unfolding counted step_reply
   goes-on l' lo hi pc x e f b seen st y g =
@@ -428,7 +428,7 @@ module _ {s : Settings} {l : List ℕ} {m : Machine} {w : ℕ} (ready : Ready s 
       }
 
   pub stays :
-      (pc : PC) → (HoldsBucket pc → HoldsBucket k.pc) → (HasState pc → ⊥) → (HasDirectory pc → ⊥) → step_in l s w ≡ (l₁, Ok Stepped.Moved)
+      (pc : PC) → (HoldsBucket pc → HoldsBucket k.pc) → (HasState pc → ⊥) → (HasDirectory pc → ⊥) → step_in l s w ≡ (l₁, Stepped.Moved)
       → Onward pc k.reads
   stays pc holds no_state no_directory moved =
       goes-on l₁ worker_held worker_held pc k.reads moved changed₁

@@ -7,7 +7,7 @@ use native.Mathlib.Decide.{ℕ_discrete, dec_lt}
 use mathlib.Core.Path.{◌≡◌, refl, ap, sym, ◌∙◌, subst, subst⁻¹}
 use mathlib.Core.Logic.{◌≢◌, by_cases}
 use mathlib.Core.List.{List}
-use Rattle.std.specs.Prelude.{Some, Ok}
+use Rattle.std.specs.Prelude.{Some}
 use lib.ListN.{length, set}
 use lib.Pow.{pow_pos}
 use Rattle.interface.specs.declared.Settings.{Settings}
@@ -65,7 +65,7 @@ module _ {s : Settings} {l : List ℕ} {m : Machine} {w : ℕ} (ready : Ready s 
   -- the directory is read: looks, reads_d, checks_d
   reads_directory :
       (o : Operation) → (m.workers w).operation ≡ Some o → (pc : PC) → (HasState pc → ⊥) → (HasDirectory pc → ⊥)
-      → step_in l s w ≡ (bucket_read_at l₁ s me, Ok Stepped.Moved)
+      → step_in l s w ≡ (bucket_read_at l₁ s me, Stepped.Moved)
       → Onward ready pc (with_directory k.reads m.cells.directory)
   unfolding bucket_read_at with_directory descriptor_in
   reads_directory o e pc no_state no_directory moved =
@@ -322,8 +322,8 @@ module _ {s : Settings} {l : List ℕ} {m : Machine} {w : ℕ} (ready : Ready s 
       a : Announced s m.cells w k
       a = announced-at ready (in_b p r swap) e
 
-      moved : step_in l s w ≡ (l₁, Ok Stepped.Moved)
-      moved = plan_step ready _ a e ∙ ap (λ (q : List ℕ). (q, Ok Stepped.Moved)) (if_ne _ _ _ _ differ)
+      moved : step_in l s w ≡ (l₁, Stepped.Moved)
+      moved = plan_step ready _ a e ∙ ap (λ (q : List ℕ). (q, Stepped.Moved)) (if_ne _ _ _ _ differ)
 
       by : (r : Two) → Onward ready (after_b p r) k.reads
       by one = stays ready (in_b p two read_s) (λ q. h) (λ q. q) (λ q. q) moved
@@ -343,8 +343,8 @@ module _ {s : Settings} {l : List ℕ} {m : Machine} {w : ℕ} (ready : Ready s 
       a : Announced s m.cells w k
       a = announced-at ready (in_d p r swap_d) e
 
-      moved : step_in l s w ≡ (l₁, Ok Stepped.Moved)
-      moved = plan_step ready _ a e ∙ ap (λ (q : List ℕ). (q, Ok Stepped.Moved)) (if_ne _ _ _ _ differ)
+      moved : step_in l s w ≡ (l₁, Stepped.Moved)
+      moved = plan_step ready _ a e ∙ ap (λ (q : List ℕ). (q, Stepped.Moved)) (if_ne _ _ _ _ differ)
 
       by : (r : Two) → Onward ready (after_d p r) k.reads
       by one = stays ready (in_d p two copy_d) (λ q. absurd q) (λ q. q) (λ q. q) moved

@@ -7,7 +7,7 @@ use mathlib.Core.Path.{◌≡◌, refl, ap, sym, ◌∙◌}
 use mathlib.Core.Logic.{◌≢◌, by_cases}
 use mathlib.Core.Bool.{true}
 use mathlib.Core.List.{List}
-use Rattle.std.specs.Prelude.{Option, Some, None, Result, Ok, Err}
+use Rattle.std.specs.Prelude.{Option, Some, None, Result, Err}
 use lib.Dec.{eqb}
 use borrow.Author.Tests.{le-leb, lt-leb}
 use Rattle.interface.specs.Limits.{in_range}
@@ -42,12 +42,12 @@ use Rattle.simulation.proofs.Represents.{Represents, step_alike, represents_next
 -- ---- a step of a worker whose operation is under way
 
 module _ (s : Settings) (m : Machine) (w : ℕ) (known : w < s.workers) {o : Operation} (asked : (m.workers w).operation ≡ Some o) where
-  never_refused : {r : Refusal} → (step s m w).1 ≡ Err r → ⊥
-  never_refused {r} e = done_never m w _ _ (ap (λ (x : Machine × Result Stepped Refusal). x.1) (sym (step_made s m w known asked)) ∙ e)
+  never_refused : {r : Refusal} → (step s m w).1 ≡ Stepped.Refused r → ⊥
+  never_refused {r} e = done_never m w _ _ (ap (λ (x : Machine × Stepped). x.1) (sym (step_made s m w known asked)) ∙ e)
 
   -- after a step that moved, the worker with one own step more
   moved_worker :
-      (step s m w).1 ≡ Ok Stepped.Moved
+      (step s m w).1 ≡ Stepped.Moved
       → (((step s m w).0.workers w).operation ≡ Some o) × (((step s m w).0.workers w).steps ≡ suc (m.workers w).steps)
   unfolding done counted step_reply
   moved_worker = rw (step_made s m w known asked) (by (perform (access s w (m.workers w) o) m.cells) _ refl)
@@ -55,7 +55,7 @@ module _ (s : Settings) (m : Machine) (w : ℕ) (known : w < s.workers) {o : Ope
       c : ℕ
       c = check_of s (m.workers w) o
 
-      by : (e : Effect Cells) (a : Option Answer) → e.answer ≡ a → (done m w c e).1 ≡ Ok Stepped.Moved
+      by : (e : Effect Cells) (a : Option Answer) → e.answer ≡ a → (done m w c e).1 ≡ Stepped.Moved
           → (((done m w c e).0.workers w).operation ≡ Some o) × (((done m w c e).0.workers w).steps ≡ suc (m.workers w).steps)
       by e None f g = rw (assign_at, f) (asked, refl)
       by e (Some a) f g = absurd (let z : ◌≡◌ {A = ℕ} 0 1 = cc in omega arith)
@@ -63,33 +63,33 @@ module _ (s : Settings) (m : Machine) (w : ℕ) (known : w < s.workers) {o : Ope
 -- ---- one step of a run
 
 -- runs that differ only after a step that moved
-same_later : (l : List ℕ) (r : Result Stepped Refusal) {x y : List ℕ × Result Ran Refusal} → (r ≡ Ok Stepped.Moved → x ≡ y) → goes_on l r x ≡ goes_on l r y
+same_later : (l : List ℕ) (r : Stepped) {x y : List ℕ × Result Ran Refusal} → (r ≡ Stepped.Moved → x ≡ y) → goes_on l r x ≡ goes_on l r y
 unfolding goes_on
-same_later l (Ok Stepped.Moved) h = h refl
-same_later l (Ok (Stepped.Answered c)) h = refl
-same_later l (Err r) h = refl
+same_later l Stepped.Moved h = h refl
+same_later l (Stepped.Answered c) h = refl
+same_later l (Stepped.Refused r) h = refl
 
 same_run :
-    (l : List ℕ) (k : ℕ) (r : Result Stepped Refusal) {x y : List ℕ × Result Ran Refusal} → ((z : Refusal) → r ≡ Err z → ⊥) → (r ≡ Ok Stepped.Moved → x ≡ y)
+    (l : List ℕ) (k : ℕ) (r : Stepped) {x y : List ℕ × Result Ran Refusal} → ((z : Refusal) → r ≡ Stepped.Refused z → ⊥) → (r ≡ Stepped.Moved → x ≡ y)
     → or_else l (last_of k r) x ≡ goes_on l r y
 unfolding or_else last_of goes_on
-same_run l k (Ok Stepped.Moved) q h = h refl
-same_run l k (Ok (Stepped.Answered c)) q h = refl
-same_run l k (Err r) q h = absurd (q r refl)
+same_run l k Stepped.Moved q h = h refl
+same_run l k (Stepped.Answered c) q h = refl
+same_run l k (Stepped.Refused r) q h = absurd (q r refl)
 
 -- a run whose first step is not refused, and one whose first step is
 accepted_run :
-    (l : List ℕ) (w most : ℕ) → ((r : Refusal) → (step_words l w).1 ≡ Err r → ⊥) → iterated l w 0 most ≡ by_steps l w most
+    (l : List ℕ) (w most : ℕ) → ((r : Refusal) → (step_words l w).1 ≡ Stepped.Refused r → ⊥) → iterated l w 0 most ≡ by_steps l w most
 unfolding by_steps iterated checked_only
 accepted_run l w zero h = by (step_words l w).1 h
   where
-    by : (x : Result Stepped Refusal) → ((r : Refusal) → x ≡ Err r → ⊥) → iterated l w 0 0 ≡ (l, checked_only x)
-    by (Ok Stepped.Moved) h = refl
-    by (Ok (Stepped.Answered c)) h = refl
-    by (Err r) h = absurd (h r refl)
+    by : (x : Stepped) → ((r : Refusal) → x ≡ Stepped.Refused r → ⊥) → iterated l w 0 0 ≡ (l, checked_only x)
+    by Stepped.Moved h = refl
+    by (Stepped.Answered c) h = refl
+    by (Stepped.Refused r) h = absurd (h r refl)
 accepted_run l w (suc f) h = refl
 
-refused_run : (l : List ℕ) (w most : ℕ) {r : Refusal} → step_words l w ≡ (l, Err r) → by_steps l w most ≡ (l, Err r)
+refused_run : (l : List ℕ) (w most : ℕ) {r : Refusal} → step_words l w ≡ (l, Stepped.Refused r) → by_steps l w most ≡ (l, Err r)
 unfolding by_steps iterated goes_on checked_only
 refused_run l w zero e = rw e
 refused_run l w (suc f) e = rw e
@@ -122,7 +122,7 @@ module _ (s : Settings) (range : in_range s.workers s.capacity s.depth ≡ true)
       abbrev p : ℕ
       p = worker_at s.workers w
 
-      abbrev made : List ℕ × Result Stepped Refusal
+      abbrev made : List ℕ × Stepped
       made = operation_at l s p w (word l (p + worker_steps) % steps_range)
 
       busy_word : word l (p + worker_kind) ≢ kind_none
@@ -133,7 +133,7 @@ module _ (s : Settings) (range : in_range s.workers s.capacity s.depth ≡ true)
       unfolding step_in
       busy_step = step_is b.represents b.known ∙ if_ne (word l (p + worker_kind)) kind_none _ _ busy_word
 
-      busy_never : {r : Refusal} → (step_words l w).1 ≡ Err r → ⊥
+      busy_never : {r : Refusal} → (step_words l w).1 ≡ Stepped.Refused r → ⊥
       busy_never e = never_refused s m w b.known b.asked (sym (step_alike s range l m b.represents w).1 ∙ e)
 
       few : (m.workers w).steps < 12 * s.workers + 33
@@ -143,7 +143,7 @@ module _ (s : Settings) (range : in_range s.workers s.capacity s.depth ≡ true)
           by (update u) e = update_under_way s range m w u b.known b.represents.good e
           by (lookup a) e = omega (arith, lookup_under_way s range m w a b.known b.represents.good e)
 
-      busy_next : (step_words l w).1 ≡ Ok Stepped.Moved → Busy s (step_words l w).0 (step s m w).0 w
+      busy_next : (step_words l w).1 ≡ Stepped.Moved → Busy s (step_words l w).0 (step s m w).0 w
       unfolding next
       busy_next e = record {
         represents = represents_next s range l m b.represents (stepping w) tt tt;
@@ -152,7 +152,7 @@ module _ (s : Settings) (range : in_range s.workers s.capacity s.depth ≡ true)
         asked = (moved_worker s m w b.known b.asked (sym (step_alike s range l m b.represents w).1 ∙ e)).0;
       }
 
-      more_steps : (step_words l w).1 ≡ Ok Stepped.Moved → ((step s m w).0.workers w).steps ≡ suc (m.workers w).steps
+      more_steps : (step_words l w).1 ≡ Stepped.Moved → ((step s m w).0.workers w).steps ≡ suc (m.workers w).steps
       more_steps e = (moved_worker s m w b.known b.asked (sym (step_alike s range l m b.represents w).1 ∙ e)).1
 
   module _ (w : ℕ) where
@@ -162,7 +162,7 @@ module _ (s : Settings) (range : in_range s.workers s.capacity s.depth ≡ true)
     run-in zero k l m b = refl
     run-in (suc f) k l m b =
         if_ne (word l (worker_at s.workers w + worker_kind)) kind_none _ _ (busy_word l m w b)
-        ∙ ap (λ (x : List ℕ × Result Stepped Refusal). or_else x.0 (last_of k x.1) (run_in x.0 s w (suc k) f)) (sym (busy_step l m w b))
+        ∙ ap (λ (x : List ℕ × Stepped). or_else x.0 (last_of k x.1) (run_in x.0 s w (suc k) f)) (sym (busy_step l m w b))
         ∙ same_run (step_words l w).0 k (step_words l w).1 (λ r e. busy_never l m w b e) (λ e. run-in f (suc k) _ _ (busy_next l m w b e))
 
     -- more steps than an operation can take are not taken
@@ -200,7 +200,7 @@ module _ (s : Settings) (range : in_range s.workers s.capacity s.depth ≡ true)
       stranger_run : Represents s l m → s.workers ≤ w → run_words l w most ≡ by_steps l w most
       unfolding step_words run_words when◌then◌else◌
       stranger_run h beyond =
-          let e : step_words l w ≡ (l, Err Refusal.Stranger) =
+          let e : step_words l w ≡ (l, Stepped.Refused Refusal.Stranger) =
           rw (strange_never s range l m h.means, shape_is s range l m h.means, le-leb s.workers w beyond) in
           let f : run_words l w most ≡ (l, Err Refusal.Stranger) =
           rw (strange_never s range l m h.means, shape_is s range l m h.means, le-leb s.workers w beyond) in

@@ -15,8 +15,7 @@ use Rattle.runs.specs.Runs.{run_words}
 use Rattle.simulation.specs.Runs.{goes_on, iterated, by_steps, after_steps, reply_at, counting, steps_taken, ran_as, RunAsSteps}
 use Rattle.simulation.proofs.Represents.{Represents}
 use Rattle.simulation.proofs.runs.RunIterates.{run_iterates}
-use Rattle.std.specs.Prelude.{Result, Ok, Err}
-use Rattle.interface.specs.declared.Refusal.{Refusal}
+use Rattle.std.specs.Prelude.{Ok}
 
 -- ---- for any words
 
@@ -31,10 +30,10 @@ module _ (w : ℕ) where
   none_asked zero l e = refl
   none_asked (suc f) l e = absurd (by (step_words l w).1 e)
     where
-      by : (r : Result Stepped Refusal) → counting r (steps_taken (left l) w f) ≡ 0 → ⊥
-      by (Ok Stepped.Moved) e = omega arith
-      by (Ok (Stepped.Answered c)) e = omega arith
-      by (Err r) e = omega arith
+      by : (r : Stepped) → counting r (steps_taken (left l) w f) ≡ 0 → ⊥
+      by Stepped.Moved e = omega arith
+      by (Stepped.Answered c) e = omega arith
+      by (Stepped.Refused r) e = omega arith
 
   -- the words after them
   steps_words : (f k : ℕ) (l : List ℕ) → (iterated l w k f).0 ≡ after_steps l w (steps_taken l w f)
@@ -42,25 +41,25 @@ module _ (w : ℕ) where
   steps_words zero k l = refl
   steps_words (suc f) k l = by (step_words l w).1 (steps_words f (suc k) (left l))
     where
-      by : (r : Result Stepped Refusal) → (iterated (left l) w (suc k) f).0 ≡ after_steps (left l) w (steps_taken (left l) w f)
+      by : (r : Stepped) → (iterated (left l) w (suc k) f).0 ≡ after_steps (left l) w (steps_taken (left l) w f)
           → (goes_on (left l) r (iterated (left l) w (suc k) f)).0 ≡ after_steps l w (counting r (steps_taken (left l) w f))
-      by (Ok Stepped.Moved) ih = ih
-      by (Ok (Stepped.Answered c)) ih = refl
-      by (Err r) ih = refl
+      by Stepped.Moved ih = ih
+      by (Stepped.Answered c) ih = refl
+      by (Stepped.Refused r) ih = refl
 
   -- the replies before the last
-  steps_earlier : (f : ℕ) (l : List ℕ) (i : ℕ) → suc i < steps_taken l w f → reply_at l w i ≡ Ok Stepped.Moved
+  steps_earlier : (f : ℕ) (l : List ℕ) (i : ℕ) → suc i < steps_taken l w f → reply_at l w i ≡ Stepped.Moved
   unfolding steps_taken after_steps counting
   steps_earlier zero l i h = absurd (omega arith)
   steps_earlier (suc f) l i h = by (step_words l w).1 refl i h (steps_earlier f (left l))
     where
-      by : (r : Result Stepped Refusal) → (step_words l w).1 ≡ r → (i : ℕ) → suc i < counting r (steps_taken (left l) w f)
-          → ((j : ℕ) → suc j < steps_taken (left l) w f → reply_at (left l) w j ≡ Ok Stepped.Moved)
-          → reply_at l w i ≡ Ok Stepped.Moved
-      by (Ok Stepped.Moved) e zero h ih = e
-      by (Ok Stepped.Moved) e (suc j) h ih = ih j (omega arith)
-      by (Ok (Stepped.Answered c)) e i h ih = absurd (omega arith)
-      by (Err r) e i h ih = absurd (omega arith)
+      by : (r : Stepped) → (step_words l w).1 ≡ r → (i : ℕ) → suc i < counting r (steps_taken (left l) w f)
+          → ((j : ℕ) → suc j < steps_taken (left l) w f → reply_at (left l) w j ≡ Stepped.Moved)
+          → reply_at l w i ≡ Stepped.Moved
+      by Stepped.Moved e zero h ih = e
+      by Stepped.Moved e (suc j) h ih = ih j (omega arith)
+      by (Stepped.Answered c) e i h ih = absurd (omega arith)
+      by (Stepped.Refused r) e i h ih = absurd (omega arith)
 
   -- the last reply, and what is taken where that moved
   steps_last : (f k : ℕ) (l : List ℕ) (i : ℕ) → suc i ≡ steps_taken l w f → (iterated l w k f).1 ≡ ran_as (suc (k + i)) (reply_at l w i)
@@ -71,30 +70,30 @@ module _ (w : ℕ) where
       nothing : (f : ℕ) → f ≡ 0 → (iterated (left l) w (suc k) f).1 ≡ Ok (Ran.Moved (suc k))
       nothing f e = rw e
 
-      by : (r : Result Stepped Refusal) → (step_words l w).1 ≡ r → (i : ℕ) → suc i ≡ counting r (steps_taken (left l) w f)
+      by : (r : Stepped) → (step_words l w).1 ≡ r → (i : ℕ) → suc i ≡ counting r (steps_taken (left l) w f)
           → ((j : ℕ) → suc j ≡ steps_taken (left l) w f → (iterated (left l) w (suc k) f).1 ≡ ran_as (suc (suc k + j)) (reply_at (left l) w j))
           → (goes_on (left l) r (iterated (left l) w (suc k) f)).1 ≡ ran_as (suc (k + i)) (reply_at l w i)
-      by (Ok Stepped.Moved) e zero h ih = nothing f (none_asked f (left l) (omega arith)) ∙ rw (e, add-zero)
-      by (Ok Stepped.Moved) e (suc j) h ih = ih j (omega arith) ∙ ap (λ (n : ℕ). ran_as n (reply_at (left l) w j)) (omega arith)
-      by (Ok (Stepped.Answered c)) e zero h ih = rw e
-      by (Ok (Stepped.Answered c)) e (suc j) h ih = absurd (omega arith)
-      by (Err r) e zero h ih = rw e
-      by (Err r) e (suc j) h ih = absurd (omega arith)
+      by Stepped.Moved e zero h ih = nothing f (none_asked f (left l) (omega arith)) ∙ rw (e, add-zero)
+      by Stepped.Moved e (suc j) h ih = ih j (omega arith) ∙ ap (λ (n : ℕ). ran_as n (reply_at (left l) w j)) (omega arith)
+      by (Stepped.Answered c) e zero h ih = rw e
+      by (Stepped.Answered c) e (suc j) h ih = absurd (omega arith)
+      by (Stepped.Refused r) e zero h ih = rw e
+      by (Stepped.Refused r) e (suc j) h ih = absurd (omega arith)
 
-  steps_whole : (f : ℕ) (l : List ℕ) (i : ℕ) → suc i ≡ steps_taken l w f → reply_at l w i ≡ Ok Stepped.Moved → steps_taken l w f ≡ f
+  steps_whole : (f : ℕ) (l : List ℕ) (i : ℕ) → suc i ≡ steps_taken l w f → reply_at l w i ≡ Stepped.Moved → steps_taken l w f ≡ f
   unfolding steps_taken after_steps counting
   steps_whole zero l i h e = refl
   steps_whole (suc f) l i h q = by (step_words l w).1 refl i h q (steps_whole f (left l))
     where
-      by : (r : Result Stepped Refusal) → (step_words l w).1 ≡ r → (i : ℕ) → suc i ≡ counting r (steps_taken (left l) w f) → reply_at l w i ≡ Ok Stepped.Moved
-          → ((j : ℕ) → suc j ≡ steps_taken (left l) w f → reply_at (left l) w j ≡ Ok Stepped.Moved → steps_taken (left l) w f ≡ f)
+      by : (r : Stepped) → (step_words l w).1 ≡ r → (i : ℕ) → suc i ≡ counting r (steps_taken (left l) w f) → reply_at l w i ≡ Stepped.Moved
+          → ((j : ℕ) → suc j ≡ steps_taken (left l) w f → reply_at (left l) w j ≡ Stepped.Moved → steps_taken (left l) w f ≡ f)
           → counting r (steps_taken (left l) w f) ≡ suc f
-      by (Ok Stepped.Moved) e zero h q ih = omega (arith, none_asked f (left l) (omega arith))
-      by (Ok Stepped.Moved) e (suc j) h q ih = ap suc (ih j (omega arith) q)
-      by (Ok (Stepped.Answered c)) e zero h q ih = absurd (let z : ◌≡◌ {A = ℕ} 0 1 = cc in omega arith)
-      by (Ok (Stepped.Answered c)) e (suc j) h q ih = absurd (omega arith)
-      by (Err r) e zero h q ih = absurd (let z : ◌≡◌ {A = ℕ} 0 1 = cc in omega arith)
-      by (Err r) e (suc j) h q ih = absurd (omega arith)
+      by Stepped.Moved e zero h q ih = omega (arith, none_asked f (left l) (omega arith))
+      by Stepped.Moved e (suc j) h q ih = ap suc (ih j (omega arith) q)
+      by (Stepped.Answered c) e zero h q ih = absurd (let z : ◌≡◌ {A = ℕ} 0 1 = cc in omega arith)
+      by (Stepped.Answered c) e (suc j) h q ih = absurd (omega arith)
+      by (Stepped.Refused r) e zero h q ih = absurd (let z : ◌≡◌ {A = ℕ} 0 1 = cc in omega arith)
+      by (Stepped.Refused r) e (suc j) h q ih = absurd (omega arith)
 
   -- where a run is iterated steps, it is those steps
   steps_of : (l : List ℕ) (most : ℕ) → run_words l w most ≡ by_steps l w most → RunAsSteps l w most

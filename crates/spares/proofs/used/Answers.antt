@@ -1,6 +1,7 @@
 -- `used` tells whether a record is current or held.
 -- Rests on the bounds of records.
 use native.Mathlib.Omega.{arith}
+use mathlib.Core.Path.{◌∙◌}
 use Rattle.spares.specs.Records.{held_by_any}
 use Rattle.spares.proofs.PoolLaws.{pool_bound, pool_inside, used_current, used_held}
 use Rattle.spares.proofs.used.Goals as goal
@@ -26,9 +27,9 @@ current-requires c =
 
 pub returns-then-current : goal.returns-then-current
 returns-then-current c =
-    used_current _ _ _ _ _ c.record_start-q.ensures c.current.ensures c.if-current.true
+    c.if-current.true ∙ used_current _ _ _ _ _ c.record_start-q.ensures c.current.ensures c.if-current.true
 
-pub returns : goal.returns
+pub returns-else-current : goal.returns-else-current
 unfolding held_by_any
-returns c =
+returns-else-current c =
     used_held _ _ _ _ _ c.record_start-q.ensures c.current.ensures _ c.if-current.false c.any_has.ensures

@@ -10,7 +10,6 @@ use Rattle.updates.specs.Updates.{update_at}
 use Rattle.updates.proofs.UpdateLaws.{slot_below, state_below, updated}
 use borrow.Author.Rules.{rules}
 use Rattle.updates.proofs.update_step.Goals as goal
-use Rattle.std.specs.Prelude.{Ok}
 
 pub phase_of-requires : goal.phase_of-requires
 phase_of-requires c = rw c.settings_of-g.ensures (search rules)
@@ -74,67 +73,67 @@ unfolding planned update_at
 returns-in-Announce c =
     rw (← c.settings_of-g.ensures)
     (updated _ _ _ _ _ _ _ _ Code.Phase.Announce c.in-Announce.is c.phase_of.ensures
-    (ap (λ (l : List ℕ). (l, Ok Stepped.Moved)) c.announce.ensures))
+    (ap (λ (l : List ℕ). (l, Stepped.Moved)) c.announce.ensures))
 
 pub returns-in-ReadDirectory : goal.returns-in-ReadDirectory
 unfolding planned update_at
 returns-in-ReadDirectory c =
     rw (← c.settings_of-g.ensures)
     (updated _ _ _ _ _ _ _ _ Code.Phase.ReadDirectory c.in-ReadDirectory.is c.phase_of.ensures
-    (ap (λ (l : List ℕ). (l, Ok Stepped.Moved)) c.read_directory.ensures))
+    (ap (λ (l : List ℕ). (l, Stepped.Moved)) c.read_directory.ensures))
 
 pub returns-in-Flip : goal.returns-in-Flip
 unfolding planned update_at
 returns-in-Flip c =
     rw (← c.settings_of-g.ensures)
     (updated _ _ _ _ _ _ _ _ Code.Phase.Flip c.in-Flip.is c.phase_of.ensures
-    (ap (λ (l : List ℕ). (l, Ok Stepped.Moved)) c.flip.ensures))
+    (ap (λ (l : List ℕ). (l, Stepped.Moved)) c.flip.ensures))
 
 pub returns-in-ReadState : goal.returns-in-ReadState
 unfolding planned update_at
 returns-in-ReadState c =
     rw (← c.settings_of-g.ensures)
     (updated _ _ _ _ _ _ _ _ Code.Phase.ReadState c.in-ReadState.is c.phase_of.ensures
-    (ap (λ (l : List ℕ). (l, Ok Stepped.Moved)) c.read_state.ensures))
+    (ap (λ (l : List ℕ). (l, Stepped.Moved)) c.read_state.ensures))
 
 pub returns-in-ReadToggle : goal.returns-in-ReadToggle
 unfolding planned update_at
 returns-in-ReadToggle c =
     rw (← c.settings_of-g.ensures)
     (updated _ _ _ _ _ _ _ _ Code.Phase.ReadToggle c.in-ReadToggle.is c.phase_of.ensures
-    (ap (λ (l : List ℕ). (l, Ok Stepped.Moved)) c.read_toggle.ensures))
+    (ap (λ (l : List ℕ). (l, Stepped.Moved)) c.read_toggle.ensures))
 
 pub returns-in-ReadSlot : goal.returns-in-ReadSlot
 unfolding planned update_at
 returns-in-ReadSlot c =
     rw (← c.settings_of-g.ensures)
     (updated _ _ _ _ _ _ _ _ (Code.Phase.ReadSlot _) c.in-ReadSlot.is c.phase_of.ensures
-    (ap (λ (l : List ℕ). (l, Ok Stepped.Moved)) c.read_slot.ensures))
+    (ap (λ (l : List ℕ). (l, Stepped.Moved)) c.read_slot.ensures))
 
 pub returns-in-Swap : goal.returns-in-Swap
 unfolding planned update_at
 returns-in-Swap c =
     rw (← c.settings_of-g.ensures)
     (updated _ _ _ _ _ _ _ _ Code.Phase.Swap c.in-Swap.is c.phase_of.ensures
-    (ap (λ (l : List ℕ). (l, Ok Stepped.Moved)) c.swap.ensures))
+    (ap (λ (l : List ℕ). (l, Stepped.Moved)) c.swap.ensures))
 
 pub returns-in-CopyDirectory : goal.returns-in-CopyDirectory
 unfolding planned update_at
 returns-in-CopyDirectory c =
     rw (← c.settings_of-g.ensures)
     (updated _ _ _ _ _ _ _ _ Code.Phase.CopyDirectory c.in-CopyDirectory.is c.phase_of.ensures
-    (ap (λ (l : List ℕ). (l, Ok Stepped.Moved)) c.copy_directory.ensures))
+    (ap (λ (l : List ℕ). (l, Stepped.Moved)) c.copy_directory.ensures))
 
 pub returns-in-StateStep : goal.returns-in-StateStep
 unfolding planned update_at
 returns-in-StateStep c =
     rw (← c.settings_of-g.ensures)
     (updated _ _ _ _ _ _ _ _ (Code.Phase.StateStep _) c.in-StateStep.is c.phase_of.ensures
-    (ap (λ (l : List ℕ). (l, Ok Stepped.Moved)) c.state_step.ensures))
+    (ap (λ (l : List ℕ). (l, Stepped.Moved)) c.state_step.ensures))
 
 pub returns-in-SwapDirectory : goal.returns-in-SwapDirectory
 unfolding planned update_at
 returns-in-SwapDirectory c =
     rw (← c.settings_of-g.ensures)
     (updated _ _ _ _ _ _ _ _ Code.Phase.SwapDirectory c.in-SwapDirectory.is c.phase_of.ensures
-    (ap (λ (l : List ℕ). (l, Ok Stepped.Moved)) c.swap_directory.ensures))
+    (ap (λ (l : List ℕ). (l, Stepped.Moved)) c.swap_directory.ensures))

@@ -6,13 +6,12 @@ use lib.ListN.{drop}
 use Rattle.interface.specs.Numbers.{bytes, answer_word}
 use Rattle.interface.specs.declared.Answer.TheVariants.{Added, Replaced, Removed, Absent, Found, Posted, Crowded, Overrun}
 use Rattle.interface.specs.declared.Answer.TheVariants as Answer
-use Rattle.numerals.specs.Numerals.{as_number}
 use Rattle.loglines.specs.Fields.{number_among, all_answers, answer_named}
 use Rattle.loglines.proofs.FieldLaws.{answer_first}
 use Rattle.loglines.proofs.field.read_answer.Goals as goal
 
 pub returns : goal.returns
-unfolding bytes answer_word as_number number_among all_answers answer_named
+unfolding bytes answer_word number_among all_answers answer_named
 returns c =
     let f = c.args.field.now in
     answer_first f Added (drop 1 all_answers) c.answer_or.ensures

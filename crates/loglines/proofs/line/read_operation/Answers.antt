@@ -6,10 +6,7 @@ use native.Mathlib.Numerals.{add-one}
 use lib.ListN.{length, take, drop, length-drop, length-set}
 use lib.Seq.{length-take-le, take-suc-set}
 use borrow.Author.Rules.{rules}
-use Rattle.machine.specs.Choice.{when◌then◌else◌}
 use Rattle.numerals.proofs.Parts.{part_from}
-use Rattle.numerals.proofs.NumeralLaws.{number_none, number_some}
-use Rattle.loglines.specs.Lines.{row_of}
 use Rattle.loglines.proofs.LineLaws.{no_word_yet, too_few, next_unread, next_read}
 use Rattle.loglines.proofs.line.read_operation.Goals as goal
 
@@ -17,7 +14,6 @@ pub loop-k-init : goal.loop-k-init
 loop-k-init c = (search rules, (refl, no_word_yet _))
 
 pub returns-then-rest-end : goal.returns-then-rest-end
-unfolding row_of when◌then◌else◌
 returns-then-rest-end c =
     let l = c.args.line.now in
     too_few _ _ _ c.loop-k-test.true
@@ -27,15 +23,15 @@ returns-then-rest-end c =
 pub slice_bounds-read_field-end : goal.slice_bounds-read_field-end
 slice_bounds-read_field-end c = sym (length-take-le _ _ (omega arith))
 
-pub returns-in_default : goal.returns-in_default
-unfolding row_of when◌then◌else◌
-returns-in_default c =
+pub returns-in_err-words : goal.returns-in_err-words
+returns-in_err-words c =
     let l = c.args.line.now in
     let from = c.loop-k.from in
     let p = part_from l from in
-    next_unread _ l from c.loop-k.k c.first_field-end.result (rw p at c.first_field-end.ensures)
+    c.from_residual.ensures
+    ∙ next_unread _ l from c.loop-k.k c.first_field-end.result (rw p at c.first_field-end.ensures)
     (rw p at c.if-rest-end.false)
-    (number_none _ (sym c.in_default.is ∙ rw p at c.read_field.ensures))
+    (sym (rw p at c.in_err-words.ensures))
     ∙ c.loop-k.invariant.1.1
 
 pub loop-k-preserved : goal.loop-k-preserved
@@ -44,7 +40,7 @@ loop-k-preserved c =
     let from = c.loop-k.from in
     let k = c.loop-k.k in
     let n = c.first_field-end.result in
-    let w = c.in-Value.word in
+    let w = c.in_ok-words.field-0 in
     let p = part_from l from in
     let h : n < length (drop from l) = rw p at c.if-rest-end.false in
     let d = length-drop from l in (
@@ -53,7 +49,7 @@ loop-k-preserved c =
         length-set c.loop-k.words k w ∙ c.loop-k.invariant.1.0,
         rw (add-one k, take-suc-set c.loop-k.words k w (omega arith), ← add-one k)
             (next_read (take k c.loop-k.words) l from k n (rw p at c.first_field-end.ensures) h w
-            (number_some _ _ (sym c.in-Value.is ∙ rw p at c.read_field.ensures))
+            (sym (rw p at c.in_ok-words.ensures))
             ∙ c.loop-k.invariant.1.1),
       ),
     )

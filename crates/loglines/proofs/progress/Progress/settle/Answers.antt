@@ -9,4 +9,4 @@ returns-in_default c = rw c.in_default.is
 
 pub returns : goal.returns
 unfolding with_settings
-returns c = rw c.in-Values.is
+returns c = rw c.in-Some.is
