@@ -25,6 +25,13 @@ pub rest_ascends : (x : Band) (l : List Band) → ascending (x ∷ l) ≡ true �
 rest_ascends x [] e = refl
 rest_ascends x (y ∷ l) e = ((and-eq-true_iff (ltb x.start y.start) (ascending (y ∷ l))).0 e).1
 
+pub starts_ascend :
+    (l : List Band) → ascending l ≡ true → (i : ℕ) → suc i < length l → (get_or l i none).start < (get_or l (suc i) none).start
+starts_ascend [] e i h = absurd (omega arith)
+starts_ascend (x ∷ []) e i h = absurd (omega arith)
+starts_ascend (x ∷ y ∷ l) e zero h = next_above x y l e
+starts_ascend (x ∷ y ∷ l) e (suc i) h = starts_ascend (y ∷ l) (rest_ascends x (y ∷ l) e) i (omega arith)
+
 -- ---- the part inside a band
 
 pub inside_most : (l : List Band) (t : ℕ) → inside l t ≤ t

@@ -11,9 +11,9 @@ use lib.ListN.{length, take, drop, length-drop}
 use lib.Seq.{length-take-le}
 use borrow.Author.Tests.{eqb-false}
 use Rattle.driver.proofs.Bounds.{used_after, most_after, first_after}
-use Rattle.totals.proofs.take.Given.{Over}
-use Rattle.totals.proofs.take.Goals as goal
-use Rattle.totals.proofs.take.Goals.{After-feed-fed}
+use Rattle.totals.proofs.Lent.take.Given.{Over}
+use Rattle.totals.proofs.Lent.take.Goals as goal
+use Rattle.totals.proofs.Lent.take.Goals.{After-feed-fed}
 
 -- the used bytes are bytes of the output
 used_in : (g : Over) → (c : After-feed-fed g) → c.feed-fed.result.used ≤ length c.feed-fed.new.out
