@@ -25,7 +25,12 @@ fn all_left(n: usize) -> [u64; GREATEST_OPERATIONS]
 
 // Whether some order explains the log, as crate logs defines it; `order` then begins with the first of all that do.
 // Checks 1, 14, 10; a refusal and a no leave `order` as it is.
-pub fn check_log(log: &[u64], capacity: u64, depth: u64, order: &mut [u64]) -> Result<Verdict, Refusal>
+pub fn check_log(
+    log: &[u64],
+    capacity: u64,
+    depth: u64,
+    order: &mut [u64],
+) -> Result<Verdict, Refusal>
     ensures { (order.new, result)
         ≡ check_log_words log.now capacity depth order.old }
 {

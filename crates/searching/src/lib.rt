@@ -14,14 +14,11 @@ use logs::{GREATEST_OPERATIONS, LOGGED_ANSWER, LOGGED_CALL, LOGGED_END};
 use replay::{BALANCES, replay, word_at};
 use report::ANSWER_BASE;
 
-// No end is later.
-const GREATEST_WORD: u64 = 18446744073709551615;
-
-// The least end of what is left.
+// The least end of what is left, where anything is.
 fn least_end(log: &[u64], left: [u64; GREATEST_OPERATIONS]) -> u64
     ensures { result ≡ least_end log.now left greatest_operations }
 {
-    let mut limit = GREATEST_WORD;
+    let mut limit = u64::MAX;
     for (j, &here) in left.iter().enumerate() {
         if here == 1 {
             limit = limit.min(word_at(log, j, LOGGED_END));
