@@ -2,12 +2,13 @@
 -- arrays. Rests on those definitions.
 use Prim.Native.Nat.{ℕ, zero, suc, ◌+◌, ◌-◌, ◌≤◌, ◌<◌}
 use mathlib.Core.Path.{◌≡◌, refl, sym, ◌∙◌, subst}
-use mathlib.Core.List.{List, [], ◌∷◌, ◌++◌, append_assoc}
+use mathlib.Core.List.{List, [], ◌∷◌, ◌++◌, append_assoc, append-nil}
+use native.Mathlib.Nat.{sub_self}
 use native.Mathlib.Numerals.{add-one}
 use native.Mathlib.Omega.{arith}
 use lib.Dec.{ltb, leb, eqb}
-use lib.ListN.{length, get_or, set, take, drop, length-append, length-take, length-drop}
-use lib.Seq.{append_snoc, drop-cons, length-take-le, set_at, take-suc}
+use lib.ListN.{length, get_or, set, take, drop, length-append, length-take, length-drop, take-append-drop, get_or-append}
+use lib.Seq.{append_snoc, drop-cons, get_or-take, length-take-le, set_at, take-suc}
 use borrow.Author.Tests.{ltb-true, leb-true, lt-ltb, le-ltb, le-leb, lt-leb, eq-eqb, ne_eqb}
 use Rattle.std.specs.List.{copy_within}
 use Rattle.machine.specs.Choice.{when◌then◌else◌, ◌and◌}
@@ -16,19 +17,42 @@ use Rattle.arrays.specs.Arrays.{inserted_in, removed_from, scan}
 use Rattle.arrays.specs.declared.Position.{Position}
 use Rattle.arrays.specs.declared.Position.TheVariants.{At, Before}
 
--- ---- an item put in
+-- ---- items moved up, from the last of c down to position k; what stood at k still stands there
+
+pub raised : List ℕ → ℕ → ℕ → List ℕ
+raised l c k = take (suc k) l ++ take (c - k) (drop k l) ++ drop (suc c) l
 
 -- a store at the last position of what was taken
 set_end : (l r : List ℕ) (k v : ℕ) → k < length l → set (take (suc k) l ++ r) k v ≡ take k l ++ v ∷ r
 set_end l r k v h = rw (take-suc l k 0, append_snoc) (set_at (take k l) (get_or l k 0) r v k (length-take-le k l (omega arith)))
 
--- the items from i on copied one place up, and v put at i
-pub inserted_copied :
-    (l : List ℕ) (c i v : ℕ) → i ≤ c → c < length l → set (copy_within l i c (i + 1)) i v ≡ inserted_in l c i v
-unfolding inserted_in when◌then◌else◌ ◌and◌
-inserted_copied l c i v h f =
-    let end : i + 1 + (c - i) ≡ suc c = omega arith in
-    rw (lt-ltb c (length l) f, le-leb i c h, append_assoc, end, add-one)
+pub raised_start : (l : List ℕ) (c : ℕ) → raised l c c ≡ l
+unfolding raised
+raised_start l c = rw (sub_self, append-nil, take-append-drop)
+
+raised_step :
+    (l : List ℕ) (c k : ℕ) → k < c → c < length l → set (raised l c (suc k)) (suc k) (get_or (raised l c (suc k)) k 0) ≡ raised l c k
+unfolding raised
+raised_step l c k h f =
+    let rest : List ℕ = take (c - suc k) (drop (suc k) l) ++ drop (suc c) l in
+    let front : List ℕ = take (suc (suc k)) l in
+    let long : length front ≡ suc (suc k) = length-take-le (suc (suc k)) l (omega arith) in
+    let read : get_or (front ++ rest) k 0 ≡ get_or l k 0 =
+    get_or-append front rest 0 k (omega arith) ∙ get_or-take (suc (suc k)) l k 0 (omega arith) in
+    let more : c - k ≡ suc (c - suc k) = omega arith in
+    rw (append_assoc front, read, more, drop-cons l k 0 (omega arith), append_assoc (take (suc k) l))
+    (set_end l rest (suc k) (get_or l k 0) (omega arith))
+
+pub raised_turn :
+    (l : List ℕ) (c k : ℕ) → 0 < k → k ≤ c → c < length l → set (raised l c k) k (get_or (raised l c k) (k - 1) 0) ≡ raised l c (k - 1)
+raised_turn l c k p h f =
+    let e : suc (k - 1) ≡ k = omega arith in
+    rw e at (raised_step l c (k - 1) (omega arith) f)
+
+pub raised_end : (l : List ℕ) (c i v : ℕ) → i ≤ c → c < length l → set (raised l c i) i v ≡ inserted_in l c i v
+unfolding inserted_in when◌then◌else◌ ◌and◌ raised
+raised_end l c i v h f =
+    rw (lt-ltb c (length l) f, le-leb i c h, append_assoc)
     (set_end l _ i v (omega arith) ∙ sym (append_assoc (take i l) (v ∷ take (c - i) (drop i l)) (drop (suc c) l)))
 
 -- no room, or a position past the first c

@@ -26,7 +26,7 @@ fn file_size(accounts: &[u32], totals: &[i64], k: usize) -> usize
 }
 
 // Whether so many bytes are too few for the file of the first k rows. It is measured only where k rows of the longest
-// sort would not fit, which saves 119 of 813 instructions an account.
+// sort would not fit, which saves 37 of 630 instructions an account.
 fn too_short(accounts: &[u32], totals: &[i64], k: usize, bytes: usize) -> bool
     requires { (k ≤ greatest_count) × ((k ≤ length accounts.now) × ((k ≤ length totals.now)
         × (length (csv_file (rows_at accounts.now totals.now 0 k)) ≤ header_size + longest_row * k))) }

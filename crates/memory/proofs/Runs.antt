@@ -1,14 +1,14 @@
--- Laws of runs of words that a loop writes one word at a time: a run laid over words, the first items of an array stored.
+-- Laws of runs of words that a loop writes one word at a time: a run laid over words, the first items of an array stored, a run copied.
 -- Rests on the laws of parts and overlays.
 use Prim.Native.Nat.{ℕ, ◌+◌, ◌≤◌, ◌<◌}
 use mathlib.Core.Path.{◌≡◌, sym, ◌∙◌, ap}
-use mathlib.Core.Logic.{◌⊎◌, ⊎_elim}
+use mathlib.Core.Logic.{◌⊎◌, inl, inr, ⊎_elim}
 use mathlib.Core.List.{List, ◌++◌}
 use native.Mathlib.Omega.{arith}
-use lib.ListN.{length, take, drop, get_or, set, length-append}
-use lib.Seq.{length-take-le, set-append_left, take-set-lt, drop-set-lt, take-suc, get_or-take}
+use lib.ListN.{length, take, drop, get_or, set, length-append, length-drop}
+use lib.Seq.{length-take-le, get_or-drop, set-append_left, take-set-lt, drop-set-lt, take-suc, get_or-take}
 use native.Mathlib.Numerals.{add-one}
-use Rattle.lists.specs.Parts.{overlay}
+use Rattle.lists.specs.Parts.{part, overlay}
 use Rattle.lists.proofs.PartLaws.{overlay_more, overlay_nil, length_overlay, get_d_overlay_in, get_d_overlay_before, get_d_overlay_after}
 use Rattle.memory.specs.Words.{stored}
 
@@ -62,3 +62,19 @@ stored_run m at a k h f =
       elsewhere = λ i p. ⊎_elim (get_d_overlay_before m at (take k a) fits i)
           (λ e. get_d_overlay_after m at (take k a) fits i (omega arith)) p;
     }
+
+-- ---- a run copied to another place
+
+pub copy_more :
+    (w l : List ℕ) (from to k i : ℕ) → w ≡ overlay l to (part l from i) → from + k ≤ length l → to + k ≤ length l
+    → (from + k ≤ to) ⊎ (to ≤ from)
+    → i < k → set w (to + i) (get_or w (from + i) 0) ≡ overlay l to (part l from (i + 1))
+unfolding part stored
+copy_more w l from to k i e f g apart h =
+    let n = length-drop from l in
+    let other : (from + i < to) ⊎ (to + i ≤ from + i) = ⊎_elim (λ p. inl (omega arith)) (λ p. inr (omega arith)) apart in
+    let same : get_or w (from + i) 0 ≡ get_or (drop from l) i 0 =
+    ap (λ (u : List ℕ). get_or u (from + i) 0) e
+    ∙ (stored_run l to (drop from l) i (omega arith) (omega arith)).elsewhere (from + i) other
+    ∙ sym (get_or-drop from l i 0) in
+    ap (set w (to + i)) same ∙ stored_more w l to (drop from l) i e (omega arith) (omega arith)
