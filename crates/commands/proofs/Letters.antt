@@ -44,4 +44,5 @@ module _ (letter : ℕ) (x y z : List ℕ) where
 
 -- what `three_fields` and `four_fields` answer, by the letter
 pub ruleset letters_of_three = (letter_delete, letter_lookup, letter_steps, letter_of_three)
+
 pub ruleset letters_of_four = (letter_open, letter_insert, letter_post, letter_of_four)
