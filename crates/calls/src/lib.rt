@@ -12,8 +12,8 @@ use fields::{
     HEADER_SETTINGS, WORKER_ACCOUNT, WORKER_KIND, WORKER_STEPS, WORKER_TICKET, WORKER_TOTAL,
 };
 use interface::{
-    GREATEST_KIND, GREATEST_TICKET, KIND_DELETE, KIND_INSERT, KIND_LOOKUP, KIND_NONE,
-    Refusal, Settings,
+    GREATEST_KIND, GREATEST_TICKET, KIND_DELETE, KIND_INSERT, KIND_LOOKUP, KIND_NONE, Refusal,
+    Settings,
 };
 use layout::addresses::worker_at;
 use layout::shape::{settings_of, strange_words};
@@ -33,7 +33,14 @@ fn begin(words: &mut [u64], g: Settings, w: usize, u: Descriptor)
 }
 
 // A call of worker w: checks 4, 6, 7.
-fn call_in(words: &mut [u64], g: Settings, w: usize, kind: u64, account: u32, total: i64) -> Result<(), Refusal>
+fn call_in(
+    words: &mut [u64],
+    g: Settings,
+    w: usize,
+    kind: u64,
+    account: u32,
+    total: i64,
+) -> Result<(), Refusal>
     requires { Fits words.old g × (w < g.workers) }
     ensures { (words.new, result)
         ≡ call_in words.old (worker_at g.workers w) kind account total }
@@ -84,7 +91,13 @@ fn call_in(words: &mut [u64], g: Settings, w: usize, kind: u64, account: u32, to
 }
 
 // An operation handed to a worker: checks 8, 3, 4, 6, 7; an update takes its ticket here.
-pub fn call(words: &mut [u64], worker: u64, kind: u64, account: u32, total: i64) -> Result<(), Refusal>
+pub fn call(
+    words: &mut [u64],
+    worker: u64,
+    kind: u64,
+    account: u32,
+    total: i64,
+) -> Result<(), Refusal>
     ensures { (words.new, result) ≡ call_words words.old worker kind account total }
 {
     if strange_words(words) {
