@@ -35,7 +35,7 @@ no_list (Command.Steps w k) h = refl
 no_list Command.List h = absurd (h refl)
 
 pub answered_reply : (s : DriverState) (c : Option Command) (d : Command) (l : List ℕ) (r : Reply) (o : Output) → c ≡ Some d → (d ≡ Command.List → ⊥)
-    → ◌≡◌ {A = List ℕ × Reply} (l, r) (responded s.words d) → o ≡ emitted s.output (printed_reply r)
+    → ◌≡◌ {A = List ℕ × Reply} (l, r) (responded s.words (Some d)) → o ≡ emitted s.output (printed_reply r)
     → ◌≡◌ {A = DriverState} (record { words = l; accounts = s.accounts; totals = s.totals; output = o }) (answered s c)
 unfolding answered replied_as when◌then◌else◌
 answered_reply s c d l r o e f g h = rw (e, no_list d f, ← g, h)

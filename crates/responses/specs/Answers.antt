@@ -29,4 +29,4 @@ is_list Command.List = true
 -- by what the line is; one that is no command is unread
 unfoldable pub answered : DriverState → Option Command → DriverState
 answered s None = replied_as s (s.words, Reply.Unread)
-answered s (Some c) = when is_list c then listed s else replied_as s (responded s.words c)
+answered s (Some c) = when is_list c then listed s else replied_as s (responded s.words (Some c))

@@ -1,7 +1,7 @@
 -- What a command does to the words and what it is met with. 01, The driver: "Each line is met with `ok`, `refused` and
 -- its number, `moved` and the steps given, or `answered`, .." Rests on the table's calls and on the lines' commands and
 -- replies.
-use Rattle.std.specs.Prelude.{ℕ, List, pos, Result, Ok, Err, ⊤}
+use Rattle.std.specs.Prelude.{ℕ, List, pos, Result, Ok, Err, ⊤, Option, Some, None}
 use Rattle.interface.specs.Numbers.{number_of, kind_insert, kind_delete, kind_lookup, kind_post}
 use Rattle.interface.specs.declared.Ran.{Ran}
 use Rattle.commands.specs.declared.Command.{Command}
@@ -31,11 +31,12 @@ replying reply x = (x.0, reply x.1)
 
 -- the words after a command, and its reply; a delete and a lookup have no total; a listing changes no words and has no
 -- reply of this type: it is met by its rows
-unfoldable pub responded : List ℕ → Command → List ℕ × Reply
-responded l (Command.Open n b M) = replying of_done (open_words l n b M)
-responded l (Command.Insert w a t) = replying of_done (call_words l w kind_insert a t)
-responded l (Command.Delete w a) = replying of_done (call_words l w kind_delete a (pos 0))
-responded l (Command.Lookup w a) = replying of_done (call_words l w kind_lookup a (pos 0))
-responded l (Command.Post w a v) = replying of_done (call_words l w kind_post a v)
-responded l (Command.Steps w k) = replying of_ran (run_words l w k)
-responded l Command.List = (l, Reply.Unread)
+unfoldable pub responded : List ℕ → Option Command → List ℕ × Reply
+responded l None = (l, Reply.Unread)
+responded l (Some (Command.Open n b M)) = replying of_done (open_words l n b M)
+responded l (Some (Command.Insert w a t)) = replying of_done (call_words l w kind_insert a t)
+responded l (Some (Command.Delete w a)) = replying of_done (call_words l w kind_delete a (pos 0))
+responded l (Some (Command.Lookup w a)) = replying of_done (call_words l w kind_lookup a (pos 0))
+responded l (Some (Command.Post w a v)) = replying of_done (call_words l w kind_post a v)
+responded l (Some (Command.Steps w k)) = replying of_ran (run_words l w k)
+responded l (Some Command.List) = (l, Reply.Unread)

@@ -31,15 +31,18 @@ pub fn answer(
     };
     match c {
         Command::List => show(words, accounts, totals, out, used),
-        c => put_reply(out, used, respond(words, c)),
+        c => put_reply(out, used, respond(words, Some(c))),
     }
 }
 
-// What a command is met with, for any words. A listing is no `Reply`: `answer` does not bring it here, and it would be
-// unread.
-pub fn respond(words: &mut [u64], c: Command) -> Reply
+// What a line is met with that is this command or none, for any words. A listing is no `Reply`: `answer` does not bring
+// it here, and it would be unread.
+pub fn respond(words: &mut [u64], c: Option<Command>) -> Reply
     ensures { (words.new, result) ≡ responded words.old c }
 {
+    let Some(c) = c else {
+        return Reply::Unread;
+    };
     match c {
         Command::Open(n, b, m) => of_done(table::open(words, n, b, m)),
         Command::Insert(w, account, total) => of_done(table::call(

@@ -195,7 +195,7 @@ module _ (l : List ℕ) (s : Settings) (m : Machine) (h : Opened l s m) (x y : �
 -- ---- one line
 
 alike_replied : (l : List ℕ) (x : Script.Memory) (c : Command) (y : Script.Response) → is_list c ≡ false
-    → told x (Some (line_of c)) ≡ record { memory = y.memory; text = printed y.reply } → Replied (responded l c) y → Alike l x (Some c)
+    → told x (Some (line_of c)) ≡ record { memory = y.memory; text = printed y.reply } → Replied (responded l (Some c)) y → Alike l x (Some c)
 unfolding text_on words_on when◌then◌else◌
 alike_replied l x c y other e r = record {
   text = rw (other, e) r.text;

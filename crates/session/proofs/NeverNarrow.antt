@@ -153,7 +153,7 @@ other_ran l w most =
     other : List ℕ × Result Ran Refusal → Type 0
     other x = OtherReply (of_ran x.1)
 
-other_response : (l : List ℕ) (c : Command) → OtherReply (responded l c).1
+other_response : (l : List ℕ) (c : Command) → OtherReply (responded l (Some c)).1
 unfolding responded replying
 other_response l (Command.Open n b M) = other_opened l n b M
 other_response l (Command.Insert w a t) = other_called l w kind_insert a t

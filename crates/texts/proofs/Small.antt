@@ -1,7 +1,7 @@
 -- Every reply's numbers are of 64 bits, and so are the rows of a listing, for any words. Rests on the table's calls.
 use Prim.Native.Nat.{ℕ, zero, suc, ◌+◌, ◌^◌, ◌≤◌, ◌<◌}
 use mathlib.Core.List.{List}
-use Rattle.std.specs.Prelude.{Option, Result, Ok, Err, ⊤}
+use Rattle.std.specs.Prelude.{Option, Result, Ok, Err, ⊤, Some}
 use native.Mathlib.Nat.{mod-lt}
 use native.Mathlib.Omega.{arith}
 use lib.Dec.{eqb}
@@ -153,7 +153,7 @@ pub small_refused : (r : Refusal) → small_reply (Reply.Refused (number_of r))
 unfolding small_reply
 small_refused r = small_number r
 
-pub small_response : (l : List ℕ) (c : Command) → small_reply (responded l c).1
+pub small_response : (l : List ℕ) (c : Command) → small_reply (responded l (Some c)).1
 unfolding responded replying small_reply
 small_response l (Command.Open n b M) = small_opened _
 small_response l (Command.Insert w a t) = small_called _

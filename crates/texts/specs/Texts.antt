@@ -31,11 +31,11 @@ listing_text l n m =
 -- what a line is met with by the command that it is, and the words after it; one that is no command is unread
 unfoldable pub text_on : List ℕ → ℕ → ℕ → Option Command → List ℕ
 text_on l n m None = printed_reply Reply.Unread
-text_on l n m (Some c) = when is_list c then listing_text l n m else printed_reply (responded l c).1
+text_on l n m (Some c) = when is_list c then listing_text l n m else printed_reply (responded l (Some c)).1
 
 unfoldable pub words_on : List ℕ → Option Command → List ℕ
 words_on l None = l
-words_on l (Some c) = when is_list c then l else (responded l c).0
+words_on l (Some c) = when is_list c then l else (responded l (Some c)).0
 
 -- ---- several lines
 
