@@ -1,6 +1,6 @@
 // Each call's answer as a C function gives it: a number, and for a step, a run, a listing and an export a report beside
 // it.
-// Rests on the reports of crate report.
+// Rests on the reports of crate report. Kept as functions, beside `From`: C is handed these numbers, and a report.
 #![tactic(auto)]
 
 ghost use Rattle.std.specs.Prelude.{◌≡◌};
