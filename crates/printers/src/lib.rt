@@ -1,7 +1,7 @@
 // Words and numbers printed into a caller's buffer, from an index on: the whole text, or nothing where it has no room.
 // Each printer answers how many bytes it wrote. Depends on decimals for the numbers.
 // Kept beside `Display` and `write!`: into a buffer of bytes these take 1,396 instructions a row of an export where the
-// functions here take 694 (bench/table.sh), and a contract says which bytes are written.
+// functions here take 597 (bench/table.sh), and a contract says which bytes are written.
 #![tactic(auto)]
 
 ghost use Rattle.std.specs.Prelude.{◌+◌, ◌≤◌, ◌≡◌, ◌++◌, leb, length};
