@@ -47,6 +47,7 @@ pub fn load_state(words: &[u64], q: usize, b: usize, n: usize) -> BucketState
     s
 }
 
+// Kept as three functions, this one and the next two: each is an address, and callers read which word they ask for.
 // The ticket of worker j that is settled in the record at q.
 pub fn settled_ticket(words: &[u64], g: Settings, q: usize, j: usize) -> u64
     requires { Fits words.now g × ((j < g.workers) × (q + widest_record ≤ length words.now)) }

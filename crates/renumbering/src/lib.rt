@@ -40,6 +40,7 @@ pub fn fresh_number(words: &[u64], g: Settings, q: usize) -> u64
 }
 
 // The directory's next number: the least that no worker has read.
+// Kept beside `fresh_number`: one function of both with the test as a closure would have more lines than the two.
 pub fn fresh_directory(words: &[u64], g: Settings) -> u64
     requires { Fits words.now g }
     ensures { result ≡ fresh_directory words.now g.workers }

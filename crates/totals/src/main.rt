@@ -34,6 +34,7 @@ impl Lent {
         block: &[u8],
     ) -> Option<Reader> {
         let mut rest = block;
+        // Kept: no index is counted, what is left is what feeding did not take.
         while !rest.is_empty() {
             let fed = driver::feed(
                 &mut self.words,
