@@ -1,5 +1,6 @@
 // The functions of `capi` as exports to C, each by its own name and with its own clauses: a slice is a pointer and a
 // length. include/totals.h declares them.
+// Kept beside it: a crate is a library or a static library, and other crates name that one.
 #![tactic(auto)]
 
 ghost use Rattle.std.specs.Prelude.{◌≡◌};

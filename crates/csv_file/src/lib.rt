@@ -1,4 +1,5 @@
 // The exported file's header and rows: how many bytes a row takes, and both written into a caller's buffer.
+// Kept beside `Display`, as printers are.
 #![tactic(auto)]
 
 ghost use Rattle.std.specs.Prelude.{◌+◌, ◌≤◌, ◌≡◌, length};

@@ -1,4 +1,5 @@
 // Numbers written in decimal into a caller's buffer: their sign and size, how many bytes they take, and their digits.
+// Kept beside `Display`, as printers are.
 #![tactic(auto)]
 
 ghost use Rattle.std.specs.Prelude.{◌+◌, ◌≤◌, ◌≡◌, length, pos};

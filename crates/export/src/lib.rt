@@ -55,6 +55,7 @@ fn write_file(accounts: &[u32], totals: &[i64], k: usize, out: &mut [u8]) -> usi
 pub fn export(words: &[u64], out: &mut [u8]) -> Result<u64, Refusal>
     ensures { (out.new, result) ≡ export_words words.now out.old }
 {
+    // Kept as arrays side by side: nothing allocates, and `listing` writes into two lists, as C lends them.
     let mut accounts = [0u32; GREATEST_COUNT];
     let mut totals = [0i64; GREATEST_COUNT];
     let n = listing(words, &mut accounts, &mut totals)?;

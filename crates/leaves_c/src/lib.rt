@@ -1,4 +1,5 @@
 // The function of `leaves` as an export to C, for the comparison under bench/.
+// Kept beside it: a crate is a library or a static library, and other crates name that one.
 #![tactic(auto)]
 
 // 1 searches the record at q; any other number stores the changed state at `to`. Nothing is done where a record does

@@ -1,5 +1,6 @@
 // What is printed into a caller's buffer behind the bytes that are used. Each printer answers how many bytes are used
 // then; a line for which there is no room is left out. Depends on rows for the listing, and on replies for the texts.
+// Kept beside `Display`, as printers are.
 #![tactic(auto)]
 
 ghost use Rattle.std.specs.Prelude.{◌≡◌, ◌≤◌, length};

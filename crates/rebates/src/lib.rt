@@ -30,6 +30,7 @@ pub fn rebates(words: &[u64], accounts: &mut [u32], rebates: &mut [u64]) -> Resu
     ensures { record { accounts = accounts.new; rebates = rebates.new; listed = result }
         ≡ rebates_words words.now accounts.old rebates.old }
 {
+    // Kept as arrays side by side: nothing allocates, and `listing` writes into two lists, as C lends them.
     let mut listed = [0u32; GREATEST_COUNT];
     let mut totals = [0i64; GREATEST_COUNT];
     let n = listing(words, &mut listed, &mut totals)?;

@@ -1,5 +1,6 @@
 // Replies and the lines of a listing, printed into a caller's buffer from an index on: the whole text, or nothing where
 // it has no room. Each function answers how many bytes it wrote. Depends on printers and on interface's answers.
+// Kept beside `Display`, as printers are.
 #![tactic(auto)]
 
 ghost use Rattle.std.specs.Prelude.{[], ◌∷◌, ◌++◌};
