@@ -40,4 +40,5 @@ is_empty r = eqb r.len 0
 -- a byte
 unfoldable pub commands_read : Reader → List ℕ → List (Option Command)
 commands_read r [] = when is_empty r then [] else command_in r ∷ []
-commands_read r (b ∷ bs) = when eqb b line_feed then command_in r ∷ commands_read fresh bs else commands_read (pushed r b) bs
+commands_read r (b ∷ bs) =
+    when eqb b line_feed then command_in r ∷ commands_read fresh bs else commands_read (pushed r b) bs

@@ -19,7 +19,8 @@ told x (Some l) = let y : Response = response_to driver x l in record { memory =
 
 unfoldable pub session_from : Memory → List (List ℕ) → List ℕ
 session_from x [] = []
-session_from x (l ∷ ls) = let y : Told = told x (option_map line_of (command_of l)) in y.text ++ session_from y.memory ls
+session_from x (l ∷ ls) =
+    let y : Told = told x (option_map line_of (command_of l)) in y.text ++ session_from y.memory ls
 
 -- "The program lends 8,192 words, all 0 at first"
 unfoldable pub session : List ℕ → List ℕ

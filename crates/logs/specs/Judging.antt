@@ -84,8 +84,8 @@ Judged l b M before after (Ok Verdict.No) =
 -- for any words: judging does that, and nothing else is that
 pub record AllJudged : Type 0 where
   pub judged :
-      (l : List ℕ) (b M : ℕ) (before after : List ℕ) (v : Result Verdict Refusal) → (after, v) ≡ check_log_words l b M before
-      → Judged l b M before after v
+      (l : List ℕ) (b M : ℕ) (before after : List ℕ) (v : Result Verdict Refusal)
+      → (after, v) ≡ check_log_words l b M before → Judged l b M before after v
   pub only :
       (l : List ℕ) (b M : ℕ) (before after : List ℕ) (v : Result Verdict Refusal) → Judged l b M before after v
       → (after, v) ≡ check_log_words l b M before

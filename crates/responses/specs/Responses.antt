@@ -29,8 +29,8 @@ of_ran (Err r) = Reply.Refused (number_of r)
 unfoldable pub replying : {A : Type 0} → (A → Reply) → List ℕ × A → List ℕ × Reply
 replying reply x = (x.0, reply x.1)
 
--- the words after a command, and its reply; a delete and a lookup have no total; a listing changes no words and has no
--- reply of this type: it is met by its rows
+-- the words after a line's command, and its reply; a line that is no command is unread; a delete and a lookup have no
+-- total; a listing changes no words and has no reply of this type: it is met by its rows
 unfoldable pub responded : List ℕ → Option Command → List ℕ × Reply
 responded l None = (l, Reply.Unread)
 responded l (Some (Command.Open n b M)) = replying of_done (open_words l n b M)

@@ -21,7 +21,8 @@ last_of k Stepped.Moved = None
 last_of k (Stepped.Answered c) = Some (Ok (Ran.Answered c))
 last_of k (Stepped.Refused r) = Some (Ok (Ran.Moved k))
 
-unfoldable pub or_else : List ℕ → Option (Result Ran Refusal) → List ℕ × Result Ran Refusal → List ℕ × Result Ran Refusal
+unfoldable pub or_else :
+    List ℕ → Option (Result Ran Refusal) → List ℕ × Result Ran Refusal → List ℕ × Result Ran Refusal
 or_else l None later = later
 or_else l (Some r) later = (l, r)
 

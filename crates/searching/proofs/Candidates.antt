@@ -1,34 +1,24 @@
 -- Laws of an exchange, an attempt and a candidate, by the tests of the source in their order. Rests on the definitions and on what
 -- the least end decides.
 use Prim.Native.Nat.{ℕ, ◌≤◌, ◌<◌}
-use native.Mathlib.Omega.{arith}
 use mathlib.Core.Path.{◌≡◌, refl, sym, ◌∙◌}
 use mathlib.Core.Bool.{Bool, true, false}
-use mathlib.Core.List.{List, [], ◌∷◌}
+use mathlib.Core.List.{List}
 use Rattle.std.specs.Prelude.{Option, Some, None}
 use Rattle.std.specs.Option.{option_eq}
 use Rattle.std.specs.Cmp.Lexicographic.{pointwise}
 use lib.Dec.{eqb, leb}
 use lib.ListN.{get_or}
 use borrow.Author.Tests.{lt-ltb, le-ltb}
-use Rattle.std.proofs.lemmas.Bool.Decides.{nat_tests}
 use Rattle.machine.specs.Choice.{when◌then◌else◌, ◌and◌}
 use Rattle.logs.specs.Log.{log_of, logged_at, word_at, logged_call, logged_end, precedes, greatest_operations, greatest_word}
 use Rattle.logs.specs.Judging.{earlier_in}
 use Rattle.logs.specs.Search.{opened, is_same, exchanged_from, exchanged, unless_exchanged, candidate}
 use Rattle.logs.specs.Same.{same_numbers}
+use Rattle.logs.proofs.SameLaws.{as_library_turned}
 use Rattle.replay.specs.Replay.{replayed, still_at}
 use Rattle.searching.specs.Searching.{is_left, least_end, exchanged_in, attempt_in, candidate_in}
 use Rattle.searching.proofs.Ends.{in_time_ready}
-
--- ---- words compared
-
-pub by_word : (x y : List ℕ) → pointwise eqb x y ≡ same_numbers y x
-unfolding same_numbers ◌and◌
-by_word [] [] = refl
-by_word [] (b ∷ y) = refl
-by_word (a ∷ x) [] = refl
-by_word (a ∷ x) (b ∷ y) = grind (arith, nat_tests, by_word x y)
 
 -- ---- an exchange
 
@@ -61,7 +51,7 @@ module _ (l : List ℕ) (b M : ℕ) (before : List ℕ) (last : ℕ) (after : Li
             → is_same (List ℕ) greatest_operations (replayed l b M) (earlier_in (log_of l)) (still_at l) same_numbers after o
             ≡ option_eq (pointwise eqb) o (Some after)
         go None = refl
-        go (Some later) = sym (by_word later after)
+        go (Some later) = sym (as_library_turned later after)
 
 -- ---- an attempt
 

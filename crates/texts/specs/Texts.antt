@@ -26,7 +26,8 @@ rows_text n m t =
 
 unfoldable pub listing_text : List ℕ → ℕ → ℕ → List ℕ
 listing_text l n m =
-    when strange l then printed_reply (Reply.Refused (number_of Refusal.Strange)) else rows_text n m (rows l (shape_of l))
+    when strange l then printed_reply (Reply.Refused (number_of Refusal.Strange))
+    else rows_text n m (rows l (shape_of l))
 
 -- what a line is met with by the command that it is, and the words after it; one that is no command is unread
 unfoldable pub text_on : List ℕ → ℕ → ℕ → Option Command → List ℕ
