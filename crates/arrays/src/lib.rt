@@ -1,5 +1,5 @@
 // Slices of words: an item put in or taken out, the later ones moved, and the search among ascending accounts. One
-// search serves a bucket's state, the update in place and the lookup. Its position is a byte: a bucket has at most 16
+// search serves a bucket's state, the update in place and the lookup. It counts in a byte: a bucket has at most 16
 // accounts (docs/DECISIONS.md, 70, 71). Each contract is an equality with a definition of specs/.
 #![tactic(auto)]
 
@@ -42,15 +42,16 @@ pub fn scan(accounts: &[u64], account: u64) -> Position
     requires { length accounts.now ≤ greatest_capacity }
     ensures { result ≡ scan accounts.now account 0 }
 {
-    for (i, x) in accounts.iter().enumerate() {
-        if account <= *x {
-            let i = i as u8;
-            return if account == *x {
+    let count = accounts.len() as u8;
+    for i in 0..count {
+        let x = accounts[i as usize];
+        if account <= x {
+            return if account == x {
                 Position::At(i)
             } else {
                 Position::Before(i)
             };
         }
     }
-    Position::Before(accounts.len() as u8)
+    Position::Before(count)
 }
