@@ -61,7 +61,9 @@ fn exchanged(
     replay(log, capacity, depth, between, last) == Some(after)
 }
 
-// The operation at i on the balances, where it fits, and could not be exchanged with the last one.
+// The operation at i on the balances, where it fits, and could not be exchanged with the last one. Not a part of
+// `search`, whose every level would have room for its balances on the stack: 1,728 bytes a level, and 912 without.
+#[inline(never)]
 fn attempt(
     log: &[u64],
     capacity: u64,
