@@ -115,9 +115,9 @@ pub record Prefix (n m : ℕ) (f : Feeding) (bs : List ℕ) : Type 0 where
   pub within : count ≤ length bs
   pub passed : Passed n m f (fed f bs) (ended f.reader (take count bs)) (reader_after f.reader (take count bs)) count
 
-None : (n m : ℕ) (f : Feeding) → Ready n m f → Passed n m f f [] f.reader 0
+none : (n m : ℕ) (f : Feeding) → Ready n m f → Passed n m f f [] f.reader 0
 unfolding texts_on words_after
-None n m f h = record {
+none n m f h = record {
   room = let k = h.used in record { room = omega arith };
   output = sym (behind_nil f.state.output);
   words = refl;
@@ -128,13 +128,13 @@ None n m f h = record {
 module _ (n m : ℕ) (few : n ≤ 4_096) where
   pub fed_passed : (f : Feeding) (bs : List ℕ) → Ready n m f → Prefix n m f bs
   unfolding fed took room_for ended reader_after line byte when◌then◌else◌
-  fed_passed f [] h = record { count = 0; within = omega arith; passed = None n m f h }
+  fed_passed f [] h = record { count = 0; within = omega arith; passed = none n m f h }
   fed_passed f (b ∷ bs) h =
       by (room_for longest (length f.state.output.bytes) f.state.output.used) (eqb b 10) refl refl (λ g k. fed_passed g bs k)
     where
       by : (t d : Bool) → room_for longest (length f.state.output.bytes) f.state.output.used ≡ t → eqb b 10 ≡ d
           → ((g : Feeding) → Ready n m g → Prefix n m g bs) → Prefix n m f (b ∷ bs)
-      by false d e g ih = record { count = 0; within = omega arith; passed = rw e (None n m f h) }
+      by false d e g ih = record { count = 0; within = omega arith; passed = rw e (none n m f h) }
       by true true e g ih =
           let room = leb-true (f.state.output.used + longest) (length f.state.output.bytes) e in
           let p = ih (line n m few f h room) (line_ready n m few f h room) in

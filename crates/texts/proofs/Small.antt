@@ -1,7 +1,7 @@
 -- Every reply's numbers are of 64 bits, and so are the rows of a listing, for any words. Rests on the table's calls.
 use Prim.Native.Nat.{ℕ, zero, suc, ◌+◌, ◌^◌, ◌≤◌, ◌<◌}
 use mathlib.Core.List.{List}
-use Rattle.std.specs.Prelude.{Option, Result, Ok, Err, ⊤, Some}
+use Rattle.std.specs.Prelude.{Option, Result, Ok, Err, ⊤, None, Some}
 use native.Mathlib.Nat.{mod-lt}
 use native.Mathlib.Omega.{arith}
 use lib.Dec.{eqb}
@@ -153,15 +153,16 @@ pub small_refused : (r : Refusal) → small_reply (Reply.Refused (number_of r))
 unfolding small_reply
 small_refused r = small_number r
 
-pub small_response : (l : List ℕ) (c : Command) → small_reply (responded l (Some c)).1
+pub small_response : (l : List ℕ) (c : Option Command) → small_reply (responded l c).1
 unfolding responded replying small_reply
-small_response l (Command.Open n b M) = small_opened _
-small_response l (Command.Insert w a t) = small_called _
-small_response l (Command.Delete w a) = small_called _
-small_response l (Command.Lookup w a) = small_called _
-small_response l (Command.Post w a v) = small_called _
-small_response l (Command.Steps w k) = small_ran l w k
-small_response l Command.List = tt
+small_response l None = tt
+small_response l (Some (Command.Open n b M)) = small_opened _
+small_response l (Some (Command.Insert w a t)) = small_called _
+small_response l (Some (Command.Delete w a)) = small_called _
+small_response l (Some (Command.Lookup w a)) = small_called _
+small_response l (Some (Command.Post w a v)) = small_called _
+small_response l (Some (Command.Steps w k)) = small_ran l w k
+small_response l (Some Command.List) = tt
 
 pub small_unread : small_reply Reply.Unread
 unfolding small_reply

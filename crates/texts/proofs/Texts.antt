@@ -157,7 +157,7 @@ module _ (n m : ℕ) (few : n ≤ 4_096) where
       (λ e.
       if_elim (λ (xs : List ℕ). length xs ≤ 131_097) _ _ _ (λ e. omega (arith, reply_within _ (small_refused Refusal.Strange)))
       (λ e. rows_text_within (rows l (shape_of l)) (short_rows l)))
-      (λ e. omega (arith, reply_within _ (small_response l c)))
+      (λ e. omega (arith, reply_within _ (small_response l (Some c))))
 
 -- ---- one line
 
@@ -186,7 +186,7 @@ module _ (s : DriverState) (few : length s.accounts ≤ 4_096) (room : s.output.
           (b : Bool) → is_list c ≡ b
           → (answered s (Some c)).output ≡ behind s.output (text_on s.words (length s.accounts) (length s.totals) (Some c))
       by true e = rw e listed_behind
-      by false e = rw e (reply_behind s.output room (responded s.words (Some c)).1 (reply_within _ (small_response s.words c)))
+      by false e = rw e (reply_behind s.output room (responded s.words (Some c)).1 (reply_within _ (small_response s.words (Some c))))
 
 pub answered_words : (s : DriverState) (c : Option Command) → (answered s c).words ≡ words_on s.words c
 unfolding answered listed listed_as replied_as words_on when◌then◌else◌
