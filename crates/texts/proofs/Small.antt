@@ -153,9 +153,13 @@ pub small_refused : (r : Refusal) → small_reply (Reply.Refused (number_of r))
 unfolding small_reply
 small_refused r = small_number r
 
+pub small_unread : small_reply Reply.Unread
+unfolding small_reply
+small_unread = tt
+
 pub small_response : (l : List ℕ) (c : Option Command) → small_reply (responded l c).1
 unfolding responded replying small_reply
-small_response l None = tt
+small_response l None = small_unread
 small_response l (Some (Command.Open n b M)) = small_opened _
 small_response l (Some (Command.Insert w a t)) = small_called _
 small_response l (Some (Command.Delete w a)) = small_called _
@@ -163,7 +167,3 @@ small_response l (Some (Command.Lookup w a)) = small_called _
 small_response l (Some (Command.Post w a v)) = small_called _
 small_response l (Some (Command.Steps w k)) = small_ran l w k
 small_response l (Some Command.List) = tt
-
-pub small_unread : small_reply Reply.Unread
-unfolding small_reply
-small_unread = tt
